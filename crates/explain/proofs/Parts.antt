@@ -22,7 +22,7 @@ use Rattle.explain.specs.Explained.{explained_at, Explains, undecided, unsited}
 use Rattle.explain.specs.declared.trace.Trace.{Trace}
 use Rattle.explain.specs.declared.fault.ExplainFault.{ExplainFault}
 
--- each part beside the verdict is what the policy and the markings say of the path
+-- each part besides the verdict is what the policy and the markings say of the path
 pub record HasParts (es : List LocatedLine) (c : Case) (s : Standing) (p : Tokens) (x : Explanation) : Type 0 where
   pub path : x.path ≡ p
   pub community : x.community ≡ c.community
@@ -53,7 +53,7 @@ explained-decided es c s p x decided parts = by_class (has_class es p) decided
         })
     by_class false d = absurd (false≢true (ap is_some d))
 
--- where there is no verdict, there is no explanation
+-- without a verdict there is no explanation
 pub explained-undecided : (es : List LocatedLine) (c : Case) (s : Standing) (p : Tokens) →
     decided_at es c s p ≡ None → explained_at es c s p ≡ None
 explained-undecided es c s p undecided = by_class (has_class es p) undecided
@@ -65,7 +65,7 @@ explained-undecided es c s p undecided = by_class (has_class es p) undecided
 pub explained-nothing : (es : List LocatedLine) (c : Case) (s : Standing) (p : Tokens) → has_class es p ≡ false → explained_at es c s p ≡ None
 explained-nothing es c s p none = ap (λ b. if b then Some (explanation_of es c s p) else None) none
 
--- a fault of the verdict, told as one of the explanation
+-- a fault of the verdict, as one of the explanation
 pub explains-undecided : (r : Result Trace ExplainFault) (f : DecideFault) (es : List LocatedLine) (c : Case) (s : Standing) (p : Tokens) →
     IsErrAnd r (λ e. e ≡ undecided f) → Decides (Err f) es c s p → Explains r es c s p
 explains-undecided (Ok t) f es c s p h d = absurd h
@@ -76,7 +76,7 @@ or_right : (a b : Bool) → (a || b) ≡ false → b ≡ false
 or_right true b h = absurd (false≢true (sym h))
 or_right false b h = h
 
--- and one of the site
+-- a fault of the site, as one of the explanation
 pub explains-unsited : (r : Result Trace ExplainFault) (f : SiteFault) (es : List LocatedLine) (c : Case) (s : Standing) (p : Tokens) →
     IsErrAnd r (λ e. e ≡ unsited f) → Sites (Err f) es p → Explains r es c s p
 explains-unsited (Ok t) f es c s p h d = absurd h

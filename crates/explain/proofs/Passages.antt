@@ -12,7 +12,7 @@ use Rattle.explain.specs.Explanation.{passages_at, passages_on}
 pub passages-root : (c : Case) (s : Standing) → passages_at c s [] ≡ passages_on c s []
 passages-root c s = sym (append-nil (passages_at c s []))
 
--- those above come first
+-- the gates above come first
 pub passages-push : (c : Case) (s : Standing) (p : Tokens) (x : Bytes) →
     passages_on c s (p ++ x ∷ []) ≡ passages_on c s p ++ passages_at c s (p ++ x ∷ [])
 passages-push c s p x =

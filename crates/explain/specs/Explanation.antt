@@ -18,15 +18,15 @@ use Rattle.policy.specs.declared.case.Case.{Case}
 use Rattle.policy.specs.declared.verdict.Verdict.{Verdict}
 use Rattle.explain.specs.declared.trace.Trace.{Trace}
 
--- a gate, and the rule by which it refuses the reader, if it does
+-- a gate, with the rule by which it refuses the reader, if it refuses
 abbrev pub passage : Standing → Gate → Gate × Option Rule
 passage s g = (g, refusal_of_gate s g)
 
--- of each gate at this very path, in the order of the case
+-- each gate at this path with its result, in the order of the case
 abbrev pub passages_at : Case → Standing → Tokens → List (Gate × Option Rule)
 passages_at c s q = map (passage s) (filter (λ g. same_path g.path q) c.gates)
 
--- of each gate at a prefix of the path, the shortest first
+-- each gate at a prefix of the path with its result, the shortest prefix first
 abbrev pub passages_on : Case → Standing → Tokens → List (Gate × Option Rule)
 passages_on c s p = flat_map (passages_at c s) (prefixes p)
 
@@ -34,6 +34,9 @@ passages_on c s p = flat_map (passages_at c s) (prefixes p)
 abbrev pub covering : List LocatedLine → Case → Standing → Tokens → List Permission
 covering es c s p = filter (covers es s p) c.permissions
 
+-- The verdict of a class with all that it rests on: the path, the community that the incident names, the gates on the
+-- way with their results, the site, the text of its label and its handling, the clearance with its rule, and the
+-- covering permissions.
 pub record Explanation : Type 0 where
   pub verdict : Verdict
   pub path : Tokens
@@ -45,6 +48,7 @@ pub record Explanation : Type 0 where
   pub clearance : Handling × Rule
   pub permissions : List Permission
 
+-- the explanation of the class at a path, in the words of the policy and of the markings; it has no rule of its own
 abbrev pub explanation_of : List LocatedLine → Case → Standing → Tokens → Explanation
 explanation_of es c s p = record {
   verdict = verdict_of es c s p;
@@ -58,7 +62,7 @@ explanation_of es c s p = record {
   permissions = covering es c s p;
 }
 
--- what a trace tells
+-- what a `Trace` of the program holds
 abbrev pub explanation : Trace → Explanation
 explanation t = record {
   verdict = t.verdict;

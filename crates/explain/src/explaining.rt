@@ -14,8 +14,10 @@ use marking::site;
 use policy::{Case, Gate, Permission, Rule, Standing, clearance, covers, decide, passes};
 use std::alloc::{AllocError, Global};
 
-/// Why the reader sees the class at the path, or doesn't. NoClass exactly where there is no class at the path; the root is
-/// none.
+/// Returns why the reader sees the class at the path, or doesn't. The markings of the document must have been
+/// accepted.
+///
+/// Fails with NoClass exactly if there is no class at the path (the root is none); with NoMemory if memory runs out.
 pub fn explain(
     alloc: Global,
     document: &Document,
@@ -46,7 +48,7 @@ pub fn explain(
     })
 }
 
-/// Every gate at a prefix of the path, with its result, the shortest path first.
+/// Returns every gate at a prefix of the path with its result, the shortest path first.
 fn passages(
     alloc: Global,
     case: &Case,
@@ -65,7 +67,7 @@ fn passages(
     Ok(passages)
 }
 
-/// The gates at this very path, with their results, behind `passages`, in the order of the case.
+/// Appends the gates at this very path with their results, in the order of the case.
 fn push_passages(
     passages: &mut Vec<(Gate, Option<Rule>)>,
     case: &Case,
@@ -83,7 +85,7 @@ fn push_passages(
     Ok(())
 }
 
-/// A copy of the gate, with the rule by which it refuses the reader.
+/// Returns a copy of the gate, with the rule by which it refuses the reader, if it refuses.
 fn passage(standing: &Standing, gate: &Gate) -> Result<(Gate, Option<Rule>), AllocError>
     ensures { IfOk result (λ p. p ≡ spec.passage standing.entry.now gate.now) }
 {
@@ -95,7 +97,7 @@ fn passage(standing: &Standing, gate: &Gate) -> Result<(Gate, Option<Rule>), All
     Ok((copy, passes(standing, gate).err()))
 }
 
-/// The permissions that cover the class at the path, in the order of the case.
+/// Returns the permissions that cover the class at the path, in the order of the case.
 fn covering(
     alloc: Global,
     document: &Document,
@@ -115,6 +117,7 @@ fn covering(
     Ok(covering)
 }
 
+/// Returns a copy of the permission.
 fn copy_of(permission: &Permission) -> Result<Permission, AllocError>
     ensures { IfOk result (λ p. p ≡ permission.now) }
 {

@@ -1,15 +1,16 @@
-//! Why nothing is explained.
+//! Why there is no explanation.
 use marking::SiteFault;
 use policy::DecideFault;
 use std::alloc::AllocError;
 use thiserror::Error;
 
-/// Why nothing is explained of a path.
+/// Why there is no explanation of a path.
 #[derive(Clone, Copy, Debug, Error)]
 pub enum ExplainFault {
-    /// There is no class at the path; the root is none.
+    /// There is no class at the path. The root is no class.
     #[error("there is no class at the path")]
     NoClass,
+    /// Memory ran out.
     #[error("no memory")]
     NoMemory,
 }

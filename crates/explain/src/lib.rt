@@ -1,8 +1,8 @@
-//! Why a reader sees a class of a document, or doesn't: the verdict with all that it rests on, and how this is written.
+//! Why a reader sees a class of a document, or doesn't: the verdict with all that it rests on, and how it is written.
 //!
-//! To read first, in `specs/`: `Explanation`, what is told; `Lines`, how it is written.
+//! Read first, in `specs/`: `Explanation`, what it holds; `Lines`, how it is written.
 //!
-//! The rooms, in the way of a question:
+//! The modules, in the order of a question:
 //!
 //! - `explaining`: [`explain`], from a document, a case, a standing and a path;
 //! - `trace`: [`Trace`], the explanation; `fault`: why there is none;

@@ -14,9 +14,11 @@ use policy::{Gate, Grantee, Permission, Rule, Verdict};
 use std::alloc::{AllocError, Global};
 
 impl Trace {
-    /// The trace as lines, each ended by a newline: the verdict, the path, the community that is named, if one is, each gate,
-    /// the site with its label and handling, the clearance, and each permission with its end, if it has one, by the bytes of
-    /// its path, then by kind and number. Paths, as JSON pointers, and the label are JSON strings.
+    /// Returns the trace as lines, each ended by a newline: the verdict, the path, the community if the incident names
+    /// one, each gate, the site with its label and handling, the clearance, and each permission. Permissions are in
+    /// order of the bytes of their paths, then by kind and number; one with an end says it.
+    ///
+    /// Paths, as JSON pointers, and the label are JSON strings. Fails if memory runs out.
     pub fn text(&self, alloc: Global) -> Result<String, AllocError>
         ensures { IfOk result (λ s. string_bytes s ≡ trace_text (explanation self.now)) }
     {
@@ -38,7 +40,7 @@ impl Trace {
     }
 }
 
-/// What stands before a text, and the text as a JSON string, behind `out`.
+/// Appends a prefix, and a text as a JSON string.
 fn push_text(alloc: Global, out: &mut String, before: &str, text: &str) -> Result<(), AllocError>
     ensures { OnOk result (string_bytes out.new ≡
         string_bytes out.old ++ (before.now ++ spec.quoted text.now)) }
@@ -47,7 +49,7 @@ fn push_text(alloc: Global, out: &mut String, before: &str, text: &str) -> Resul
     push_quoted(alloc, out, text)
 }
 
-/// The same of the JSON pointer of a path.
+/// Appends a prefix, and the JSON pointer of a path as a JSON string.
 fn push_pointer(
     alloc: Global,
     out: &mut String,
@@ -61,7 +63,7 @@ fn push_pointer(
     push_text(alloc, out, before, pointer.as_str())
 }
 
-/// A space and a word, behind `out`.
+/// Appends a space and a word.
 fn push_word(out: &mut String, word: &str) -> Result<(), AllocError>
     ensures { OnOk result (string_bytes out.new ≡ string_bytes out.old ++ (space ++ word.now)) }
 {
@@ -69,7 +71,7 @@ fn push_word(out: &mut String, word: &str) -> Result<(), AllocError>
     out.push_str(word)
 }
 
-/// A space and a number in decimal digits, behind `out`.
+/// Appends a space and a number in decimal digits.
 fn push_number(out: &mut String, number: u32) -> Result<(), AllocError>
     ensures { OnOk result (string_bytes out.new ≡
         string_bytes out.old ++ (space ++ decimal number)) }
@@ -78,7 +80,7 @@ fn push_number(out: &mut String, number: u32) -> Result<(), AllocError>
     write!(out, "{number}")
 }
 
-/// On which side a verdict is.
+/// Returns the word for a verdict.
 fn side_of(verdict: Verdict) -> &'static str
     ensures { result.now ≡ side_text verdict }
 {
@@ -88,6 +90,7 @@ fn side_of(verdict: Verdict) -> &'static str
     }
 }
 
+/// Returns the rule of a verdict.
 fn rule_of(verdict: Verdict) -> Rule
     ensures { result ≡ rule_in verdict }
 {
@@ -97,6 +100,7 @@ fn rule_of(verdict: Verdict) -> Rule
     }
 }
 
+/// Appends the line of the verdict.
 fn push_verdict(out: &mut String, verdict: Verdict) -> Result<(), AllocError>
     ensures { OnOk result (string_bytes out.new ≡ string_bytes out.old ++ verdict_line verdict) }
 {
@@ -106,6 +110,7 @@ fn push_verdict(out: &mut String, verdict: Verdict) -> Result<(), AllocError>
     out.push_str("\n")
 }
 
+/// Appends the line of the path.
 fn push_path(alloc: Global, out: &mut String, path: &Path) -> Result<(), AllocError>
     ensures { OnOk result (string_bytes out.new ≡ string_bytes out.old ++ path_line path.now) }
 {
@@ -113,6 +118,7 @@ fn push_path(alloc: Global, out: &mut String, path: &Path) -> Result<(), AllocEr
     out.push_str("\n")
 }
 
+/// Appends the line of the community, if one is named.
 fn push_community(out: &mut String, community: Option<u32>) -> Result<(), AllocError>
     ensures { OnOk result (string_bytes out.new ≡
         string_bytes out.old ++ community_line community) }
@@ -127,7 +133,7 @@ fn push_community(out: &mut String, community: Option<u32>) -> Result<(), AllocE
     }
 }
 
-/// What became of a gate.
+/// Returns the result of a gate: the rule that refuses, or `pass`.
 fn result_name(refusal: Option<Rule>) -> &'static str
     ensures { result.now ≡ result_text refusal }
 {
@@ -137,6 +143,7 @@ fn result_name(refusal: Option<Rule>) -> &'static str
     }
 }
 
+/// Appends the line of a gate.
 fn push_gate(
     alloc: Global,
     out: &mut String,
@@ -151,6 +158,7 @@ fn push_gate(
     out.push_str("\n")
 }
 
+/// Appends the lines of the gates.
 fn push_gates(
     alloc: Global,
     out: &mut String,
@@ -165,6 +173,7 @@ fn push_gates(
     Ok(())
 }
 
+/// Appends the line of the site.
 fn push_site(
     alloc: Global,
     out: &mut String,
@@ -181,6 +190,7 @@ fn push_site(
     out.push_str("\n")
 }
 
+/// Appends the line of the clearance.
 fn push_clearance(out: &mut String, clearance: (Handling, Rule)) -> Result<(), AllocError>
     ensures { OnOk result (string_bytes out.new ≡
         string_bytes out.old ++ clearance_line clearance) }
@@ -191,7 +201,7 @@ fn push_clearance(out: &mut String, clearance: (Handling, Rule)) -> Result<(), A
     out.push_str("\n")
 }
 
-/// For whom a permission is: the kind and the number.
+/// Appends the kind and the number of a grantee.
 fn push_grantee(out: &mut String, grantee: Grantee) -> Result<(), AllocError>
     ensures { OnOk result (string_bytes out.new ≡
         string_bytes out.old ++ (space ++ grantee_text grantee)) }
@@ -200,7 +210,7 @@ fn push_grantee(out: &mut String, grantee: Grantee) -> Result<(), AllocError>
     push_number(out, number_of(grantee))
 }
 
-/// When a permission ends, where it does.
+/// Appends the end of a permission, if it has one.
 fn push_end(out: &mut String, until: Option<i64>) -> Result<(), AllocError>
     ensures { OnOk result (string_bytes out.new ≡ string_bytes out.old ++ end_text until) }
 {
@@ -210,7 +220,7 @@ fn push_end(out: &mut String, until: Option<i64>) -> Result<(), AllocError>
     }
 }
 
-/// What stands before a permission, and the permission.
+/// Appends a prefix and a permission.
 fn push_entry(
     alloc: Global,
     out: &mut String,
@@ -228,6 +238,7 @@ fn push_entry(
     out.push_str("\n")
 }
 
+/// Appends the line of a permission.
 fn push_permission(
     alloc: Global,
     out: &mut String,
@@ -239,6 +250,7 @@ fn push_permission(
     push_entry(alloc, out, "permission ", entry)
 }
 
+/// Appends the lines of permissions that are in order.
 fn push_entries(
     alloc: Global,
     out: &mut String,
@@ -253,6 +265,7 @@ fn push_entries(
     Ok(())
 }
 
+/// Appends the lines of the permissions, in order.
 fn push_permissions(
     alloc: Global,
     out: &mut String,

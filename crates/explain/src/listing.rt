@@ -8,15 +8,18 @@ use iodef_tree::Text;
 use policy::{Grantee, Permission};
 use std::alloc::{AllocError, Global};
 
-/// A permission as a line tells it.
+/// A permission as its line writes it.
 #[derive(Drop)]
 pub(crate) struct PrintedPermission {
+    /// The JSON pointer of its path.
     pub(crate) pointer: Text,
+    /// The readers whom it is given to.
     pub(crate) grantee: Grantee,
+    /// When it ends, in seconds since the beginning of 1970 (UTC).
     pub(crate) until: Option<i64>,
 }
 
-/// Where its kind stands in the order.
+/// Returns the place of its kind in the order.
 fn kind_place(grantee: Grantee) -> u8
     ensures { result ≡ spec.kind_place grantee }
 {
@@ -28,7 +31,7 @@ fn kind_place(grantee: Grantee) -> u8
     }
 }
 
-/// What its kind is called.
+/// Returns the word for its kind.
 pub(crate) fn kind_name(grantee: Grantee) -> &'static str
     ensures { result.now ≡ spec.kind_name grantee }
 {
@@ -40,6 +43,7 @@ pub(crate) fn kind_name(grantee: Grantee) -> &'static str
     }
 }
 
+/// Returns its number.
 pub(crate) fn number_of(grantee: Grantee) -> u32
     ensures { result ≡ spec.number_of grantee }
 {
@@ -51,6 +55,7 @@ pub(crate) fn number_of(grantee: Grantee) -> u32
     }
 }
 
+/// Returns whether one permission comes before another.
 fn comes_before(entry: &PrintedPermission, other: &PrintedPermission) -> bool
     ensures { result ≡ spec.comes_before entry.now other.now }
 {
@@ -64,7 +69,7 @@ fn comes_before(entry: &PrintedPermission, other: &PrintedPermission) -> bool
         .is_lt()
 }
 
-/// Where the entry goes: before the first that comes after it.
+/// Returns the place of an entry: before the first that comes after it.
 fn place_for(entries: &[PrintedPermission], entry: &PrintedPermission) -> usize
     ensures within { result ≤ length entries.now }
     ensures is { insert entries.now result entry.now ≡ spec.put entry.now entries.now }
@@ -77,6 +82,7 @@ fn place_for(entries: &[PrintedPermission], entry: &PrintedPermission) -> usize
     entries.len()
 }
 
+/// Puts an entry at its place.
 fn put(entries: &mut Vec<PrintedPermission>, entry: PrintedPermission) -> Result<(), AllocError>
     ensures { OnOk result (entries.new.items ≡ spec.put entry entries.old.items) }
 {
@@ -85,6 +91,7 @@ fn put(entries: &mut Vec<PrintedPermission>, entry: PrintedPermission) -> Result
     Ok(())
 }
 
+/// Returns the entry of a permission.
 fn entry_of(alloc: Global, permission: &Permission) -> Result<PrintedPermission, AllocError>
     ensures { IfOk result (λ e. e ≡ spec.entry_of permission.now) }
 {
@@ -96,7 +103,8 @@ fn entry_of(alloc: Global, permission: &Permission) -> Result<PrintedPermission,
     })
 }
 
-/// The permissions by the bytes of the printed path, then by kind and number; those alike in their order.
+/// Returns the permissions in order of the bytes of the pointer, then by kind and number. Those that are alike in
+/// these stay in the order of the case.
 pub(crate) fn sort_permissions(
     alloc: Global,
     permissions: &[Permission],
@@ -105,6 +113,8 @@ pub(crate) fn sort_permissions(
         spec.permissions_in_order (map spec.entry_of permissions.now)) }
 {
     let mut entries = Vec::new(alloc);
+    // An incident has at most 64 permissions, and those here are all at prefixes of one path. So they are put in one
+    // by one, as the definition does.
     for permission in permissions {
         put(&mut entries, entry_of(alloc, permission)?)?;
     }

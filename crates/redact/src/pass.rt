@@ -441,8 +441,8 @@ impl<'a> Reader<'a> {
         }
     }
 
-    /// Returns what is kept of a visible class. It says its label itself if none is written in it and the class around it
-    /// isn't visible.
+    /// Returns what is kept of a visible class. It says its label itself if none is written in it and the class around
+    /// it isn't visible.
     #[cycle(cut)]
     fn cut_seen(
         &self,

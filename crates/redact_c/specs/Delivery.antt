@@ -1,21 +1,22 @@
--- What a caller in C gets: a number, the length of an answer, and the answer in bytes of its own.
+-- What a caller in C gets: a number, the length of an answer, and the answer in bytes that the caller hands in.
 use Rattle.std.specs.Prelude.{◌≡◌, ◌≢◌, ℕ, ◌≤◌, ◌<◌, List, ◌++◌, length, drop, Ok, Err, IfOk}
 use Rattle.redaction.specs.Faults.{number_of}
 use Rattle.redaction.specs.Outcome.{Read}
 use Rattle.redaction.specs.declared.fault.Fault.TheVariants.{NoMemory}
 
--- 0 for an answer, and a fault's number for a fault
+-- the number that a call returns: 0 for an answer, and a fault's number for a fault
 abbrev pub number_for : Read (List ℕ) → ℕ
 number_for (Ok text) = 0
 number_for (Err e) = number_of e
 
--- an answer in the caller's bytes: it begins them where it fits, and otherwise they are as they were
+-- An answer in the caller's bytes: if it fits, they begin with it; if not, they are as they were.
 pub record Placed (text : List ℕ) (needed : ℕ) (before after : List ℕ) : Type 0 where
   pub counted : needed ≡ length text
   pub fits : length text ≤ length before → after ≡ text ++ drop (length text) before
   pub too_long : length before < length text → after ≡ before
 
--- what a call returned, the length that it told, and the caller's bytes before and after it, of what was wanted
+-- The number that a call returned, the length that it set, and the caller's bytes before and after it, given the
+-- answer that was wanted.
 pub record Delivers (number needed : ℕ) (before after : List ℕ) (wanted : Read (List ℕ)) : Type 0 where
   -- NoMemory may replace any answer
   pub numbered : number ≢ number_of NoMemory → number ≡ number_for wanted

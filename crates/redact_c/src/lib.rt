@@ -1,11 +1,14 @@
-//! The library `redaction` for C: a static library with one function for each answer. `clients/c/iodef_redact.h` declares and
-//! wraps them, and says what a caller owes.
+//! The library `redaction` for C: a static library with one function for each answer. `clients/c/iodef_redact.h`
+//! declares and wraps them, and says what a caller has to do.
 //!
-//! To read first: `specs/Delivery`, what a caller gets.
+//! Read first: `specs/Delivery`, what a caller gets.
 //!
-//! Each function returns 0 where there is an answer, and otherwise the number of its fault ([`redaction::Fault::number`]). On 0,
-//! `needed` is the answer's length in bytes, and `out` begins with the answer if it has room for all of it. Otherwise `out` stays
-//! as it is. On a fault `needed` is 0.
+//! Each function returns 0 if there is an answer, and otherwise the number of its fault
+//! ([`redaction::Fault::number`]). On 0, `needed` is the answer's length in bytes, and `out` begins with the answer if
+//! it has room for all of it. Otherwise `out` stays as it is. On a fault `needed` is 0.
+//!
+//! No function can return a name, so the header and the module for Python have the names of the faults.
+//! `scripts/try/redact` compares them with those of `redaction`.
 #![tactic(auto)]
 
 ghost use Rattle.std.specs.Prelude.{None, Some};
@@ -17,7 +20,7 @@ mod delivery;
 use crate::delivery::deliver;
 use std::alloc::Global;
 
-/// What [`redaction::excerpt`] answers: what the reader of a view description may see, and what is withheld.
+/// The answer of [`redaction::excerpt`]: what the reader of a view description may see, and what is withheld.
 #[unsafe(no_mangle)]
 pub extern "C" fn iodef_redact_excerpt_into(
     alloc: Global,
@@ -31,7 +34,7 @@ pub extern "C" fn iodef_redact_excerpt_into(
     deliver(redaction::excerpt(alloc, report, view), out, needed)
 }
 
-/// What [`redaction::excerpt_document`] answers: what the reader of a view description may see, as a report.
+/// The answer of [`redaction::excerpt_document`]: what the reader of a view description may see, as a report.
 #[unsafe(no_mangle)]
 pub extern "C" fn iodef_redact_document_into(
     alloc: Global,
@@ -49,7 +52,7 @@ pub extern "C" fn iodef_redact_document_into(
     )
 }
 
-/// What [`redaction::finds`] answers of a needle: whether a class that the reader may see directly holds it.
+/// The answer of [`redaction::finds`] for a needle: whether a class that the reader may see directly holds it.
 #[unsafe(no_mangle)]
 pub extern "C" fn iodef_redact_finds_into(
     alloc: Global,
@@ -69,7 +72,8 @@ pub extern "C" fn iodef_redact_finds_into(
     )
 }
 
-/// What [`redaction::finds`] answers of a needle in the classes of one name.
+/// The answer of [`redaction::finds`] for a needle in the classes of one name. It has a function of its own, since a
+/// slice can't be absent, and no class has an empty name.
 #[unsafe(no_mangle)]
 pub extern "C" fn iodef_redact_finds_in_class_into(
     alloc: Global,
@@ -90,7 +94,7 @@ pub extern "C" fn iodef_redact_finds_in_class_into(
     )
 }
 
-/// What [`redaction::explain`] answers: why the reader sees the class at a JSON pointer, or doesn't.
+/// The answer of [`redaction::explain`]: why the reader sees the class at a JSON pointer, or doesn't.
 #[unsafe(no_mangle)]
 pub extern "C" fn iodef_redact_explain_into(
     alloc: Global,
@@ -110,7 +114,7 @@ pub extern "C" fn iodef_redact_explain_into(
     )
 }
 
-/// What [`redaction::marks`] answers of the Incident at a place of the report: the label of each class.
+/// The answer of [`redaction::marks`] for the Incident at a place of the report: the label of each class.
 #[unsafe(no_mangle)]
 pub extern "C" fn iodef_redact_marks_into(
     alloc: Global,
