@@ -1,4 +1,4 @@
--- What comes of readings side by side: their fault, or what is made of them.
+-- Readings side by side: their fault, or what is made of their values.
 use Rattle.std.proofs.Common.{◌≡◌, ℕ, ℤ, [], ◌∷◌, Err, codes, sym, ap}
 use Rattle.json.specs.Json.{Json}
 use Rattle.policy.specs.declared.case.Case.{Case}
@@ -8,7 +8,7 @@ use Rattle.redaction.specs.Values.{number_in, only, wanted, given, given_or}
 use Rattle.redaction.specs.Described.{grantee_in, handling_in, short_in, gates_in, permissions_in, case_of, case_in, reader_names, flags_in, lists_in, reader_of, reader_in, now_in, view_read, long_in}
 use Rattle.redaction.specs.declared.fault.Fault.{Fault}
 
--- a fault goes through what follows
+-- a fault goes through the readings that follow
 fault-through : {A B : Type 0} (r : Read A) (e : Fault) (f : A → Read B) → r ≡ Err e → Err e ≡ (r >>= f)
 fault-through r e f bad = ap (λ q. q >>= f) (sym bad)
 

@@ -1,4 +1,4 @@
--- Whole numbers of a description, and how many items there are.
+-- Whole numbers of a description, and the number of elements.
 use Rattle.std.proofs.Common.{◌≡◌, ℕ, ◌<◌, ◌^◌, List, [], ◌∷◌, length, true, false, ◌&&◌, Result, Ok, Err, refl, rules, arith, nat_lt, sym, if◌then◌else◌}
 use Rattle.std.specs.List.{list_all}
 use Rattle.std.specs.Char.{is_ascii_digit}
@@ -22,7 +22,7 @@ digits text plain = grind (arith, common_steps)
 some-digits : (text : List ℕ) → is_whole text ≡ true → 0 < length text
 some-digits text plain = grind (arith, common_steps)
 
--- what parse gives where the digits are plain
+-- the result of `parse` if the text has digits only
 pub whole_parses : {E : Type 0} (text : List ℕ) (r : Result ℕ E) → is_whole text ≡ true → ParsesUnsigned 32 10 text r
     → OkIff r ((0 < length text) × (digits_value 10 text < 2 ^ 32)) (digits_value 10 text)
 whole_parses text r plain h = parse_digits own 32 text r h (digits text plain)

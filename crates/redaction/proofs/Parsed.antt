@@ -1,4 +1,4 @@
--- What a strict read of a text says of it.
+-- What a strict reading of a text says of the text.
 use Rattle.std.proofs.Common.{◌≡◌, ℕ, List, Bool, true, false, not, if◌then◌else◌, Option, Some, None, Ok, Err, IsSomeAnd, IsUtf8, refl, sym, ap, ◌∙◌}
 use Rattle.std.specs.Str.{is_utf8}
 use Rattle.std.proofs.lemmas.Str.{is_utf8-from_IsUtf8, IsUtf8-from_is_utf8}

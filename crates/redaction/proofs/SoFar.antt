@@ -12,11 +12,11 @@ use Rattle.redaction.specs.Values.{each}
 use Rattle.redaction.specs.inner.SoFar.{noted, unless, collected}
 use Rattle.redaction.specs.declared.fault.Fault.{Fault}
 
--- of three faults the first, whichever two are compared first
+-- the first of three faults, whichever two are compared first
 earlier-assoc : (e f g : Fault) → earlier (earlier e f) g ≡ earlier e (earlier f g)
 earlier-assoc e f g = grind (arith, nat_tests, common_steps)
 
--- what is found so far, and then the rest
+-- the values so far, and then the rest
 abbrev pub joined : {A : Type 0} → Option Fault → List A → Read (List A) → Read (List A)
 joined first found rest = unless first found & rest >>= λ p. Ok (p.0 ++ p.1)
 
@@ -56,7 +56,7 @@ module _ {A B : Type 0} (read : Json → Read A) (xs : List (Value B)) (all : Re
       ap (λ u. joined u.0 u.1 rest) grown ∙ one-reading s r rest ∙ ap (λ q. joined s.0 s.1 (with_front q rest)) e
       ∙ sym (ap (λ l. joined s.0 s.1 (each read l)) (next-item i x h is)) ∙ inv
 
-  -- none is left
+  -- no item is left
   pub items-end : (i : ℕ) (first : Option Fault) (found : List A) → length xs ≤ i → joined first found (each read (items_view (drop i xs))) ≡ all → unless first found ≡ all
   items-end i first found h inv =
       sym (none-left first found) ∙ sym (ap (λ l. joined first found (each read (items_view l))) (drop_of_length-le xs h)) ∙ inv

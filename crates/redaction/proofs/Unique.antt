@@ -1,4 +1,4 @@
--- No member stands twice: the test, and what a strict read says.
+-- No member comes twice: the test, and what a strict reading says.
 use Rattle.std.proofs.Common.{◌≡◌, ℕ, List, [], ◌∷◌, Bool, true, false, ◌||◌, refl, sym, bytes_eq, true≢false}
 use Rattle.std.specs.List.{IsDistinct, AllByRecursion, list_any}
 use Rattle.std.proofs.lemmas.Map.Made.{AllPairs-from_IsDistinct, IsDistinct-from_AllPairs}

@@ -1,4 +1,4 @@
--- What is answered of a report.
+-- The answers about a report.
 use Rattle.std.specs.Prelude.{ℕ, List, [], ◌∷◌, ◌++◌, map, Bool, if◌then◌else◌, Option, Some, None, Ok, Err, codes}
 use Rattle.std.specs.List.{flat_map}
 use Rattle.std.specs.Str.{is_utf8}
@@ -26,30 +26,31 @@ use Rattle.redaction.specs.declared.fault.Fault.TheVariants.{NotUtf8, NoClass, N
 
 -- ---- the excerpt
 
--- what is withheld: the JSON pointer of its place in the excerpt (RFC 6901), and the rule
+-- one pair of the list `withheld`: the JSON pointer of a place in the excerpt (RFC 6901), and the name of the rule
 abbrev pub withheld_pair : Tokens × Rule → Data
 withheld_pair pair = array (items_of (string (pointer_text pair.0) ∷ string (rule_name pair.1) ∷ []))
 
--- how many classes are visible, the excerpt's document, and what is withheld
+-- the JSON object of an excerpt: how many classes are visible, its document, and the list of what is withheld
 abbrev pub excerpt_object : Told → Data
 excerpt_object t =
     object (member (codes "classes") (number (unsigned t.classes))
     (member (codes "document") (object (data_of t.outline))
     (member (codes "withheld") (array (items_of (map withheld_pair t.withheld))) no_members)))
 
--- what the reader of a view may see of the Incident, where it may see some class
+-- what the reader of a view may see of the Incident, or NothingVisible if no class is visible
 unfoldable pub told_of : Bytes → Bytes → Read Told
 told_of report description = do
   view ← described description
   asked ← asked_of report view
   or_fault NothingVisible (excerpt_of asked.document asked.case asked.reader)
 
+-- the compact JSON of the excerpt for the reader of a view description, or the first fault
 unfoldable pub excerpt_text : Bytes → Bytes → Read Bytes
 excerpt_text report description = do
   told ← told_of report description
   Ok (compact_text (excerpt_object told))
 
--- the document of the excerpt alone
+-- the compact JSON of the document of the excerpt, or the first fault
 unfoldable pub document_text : Bytes → Bytes → Read Bytes
 document_text report description = do
   told ← told_of report description
@@ -57,19 +58,21 @@ document_text report description = do
 
 -- ---- the search
 
--- the bytes, where they are a text in UTF-8
+-- these bytes if they are a text in UTF-8, else NotUtf8
 abbrev pub word_of : Bytes → Read Bytes
 word_of bytes = if is_utf8 bytes then Ok bytes else Err NotUtf8
 
+-- the same of bytes that may be missing
 abbrev pub some_word_of : Option Bytes → Read (Option Bytes)
 some_word_of None = Ok None
 some_word_of (Some bytes) = word_of bytes >>= λ text. Ok (Some text)
 
--- a truth as JSON writes it
+-- a truth value as JSON writes it
 abbrev pub truth_text : Bool → Bytes
 truth_text b = if b then codes "true" else codes "false"
 
--- whether a class that the reader may see, of this name if one is given, directly holds a text with the needle
+-- whether a class that the reader may see, of this name if one is given, directly holds a text with the needle; or the
+-- first fault
 unfoldable pub finds_text : Bytes → Bytes → Bytes → Option Bytes → Read Bytes
 finds_text report description needle class = do
   view ← described description
@@ -80,16 +83,17 @@ finds_text report description needle class = do
 
 -- ---- the explanation
 
--- the path that the bytes are the JSON pointer of
+-- the path of which the bytes are the JSON pointer, or NotUtf8 or BadPointer
 unfoldable pub pointer_of : Bytes → Read Tokens
 pointer_of bytes = do
   text ← word_of bytes
   path_of text
 
--- why the reader sees the class at the path, or doesn't
+-- why the reader sees the class at the path, or doesn't; NoClass if there is no class
 abbrev pub explained : Asked → Tokens → Read Explanation
 explained asked path = or_fault NoClass (explained_at (located asked.document) asked.case asked.reader path)
 
+-- the lines of the explanation, or the first fault
 unfoldable pub explain_text : Bytes → Bytes → Bytes → Read Bytes
 explain_text report description pointer = do
   view ← described description
@@ -100,19 +104,21 @@ explain_text report description pointer = do
 
 -- ---- the labels
 
--- the compact JSON array of a class's path, its label, the label's handling where nothing is arranged, and its site
+-- the compact JSON array of a class: its path, its label, how the label is handled if nothing is arranged, and its
+-- site
 abbrev pub mark_row : Marked → Data
 mark_row t =
     array (items_of (string t.path ∷ string (text_of t.label) ∷ string (handling_name (handling_of t.label None)) ∷ string t.site ∷ []))
 
--- and the newline behind it
+-- the line of a class: that array and a newline
 abbrev pub mark_line : Marked → Bytes
 mark_line t = compact_text (mark_row t) ++ 10 ∷ []
 
--- a line for each class of the Incident at a place, in stored order
+-- a line for each class of a document, in stored order
 abbrev pub mark_lines : List LocatedLine → Bytes
 mark_lines es = flat_map mark_line (map (marked_at es) (class_paths es))
 
+-- the lines of the classes of the Incident at a place, or the first fault
 unfoldable pub marks_text : Bytes → ℕ → Read Bytes
 marks_text report place = do
   document ← incident_of report place

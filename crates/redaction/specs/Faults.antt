@@ -1,4 +1,4 @@
--- The faults, in one order: of several the first is returned. NoMemory may replace any answer.
+-- The faults, in one order: of several the first is returned. NoMemory may come in place of any answer.
 use Rattle.std.specs.Prelude.{ℕ, nat_lt, if◌then◌else◌, codes}
 use Rattle.iodef_tree.specs.Text.{Bytes}
 use Rattle.iodef_tree.specs.declared.fault.ReadFault.{ReadFault}
@@ -6,7 +6,7 @@ use Rattle.iodef_tree.specs.declared.fault.ReadFault.TheVariants as read
 use Rattle.redaction.specs.declared.fault.Fault.{Fault}
 use Rattle.redaction.specs.declared.fault.Fault.TheVariants.{NoMemory, ViewNotJson, DoubledMember, NotObject, UnknownMember, MissingMember, WrongKind, OutOfRange, BadPointer, BadMoment, SourceUnsaid, NotUtf8, NotJson, NotDocument, Missing, NotWhole, NestedClass, TooDeep, TooManyLines, BadMarking, NoIncident, NoClass, NothingVisible}
 
--- the order: each fault's place in it, from 1 on
+-- the number of a fault: its place in the order, from 1 on
 abbrev pub number_of : Fault → ℕ
 number_of NoMemory = 1
 -- of the view description
@@ -40,6 +40,7 @@ number_of NothingVisible = 23
 abbrev pub earlier : Fault → Fault → Fault
 earlier e f = if nat_lt (number_of f) (number_of e) then f else e
 
+-- the name of a fault
 abbrev pub name_of : Fault → Bytes
 name_of NoMemory = codes "NoMemory"
 name_of ViewNotJson = codes "ViewNotJson"
@@ -65,7 +66,7 @@ name_of NoIncident = codes "NoIncident"
 name_of NoClass = codes "NoClass"
 name_of NothingVisible = codes "NothingVisible"
 
--- in words
+-- the reason of a fault, in words
 abbrev pub reason_of : Fault → Bytes
 reason_of NoMemory = codes "memory ran out"
 reason_of ViewNotJson = codes "the view is no JSON text in UTF-8"
@@ -91,7 +92,7 @@ reason_of NoIncident = codes "there is no Incident at that place"
 reason_of NoClass = codes "there is no class at a path"
 reason_of NothingVisible = codes "no class is visible"
 
--- the faults of a report, by the names that they have where it is posted
+-- the fault of a report that can't be read, with the name that it has in a post to a hub
 abbrev pub of_report : ReadFault → Fault
 of_report read.NotJson = NotJson
 of_report read.NotDocument = NotDocument

@@ -1,4 +1,4 @@
-//! What is asked of a report: one of its documents, with a case and a reader.
+//! The question about a report: one of its documents, with a case and a reader.
 ghost use Rattle.std.specs.Prelude.{◌≡◌, None, IfOk};
 ghost use Rattle.std.specs.List.{list_all};
 ghost use Rattle.iodef_tree.specs.Paths.{located};
@@ -21,6 +21,7 @@ pub(crate) struct Asked {
     pub(crate) reader: Standing,
 }
 
+/// Reads the report.
 fn read_documents(alloc: Global, report: &[u8]) -> Result<Vec<Document>, Fault>
     ensures { YieldsAs (λ v. v.items) result (spec.read_of report.now) }
 {
@@ -30,7 +31,7 @@ fn read_documents(alloc: Global, report: &[u8]) -> Result<Vec<Document>, Fault>
     }
 }
 
-/// Accepts the documents where each keeps the marking rule.
+/// Fails with BadMarking unless each document keeps the marking rule.
 fn check_markings(alloc: Global, documents: &[Document]) -> Result<(), Fault>
     ensures { Yields result (require (list_all spec.is_well_marked documents.now) Fault.BadMarking) }
 {
@@ -44,13 +45,16 @@ fn check_markings(alloc: Global, documents: &[Document]) -> Result<(), Fault>
     Ok(())
 }
 
-/// The document of the Incident at a place of the report; its markings were accepted.
+/// Reads the document of the Incident at a place of the report. Its markings were accepted.
+///
+/// Fails with NoIncident if there is none at that place.
 #[tactic(auto, unfolding(crate::specs::Asked::incident_of, crate::specs::Asked::reported))]
 pub(crate) fn read_incident(alloc: Global, report: &[u8], place: u32) -> Result<Document, Fault>
     ensures read { Yields result (spec.incident_of report.now place) }
     ensures marked { IfOk result (λ d. first_bad_marking (located d) ≡ None) }
 {
     let mut documents = read_documents(alloc, report)?;
+    // The markings of all Incidents, as a hub asks for them in a post.
     check_markings(alloc, documents.as_slice())?;
     let place = place as usize;
     if place >= documents.len() {
@@ -59,18 +63,21 @@ pub(crate) fn read_incident(alloc: Global, report: &[u8], place: u32) -> Result<
     Ok(documents.swap_remove(place))
 }
 
+/// Returns whether the gate is at the root or at a class.
 fn gate_stands(document: &Document, gate: &Gate) -> bool
     ensures { result ≡ spec.gate_stands (located document.now) gate.now }
 {
     gate.path.tokens().is_empty() || document.has_class(&gate.path)
 }
 
+/// Returns whether each gate is at the root or at a class.
 fn gates_stand(document: &Document, gates: &[Gate]) -> bool
     ensures { result ≡ list_all (spec.gate_stands (located document.now)) gates.now }
 {
     gates.iter().all(|gate| gate_stands(document, gate))
 }
 
+/// Returns whether each permission is at a class.
 fn permissions_stand(document: &Document, permissions: &[Permission]) -> bool
     ensures { result ≡ list_all (spec.permission_stands (located document.now)) permissions.now }
 {
@@ -79,6 +86,7 @@ fn permissions_stand(document: &Document, permissions: &[Permission]) -> bool
         .all(|permission| document.has_class(&permission.path))
 }
 
+/// Returns whether each gate is at the root or at a class, and each permission at a class.
 fn case_stands(document: &Document, case: &Case) -> bool
     ensures { result ≡ spec.case_stands (located document.now) case.now }
 {
@@ -86,13 +94,15 @@ fn case_stands(document: &Document, case: &Case) -> bool
         && permissions_stand(document, case.permissions.as_slice())
 }
 
-/// What is asked of a report by a view.
+/// Reads the Incident that a view names, with its case and its reader. Fails with NoClass if a gate or a permission of
+/// the case is at no class.
 #[tactic(auto, unfolding(crate::specs::Asked::asked_of))]
 pub(crate) fn read_asked(alloc: Global, report: &[u8], view: View) -> Result<Asked, Fault>
     ensures read { Yields result (spec.asked_of report.now view) }
     ensures marked { IfOk result (λ a. first_bad_marking (located a.document) ≡ None) }
 {
     let document = read_incident(alloc, report, view.incident)?;
+    // As a hub asks. With a slip in its pointer, a gate would hide nothing.
     if !case_stands(&document, &view.case) {
         return Err(Fault::NoClass);
     }

@@ -14,6 +14,7 @@ use policy::Rule;
 use redact::Excerpt;
 use std::alloc::{AllocError, Global};
 
+/// Puts one pair of the list `withheld`.
 fn put_withheld_pair<S: Sink>(out: &mut Tokens<S>, pair: &(Path, Rule)) -> Result<(), Refused>
     ensures puts { OnOk result (S.puts out.old.sink (comma_if out.old.after_value ++
         compact_text (spec.withheld_pair pair.now)) out.new.sink) }
@@ -25,6 +26,7 @@ fn put_withheld_pair<S: Sink>(out: &mut Tokens<S>, pair: &(Path, Rule)) -> Resul
     out.token(Token::EndArray)
 }
 
+/// Puts the list `withheld`.
 fn put_withheld<S: Sink>(out: &mut Tokens<S>, pairs: &[(Path, Rule)]) -> Result<(), Refused>
     ensures puts { OnOk result (S.puts out.old.sink (comma_if out.old.after_value ++
         compact_text (array (items_of (map spec.withheld_pair pairs.now)))) out.new.sink) }
@@ -37,6 +39,7 @@ fn put_withheld<S: Sink>(out: &mut Tokens<S>, pairs: &[(Path, Rule)]) -> Result<
     out.token(Token::EndArray)
 }
 
+/// Puts the whole excerpt.
 fn put_excerpt<S: Sink>(out: &mut Tokens<S>, excerpt: &Excerpt) -> Result<(), Refused>
     ensures puts { OnOk result (S.puts out.old.sink (comma_if out.old.after_value ++
         compact_text (spec.excerpt_object (told_by excerpt.now))) out.new.sink) }
@@ -54,15 +57,16 @@ fn put_excerpt<S: Sink>(out: &mut Tokens<S>, excerpt: &Excerpt) -> Result<(), Re
 /// What is written of an excerpt.
 #[derive(Clone, Copy, Drop)]
 pub(crate) enum Body<'a> {
-    /// The excerpt whole: its document, how many classes are visible, and what is withheld.
+    /// The whole excerpt: its document, how many classes are visible, and what is withheld.
     Whole(&'a Excerpt),
-    /// Its document alone.
+    /// Only its document.
     Document(&'a Excerpt),
 }
 
 impl<'a> Body<'a> {
     ghost use Rattle.redaction.specs.inner.Bodies.{body_text};
 
+    /// Puts it.
     fn put<S: Sink>(&self, out: &mut Tokens<S>) -> Result<(), Refused>
         ensures { OnOk result (S.puts out.old.sink
             (comma_if out.old.after_value ++ body_text self.now) out.new.sink) }
@@ -86,14 +90,14 @@ impl<'a> Source for Body<'a> {
     }
 }
 
-/// The bytes of the whole excerpt.
+/// Returns the bytes of the whole excerpt.
 pub(crate) fn excerpt_bytes(alloc: Global, excerpt: &Excerpt) -> Result<Vec<u8>, AllocError>
     ensures { IfOk result (λ v. v.items ≡ compact_text (spec.excerpt_object (told_by excerpt.now))) }
 {
     bytes_of(alloc, &Body::Whole(excerpt))
 }
 
-/// The bytes of the document alone.
+/// Returns the bytes of its document.
 pub(crate) fn document_bytes(alloc: Global, excerpt: &Excerpt) -> Result<Vec<u8>, AllocError>
     ensures { IfOk result (λ v. v.items ≡ compact_text (object (data_of excerpt.now.document))) }
 {

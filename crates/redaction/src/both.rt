@@ -6,10 +6,11 @@ ghost use Rattle.redaction.specs.inner.SoFar as spec;
 use crate::fault::Fault;
 use std::alloc::AllocError;
 
-/// What is read, or the fault. Want of memory is the error around it.
+/// A value, or a fault. Want of memory is an error around it.
 pub(crate) type Read<T> = Result<T, Fault>;
 
-/// Both values, or the first fault in the order.
+/// Returns both values, or the earlier fault in the order. So members are read side by side, and the fault that is
+/// returned doesn't depend on where a fault is.
 pub(crate) fn both<A: Drop, B: Drop>(one: Read<A>, other: Read<B>) -> Read<(A, B)>
     ensures { result ≡ one & other }
 {
@@ -21,7 +22,7 @@ pub(crate) fn both<A: Drop, B: Drop>(one: Read<A>, other: Read<B>) -> Read<(A, B
     }
 }
 
-/// The earlier of the fault so far and one more.
+/// Returns the earlier of the fault so far and one more.
 fn noted(first: Option<Fault>, fault: Fault) -> Fault
     ensures { result ≡ spec.noted first fault }
 {
@@ -31,7 +32,7 @@ fn noted(first: Option<Fault>, fault: Fault) -> Fault
     }
 }
 
-/// One reading more, beside the fault and the values so far.
+/// Adds one reading to the fault and the values so far.
 pub(crate) fn collect<T: Drop>(
     first: &mut Option<Fault>,
     found: &mut Vec<T>,
@@ -47,7 +48,7 @@ pub(crate) fn collect<T: Drop>(
     Ok(())
 }
 
-/// The value, unless there is a fault.
+/// Returns the value, unless there is a fault.
 pub(crate) fn unless<A: Drop>(fault: Option<Fault>, value: A) -> Read<A>
     ensures { result ≡ spec.unless fault value }
 {

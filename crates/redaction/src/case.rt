@@ -13,6 +13,7 @@ use json::Value;
 use policy::Case;
 use std::alloc::{AllocError, Global};
 
+/// Returns the case that a value says, which is an object.
 fn case_in(alloc: Global, value: &Value<'_>) -> Result<Read<Case>, AllocError>
     ensures { IfOk result (λ r. r ≡ spec.case_in (value_view value.now)) }
 {
@@ -22,7 +23,7 @@ fn case_in(alloc: Global, value: &Value<'_>) -> Result<Read<Case>, AllocError>
     }
 }
 
-/// The case that the members of an object say.
+/// Returns the case that the members of an object say.
 #[tactic(auto, unfolding(crate::specs::Described::case_of))]
 fn case_of(alloc: Global, value: &Value<'_>) -> Result<Read<Case>, AllocError>
     ensures { IfOk result (λ r. r ≡ spec.case_of (value_view value.now)) }
@@ -45,7 +46,7 @@ fn case_of(alloc: Global, value: &Value<'_>) -> Result<Read<Case>, AllocError>
     }
 }
 
-/// The case of a view, which has to be there.
+/// Returns the case of a view, which has to be there.
 pub(crate) fn wanted_case(alloc: Global, value: &Value<'_>) -> Result<Read<Case>, AllocError>
     ensures { IfOk result (λ r.
         r ≡ values.wanted spec.case_in (codes "case") (value_view value.now)) }
@@ -56,6 +57,7 @@ pub(crate) fn wanted_case(alloc: Global, value: &Value<'_>) -> Result<Read<Case>
     }
 }
 
+/// Returns whether one of the permissions says when it ends.
 fn some_says_end(items: &Vec<Value<'_>>) -> bool
     ensures { result ≡ spec.some_says_end (items_view items.now.items) }
 {
@@ -67,7 +69,7 @@ fn some_says_end(items: &Vec<Value<'_>>) -> bool
     false
 }
 
-/// Whether a permission of the view's case says when it ends.
+/// Returns whether a permission of the view's case says when it ends.
 pub(crate) fn has_end(value: &Value<'_>) -> bool
     ensures { result ≡ spec.has_end (value_view value.now) }
 {

@@ -11,6 +11,7 @@ use crate::view::read_view;
 use redact::Excerpt;
 use std::alloc::Global;
 
+/// Returns the excerpt for the reader of a view description.
 #[tactic(auto, unfolding(crate::specs::Answers::told_of))]
 fn excerpt_for(alloc: Global, report: &[u8], description: &[u8]) -> Result<Excerpt, Fault>
     ensures { YieldsAs told_by result (spec.told_of report.now description.now) }
@@ -23,9 +24,11 @@ fn excerpt_for(alloc: Global, report: &[u8], description: &[u8]) -> Result<Excer
     }
 }
 
-/// What the reader of a view description may see of a report, as a compact JSON object: `classes`, how many classes are
-/// visible; `document`, the excerpt; and `withheld`, at which of its places something is withheld, and by which rule. The
-/// fault is the first in their order.
+/// Returns what the reader of a view description may see of a report, as a compact JSON object: `classes`, how many
+/// classes are visible; `document`, the excerpt; and `withheld`, a list of pairs of a place in the excerpt, as a JSON
+/// pointer, and a rule by which something is withheld there.
+///
+/// Fails with the first fault in the order of [`Fault`].
 #[tactic(auto, unfolding(crate::specs::Answers::excerpt_text))]
 pub fn excerpt(alloc: Global, report: &[u8], description: &[u8]) -> Result<Vec<u8>, Fault>
     ensures { YieldsAs (λ v. v.items) result (spec.excerpt_text report.now description.now) }
@@ -34,7 +37,7 @@ pub fn excerpt(alloc: Global, report: &[u8], description: &[u8]) -> Result<Vec<u
     Ok(excerpt_bytes(alloc, &excerpt)?)
 }
 
-/// The member `document` of what `excerpt` answers, alone: a report again.
+/// Returns the member `document` of the answer of [`excerpt`], which is a report again. Fails as [`excerpt`] does.
 #[tactic(auto, unfolding(crate::specs::Answers::document_text))]
 pub fn excerpt_document(alloc: Global, report: &[u8], description: &[u8]) -> Result<Vec<u8>, Fault>
     ensures { YieldsAs (λ v. v.items) result (spec.document_text report.now description.now) }

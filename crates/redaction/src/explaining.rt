@@ -15,7 +15,7 @@ use explain::{ExplainFault, Trace};
 use iodef_tree::Path;
 use std::alloc::Global;
 
-/// The path that the bytes are the JSON pointer of.
+/// Returns the path of which the bytes are the JSON pointer.
 #[tactic(auto, unfolding(crate::specs::Answers::pointer_of))]
 fn pointer_of(alloc: Global, bytes: &[u8]) -> Result<Path, Fault>
     ensures { Yields result (spec.pointer_of bytes.now) }
@@ -23,6 +23,7 @@ fn pointer_of(alloc: Global, bytes: &[u8]) -> Result<Path, Fault>
     path_of(alloc, word_of(bytes)?)?
 }
 
+/// Returns why the reader sees the class at the path, or doesn't.
 fn trace_of(alloc: Global, asked: &Asked, path: &Path) -> Result<Trace, Fault>
     requires { first_bad_marking (located asked.now.document) ≡ None }
     ensures { YieldsAs explanation result (spec.explained asked.now path.now) }
@@ -34,8 +35,11 @@ fn trace_of(alloc: Global, asked: &Asked, path: &Path) -> Result<Trace, Fault>
     }
 }
 
-/// Why the reader of a view description sees the class at the JSON pointer, or doesn't, as lines, each ended by a newline. The
-/// fault is the first in their order; `NoClass` where there is no class at the pointer, and the root is none.
+/// Returns why the reader of a view description sees the class at the JSON pointer, or doesn't: lines, each ended by a
+/// newline. It answers whoever calls, who has the whole report.
+///
+/// Fails with the first fault in the order of [`Fault`]; with `NoClass` if there is no class at the pointer (the root
+/// is no class).
 #[tactic(auto, unfolding(crate::specs::Answers::explain_text))]
 pub fn explain(
     alloc: Global,

@@ -7,9 +7,11 @@ use iodef_tree::ReadFault;
 use std::alloc::{AllocError, AllocFailed};
 use std::fmt;
 
-/// Why there is no answer: the first of these that holds, in this order. `NoMemory` may replace any answer.
+/// Why there is no answer: the first of these faults that applies, in this order. NoMemory may come in place of any
+/// answer.
 #[derive(Clone, Copy, Debug, PartialEq, Eq, Drop)]
 pub enum Fault {
+    /// Memory ran out.
     NoMemory,
     /// The view description is no JSON text in UTF-8 (RFC 8259).
     ViewNotJson,
@@ -17,21 +19,21 @@ pub enum Fault {
     DoubledMember,
     /// It is no object.
     NotObject,
-    /// An object in it has a member that it doesn't know.
+    /// An object in it has an unknown member.
     UnknownMember,
-    /// An object in it lacks a member that it wants.
+    /// An object in it lacks a member that has to be there.
     MissingMember,
-    /// A value in it is of another kind than is wanted there.
+    /// A value in it is of another kind than is wanted.
     WrongKind,
     /// A number, a text or a list in it is outside its limits.
     OutOfRange,
-    /// A path in it, or the one that is asked about, is no JSON pointer (RFC 6901).
+    /// A path in it, or the path of the question, is no JSON pointer (RFC 6901).
     BadPointer,
     /// A moment in it is no whole second with an offset (RFC 3339).
     BadMoment,
     /// The reader's organisation is the source, and the reader isn't said to be of it.
     SourceUnsaid,
-    /// The text that is looked for, the name of a class or the path that is asked about isn't UTF-8.
+    /// The text of a search, the name of a class or the path of the question isn't UTF-8.
     NotUtf8,
     /// The report is no JSON text in UTF-8.
     NotJson,
@@ -43,21 +45,23 @@ pub enum Fault {
     NotWhole,
     /// An object is in an array inside an array.
     NestedClass,
+    /// A line is too deep, or a value has too many arrays, one inside the other.
     TooDeep,
+    /// An Incident has more lines than the limit.
     TooManyLines,
     /// A class of one of its Incidents breaks the marking rule.
     BadMarking,
-    /// The report has no Incident at the place that is wanted.
+    /// The report has no Incident at the place of the view.
     NoIncident,
-    /// A gate, a permission or the path that is asked about stands at no class of the Incident's document; a gate may stand
-    /// at the root.
+    /// There is no class of the Incident's document at the path of a gate, of a permission or of the question. A gate
+    /// may be at the root.
     NoClass,
-    /// The reader may see no class.
+    /// No class is visible to the reader.
     NothingVisible,
 }
 
 impl Fault {
-    /// Its number, from 1 on: its place in the order.
+    /// Returns the fault's number: its place in the order, from 1 on.
     pub fn number(self) -> u32
         ensures { result ≡ spec.number_of self }
     {
@@ -88,7 +92,7 @@ impl Fault {
         }
     }
 
-    /// Its name.
+    /// Returns the fault's name.
     pub fn name(self) -> &'static str
         ensures { result.now ≡ spec.name_of self }
     {
@@ -119,7 +123,7 @@ impl Fault {
         }
     }
 
-    /// Why there is no answer, in words.
+    /// Returns the fault's reason, in words.
     pub fn reason(self) -> &'static str
         ensures { result.now ≡ spec.reason_of self }
     {
@@ -163,7 +167,7 @@ impl Fault {
     }
 }
 
-/// The fault of a report that isn't read.
+/// Returns the fault of a report that can't be read.
 pub(crate) fn of_report(fault: &ReadFault) -> Fault
     ensures { result ≡ spec.of_report fault.now }
 {

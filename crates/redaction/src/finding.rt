@@ -8,7 +8,7 @@ use crate::fault::Fault;
 use crate::view::read_view;
 use std::alloc::{AllocError, Global};
 
-/// The text that the bytes are.
+/// Returns the bytes as a text. Fails with NotUtf8.
 pub(crate) fn word_of(bytes: &[u8]) -> Result<&str, Fault>
     ensures { YieldsAs (λ t. t.now) result (spec.word_of bytes.now) }
 {
@@ -18,6 +18,7 @@ pub(crate) fn word_of(bytes: &[u8]) -> Result<&str, Fault>
     }
 }
 
+/// Returns the same of bytes that may be missing.
 fn some_word_of(bytes: Option<&[u8]>) -> Result<Option<&str>, Fault>
     ensures { YieldsAs option_copied result (spec.some_word_of (option_copied bytes.entry)) }
 {
@@ -27,7 +28,7 @@ fn some_word_of(bytes: Option<&[u8]>) -> Result<Option<&str>, Fault>
     }
 }
 
-/// The bytes of a truth, as JSON writes it.
+/// Returns a truth value as JSON writes it.
 fn truth_bytes(alloc: Global, truth: bool) -> Result<Vec<u8>, AllocError>
     ensures { IfOk result (λ v. v.items ≡ spec.truth_text truth) }
 {
@@ -38,8 +39,11 @@ fn truth_bytes(alloc: Global, truth: bool) -> Result<Vec<u8>, AllocError>
     }
 }
 
-/// Whether a class that the reader of a view description may see directly holds a text that contains `needle`, byte for byte;
-/// of the classes of the name `class` alone, if it is given: `true` or `false`. The fault is the first in their order.
+/// Returns `true` if a class that the reader of a view description may see directly holds a text that contains
+/// `needle`, byte for byte, and else `false`. If `class` is given, only classes of that name are searched. A reader
+/// who sees no class finds nothing.
+///
+/// Fails with the first fault in the order of [`Fault`].
 #[tactic(auto, unfolding(crate::specs::Answers::finds_text))]
 pub fn finds(
     alloc: Global,

@@ -14,6 +14,7 @@ use json::Value;
 use policy::{Gate, Gates};
 use std::alloc::{AllocError, Global};
 
+/// Returns the level that a value says.
 #[tactic(auto, unfolding(crate::specs::Described::level_in))]
 fn level_in(value: &Value<'_>) -> Read<u8>
     ensures { result ≡ spec.level_in (value_view value.now) }
@@ -21,7 +22,7 @@ fn level_in(value: &Value<'_>) -> Read<u8>
     level_of(number_in(value)?)
 }
 
-/// A distribution level, 0 to 5.
+/// Returns a distribution level from 0 to 5. Fails with OutOfRange.
 fn level_of(number: u32) -> Read<u8>
     ensures { result ≡ spec.level_of number }
 {
@@ -32,6 +33,7 @@ fn level_of(number: u32) -> Read<u8>
     }
 }
 
+/// Returns the level of a gate, which has to be there.
 fn wanted_level(value: &Value<'_>) -> Read<u8>
     ensures { result ≡ values.wanted spec.level_in (codes "level") (value_view value.now) }
 {
@@ -41,7 +43,7 @@ fn wanted_level(value: &Value<'_>) -> Read<u8>
     }
 }
 
-/// Level 4 names a group, and no other level does.
+/// Returns the level and the group: level 4 names a group, and no other level does.
 fn reach_of(level: u8, group: Option<u32>) -> Read<(u8, Option<u32>)>
     ensures { result ≡ spec.reach_of level group }
 {
@@ -52,6 +54,7 @@ fn reach_of(level: u8, group: Option<u32>) -> Read<(u8, Option<u32>)>
     }
 }
 
+/// Returns the level and the group of a gate.
 #[tactic(auto, unfolding(crate::specs::Described::reach_in))]
 fn reach_in(value: &Value<'_>) -> Read<(u8, Option<u32>)>
     ensures { result ≡ spec.reach_in (value_view value.now) }
@@ -60,6 +63,7 @@ fn reach_in(value: &Value<'_>) -> Read<(u8, Option<u32>)>
     reach_of(level, group)
 }
 
+/// Returns a gate. Fails with OutOfRange at the root with level 5, which takes the level above.
 fn gate_at(path: Path, level: u8, group: Option<u32>) -> Read<Gate>
     ensures { result ≡ spec.gate_at path level group }
 {
@@ -69,6 +73,7 @@ fn gate_at(path: Path, level: u8, group: Option<u32>) -> Read<Gate>
     Ok(Gate { path, level, group })
 }
 
+/// Returns the gate that a value says.
 #[tactic(auto, unfolding(crate::specs::Described::gate_in))]
 fn gate_in(alloc: Global, value: &Value<'_>) -> Result<Read<Gate>, AllocError>
     ensures { IfOk result (λ r. r ≡ spec.gate_in (value_view value.now)) }
@@ -84,7 +89,7 @@ fn gate_in(alloc: Global, value: &Value<'_>) -> Result<Read<Gate>, AllocError>
     }
 }
 
-/// Whether the value is a gate whose place is the root.
+/// Returns whether the value is a gate whose place is the root.
 fn is_root_gate(value: &Value<'_>) -> bool
     ensures { result ≡ spec.is_root_gate (value_view value.now) }
 {
@@ -94,7 +99,7 @@ fn is_root_gate(value: &Value<'_>) -> bool
     }
 }
 
-/// How many gates stand at the root.
+/// Returns how many gates are at the root.
 fn root_gates(items: &Vec<Value<'_>>) -> usize
     ensures { result ≡ spec.root_gates (items_view items.now.items) }
 {
@@ -107,7 +112,7 @@ fn root_gates(items: &Vec<Value<'_>>) -> usize
     count
 }
 
-/// One gate at the root, and at most so many others.
+/// Fails with OutOfRange unless one gate is at the root and there are at most [`GATE_LIMIT`] others.
 fn are_gates(items: &Vec<Value<'_>>) -> Read<()>
     ensures { result ≡ require (spec.are_gates (items_view items.now.items)) Fault.OutOfRange }
 {
@@ -118,6 +123,7 @@ fn are_gates(items: &Vec<Value<'_>>) -> Read<()>
     }
 }
 
+/// Returns the gates of an array.
 fn each_gate(alloc: Global, items: &Vec<Value<'_>>) -> Result<Read<Gates>, AllocError>
     ensures { IfOk result (λ r. r ≡ values.each spec.gate_in (items_view items.now.items)) }
 {
@@ -129,6 +135,7 @@ fn each_gate(alloc: Global, items: &Vec<Value<'_>>) -> Result<Read<Gates>, Alloc
     Ok(unless(first, Gates::new(found)))
 }
 
+/// Returns the gates that a value says.
 #[tactic(auto, unfolding(crate::specs::Described::gates_in))]
 fn gates_in(alloc: Global, value: &Value<'_>) -> Result<Read<Gates>, AllocError>
     ensures { IfOk result (λ r. r ≡ spec.gates_in (value_view value.now)) }
@@ -143,7 +150,7 @@ fn gates_in(alloc: Global, value: &Value<'_>) -> Result<Read<Gates>, AllocError>
     }
 }
 
-/// The gates of a case, which have to be there.
+/// Returns the gates of a case, which have to be there.
 pub(crate) fn wanted_gates(alloc: Global, value: &Value<'_>) -> Result<Read<Gates>, AllocError>
     ensures { IfOk result (λ r.
         r ≡ values.wanted spec.gates_in (codes "gates") (value_view value.now)) }

@@ -1,5 +1,4 @@
-//! What the definitions promise of every view, and what each limit is worth. Each law is the contract of a function that does
-//! nothing.
+//! Laws of every view, and what each limit is. Each law is the contract of a function that does nothing.
 
 ghost use Rattle.std.specs.Prelude.{◌≡◌};
 ghost use Rattle.redaction.specs.declared.TheConstants.{GATE_LIMIT, PERMISSION_LIMIT};
@@ -10,12 +9,12 @@ pub fn short_form_clears()
     ensures { ShortFormClears }
 {}
 
-/// The case of the short form has no gate that refuses anybody.
+/// No gate of the short form's case refuses anybody.
 pub fn open_case_refuses_nobody()
     ensures { OpenCaseRefusesNobody }
 {}
 
-/// The limits of a view: 16 gates beside the one at the root, and 64 permissions.
+/// The limits of a view: 16 gates besides the one at the root, and 64 permissions.
 pub fn limits_of_a_view()
     ensures gates { GATE_LIMIT ≡ 16 }
     ensures permissions { PERMISSION_LIMIT ≡ 64 }

@@ -1,13 +1,14 @@
 //! Redaction for callers that have no hub: a report and a view description in, an answer out, all as bytes.
 //!
-//! To read first, in `specs/`: `Described`, what a view description says; `Faults`, the order of the faults;
-//! `Answers`, what is answered of a report.
+//! Read first, in `specs/`: `Described`, what a view description says; `Faults`, the order of the faults; `Answers`,
+//! the answers about a report.
 //!
-//! The rooms, in the way of a call:
+//! The modules, in the order of a call:
 //!
-//! - `fault`: [`Fault`], why there is no answer; `both`: two readings side by side, of which the earlier fault is returned;
-//! - `value`: what the JSON values of a description say; `gates`, `permissions` and `case`: its case; `reader`: its reader;
-//!   `short`: its short form; `view`: a description as a whole;
+//! - `fault`: [`Fault`], why there is no answer; `both`: two readings side by side, of which the earlier fault is
+//!   returned;
+//! - `value`: what the JSON values of a description say; `gates`, `permissions` and `case`: its case; `reader`: its
+//!   reader; `short`: its short form; `view`: the whole description;
 //! - `asked`: a document of the report, with a case and a reader;
 //! - `excerpts`: [`excerpt`] and [`excerpt_document`]; `body`: an excerpt as a JSON text;
 //! - `finding`: [`finds`]; `explaining`: [`explain`]; `mark_lines`: [`marks`];
@@ -37,7 +38,7 @@ pub use fault::Fault;
 pub use finding::finds;
 pub use mark_lines::marks;
 
-/// How many gates a view may have beside the one at the root.
+/// How many gates a view may have besides the one at the root.
 pub const GATE_LIMIT: usize = 16;
 
 /// How many permissions a view may have.

@@ -1,4 +1,5 @@
-//! The label of each class of a report.
+//! The label of each class of a report. The crate `hub_program` prints the same lines; neither crate uses the other,
+//! and the tables of both have the same lines.
 ghost use Rattle.std.specs.Prelude.{◌≡◌, ◌++◌, string_bytes, OnOk, codes};
 ghost use Rattle.json.specs.Print.{quoted};
 ghost use Rattle.marking.specs.Label.{marking_of, text_of};
@@ -13,7 +14,7 @@ use iodef_tree::push_quoted;
 use marking::{Label, Mark, MarkWriter, write_marks};
 use std::alloc::{AllocError, Global};
 
-/// The lines of the classes, as far as they are written.
+/// The lines of the classes so far.
 #[derive(Drop)]
 struct Lines {
     text: String,
@@ -29,7 +30,8 @@ impl MarkWriter for Lines {
     }
 }
 
-/// The compact JSON array of the path, the label, its handling and the site, and a newline, behind `out`.
+/// Appends the line of a class: the compact JSON array of the path, the label, its handling and the site, and a
+/// newline.
 fn push_line(alloc: Global, out: &mut String, mark: Mark<'_>) -> Result<(), AllocError>
     ensures { OnOk result (string_bytes out.new ≡
         string_bytes out.old ++ mark_line (marked_by mark.entry)) }
@@ -42,7 +44,7 @@ fn push_line(alloc: Global, out: &mut String, mark: Mark<'_>) -> Result<(), Allo
     Ok(())
 }
 
-/// A comma and the label as a JSON string, behind `out`. Memory of its own is taken for an extended one alone.
+/// Appends a comma and the label as a JSON string. Allocates a text of its own only for an extended label.
 fn push_label(alloc: Global, out: &mut String, label: Label<'_>) -> Result<(), AllocError>
     ensures { OnOk result (string_bytes out.new ≡
         string_bytes out.old ++ (codes "," ++ quoted (text_of (marking_of label.entry)))) }
@@ -70,9 +72,11 @@ fn push_cell(alloc: Global, out: &mut String, before: &str, text: &str) -> Resul
     push_quoted(alloc, out, text)
 }
 
-/// For each class of the Incident at a place of the report, in stored order, a line with the compact JSON array of its path,
-/// its label, the label's handling where nothing is arranged, and the path of the class where that label stands. The fault is
-/// the first in their order.
+/// Returns a line for each class of the Incident at a place of the report, in stored order. A line is the compact JSON
+/// array of the class's path, its label, how the label is handled if nothing is arranged, and the path of
+/// its site.
+///
+/// Fails with the first fault in the order of [`Fault`].
 #[tactic(auto, unfolding(crate::specs::Answers::marks_text))]
 pub fn marks(alloc: Global, report: &[u8], incident: u32) -> Result<Vec<u8>, Fault>
     ensures { YieldsAs (λ v. v.items) result (spec.marks_text report.now incident) }

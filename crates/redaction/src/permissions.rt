@@ -13,7 +13,7 @@ use json::Value;
 use policy::{Grantee, Permission, Permissions};
 use std::alloc::{AllocError, Global};
 
-/// The one of the four that is named.
+/// Returns the grantee that is named: one of the four, and no more than one.
 #[tactic(auto, unfolding(crate::specs::Described::one_grantee))]
 fn one_grantee(
     person: Option<u32>,
@@ -33,6 +33,7 @@ fn one_grantee(
     }
 }
 
+/// Returns the grantee of a permission.
 #[tactic(auto, unfolding(crate::specs::Described::grantee_in))]
 fn grantee_in(value: &Value<'_>) -> Read<Grantee>
     ensures { result ≡ spec.grantee_in (value_view value.now) }
@@ -48,6 +49,7 @@ fn grantee_in(value: &Value<'_>) -> Read<Grantee>
     }
 }
 
+/// Returns the permission that a value says.
 #[tactic(auto, unfolding(crate::specs::Described::permission_in))]
 fn permission_in(alloc: Global, value: &Value<'_>) -> Result<Read<Permission>, AllocError>
     ensures { IfOk result (λ r. r ≡ spec.permission_in (value_view value.now)) }
@@ -71,6 +73,7 @@ fn permission_in(alloc: Global, value: &Value<'_>) -> Result<Read<Permission>, A
     }
 }
 
+/// Returns the permissions of an array.
 fn each_permission(alloc: Global, items: &Vec<Value<'_>>) -> Result<Read<Permissions>, AllocError>
     ensures { IfOk result (λ r.
         r ≡ values.each spec.permission_in (items_view items.now.items)) }
@@ -83,7 +86,7 @@ fn each_permission(alloc: Global, items: &Vec<Value<'_>>) -> Result<Read<Permiss
     Ok(unless(first, Permissions::new(found)))
 }
 
-/// At most so many.
+/// Fails with OutOfRange above [`PERMISSION_LIMIT`].
 fn are_permissions(items: &Vec<Value<'_>>) -> Read<()>
     ensures { result ≡
         require (nat_le (values.count_of (items_view items.now.items)) PERMISSION_LIMIT) Fault.OutOfRange }
@@ -95,6 +98,7 @@ fn are_permissions(items: &Vec<Value<'_>>) -> Read<()>
     }
 }
 
+/// Returns the permissions that a value says.
 #[tactic(auto, unfolding(crate::specs::Described::permissions_in))]
 fn permissions_in(alloc: Global, value: &Value<'_>) -> Result<Read<Permissions>, AllocError>
     ensures { IfOk result (λ r. r ≡ spec.permissions_in (value_view value.now)) }
@@ -109,7 +113,7 @@ fn permissions_in(alloc: Global, value: &Value<'_>) -> Result<Read<Permissions>,
     }
 }
 
-/// The permissions of a case; none where they aren't there.
+/// Returns the permissions of a case; none if they are missing.
 pub(crate) fn given_permissions(
     alloc: Global,
     value: &Value<'_>,

@@ -12,7 +12,7 @@ use marking::Handling;
 use policy::{Numbers, Standing};
 use std::alloc::{AllocError, Global};
 
-/// What holds of a reader.
+/// The truths of a reader.
 #[derive(Clone, Copy)]
 pub(crate) struct Flags {
     pub(crate) source: bool,
@@ -33,6 +33,7 @@ pub(crate) struct Lists {
     pub(crate) communities: Numbers,
 }
 
+/// Returns the truths of a reader; each one that is missing is false.
 #[tactic(auto, unfolding(crate::specs::Described::flags_in))]
 fn flags_in(value: &Value<'_>) -> Read<Flags>
     ensures { result ≡ spec.flags_in (value_view value.now) }
@@ -57,6 +58,7 @@ fn flags_in(value: &Value<'_>) -> Read<Flags>
     })
 }
 
+/// Returns the lists of a reader; each one that is missing is empty.
 #[tactic(auto, unfolding(crate::specs::Described::lists_in))]
 fn lists_in(alloc: Global, value: &Value<'_>) -> Result<Read<Lists>, AllocError>
     ensures { IfOk result (λ r. r ≡ spec.lists_in (value_view value.now)) }
@@ -74,7 +76,7 @@ fn lists_in(alloc: Global, value: &Value<'_>) -> Result<Read<Lists>, AllocError>
     }
 }
 
-/// The handling of that name.
+/// Returns the handling with this name.
 #[tactic(auto, unfolding(crate::specs::Described::handling_named))]
 fn handling_named(text: &str) -> Read<Handling>
     ensures { result ≡ spec.handling_named text.now }
@@ -94,6 +96,7 @@ fn handling_named(text: &str) -> Read<Handling>
     }
 }
 
+/// Returns the handling that a value says.
 #[tactic(auto, unfolding(crate::specs::Described::handling_in))]
 fn handling_in(value: &Value<'_>) -> Read<Handling>
     ensures { result ≡ spec.handling_in (value_view value.now) }
@@ -104,7 +107,7 @@ fn handling_in(value: &Value<'_>) -> Read<Handling>
     }
 }
 
-/// The handling under a name, which has to be there.
+/// Returns the handling under a name, which has to be there.
 pub(crate) fn wanted_handling(value: &Value<'_>, name: &str) -> Read<Handling>
     ensures { result ≡ values.wanted spec.handling_in name.now (value_view value.now) }
 {
@@ -114,7 +117,7 @@ pub(crate) fn wanted_handling(value: &Value<'_>, name: &str) -> Read<Handling>
     }
 }
 
-/// The handling under a name, if there is one.
+/// Returns the handling under a name, if there is one.
 fn given_handling(value: &Value<'_>, name: &str) -> Read<Option<Handling>>
     ensures { result ≡ values.given spec.handling_in name.now (value_view value.now) }
 {
@@ -124,6 +127,7 @@ fn given_handling(value: &Value<'_>, name: &str) -> Read<Option<Handling>>
     }
 }
 
+/// Fails with UnknownMember at a member that a reader can't have.
 fn only_known(value: &Value<'_>) -> Read<()>
     ensures { result ≡ values.only spec.reader_names (value_view value.now) }
 {
@@ -148,6 +152,7 @@ fn only_known(value: &Value<'_>) -> Read<()>
     )
 }
 
+/// Returns the standing of a reader, at the beginning of 1970.
 fn standing_of(
     flags: Flags,
     who: u32,
@@ -176,6 +181,7 @@ fn standing_of(
     }
 }
 
+/// Returns the reader that a value says, which is an object.
 fn reader_in(alloc: Global, value: &Value<'_>) -> Result<Read<Standing>, AllocError>
     ensures { IfOk result (λ r. r ≡ spec.reader_in (value_view value.now)) }
 {
@@ -185,7 +191,7 @@ fn reader_in(alloc: Global, value: &Value<'_>) -> Result<Read<Standing>, AllocEr
     }
 }
 
-/// The reader that the members of an object say.
+/// Returns the reader that the members of an object say.
 #[tactic(auto, unfolding(crate::specs::Described::reader_of))]
 fn reader_of(alloc: Global, value: &Value<'_>) -> Result<Read<Standing>, AllocError>
     ensures { IfOk result (λ r. r ≡ spec.reader_of (value_view value.now)) }
@@ -202,7 +208,7 @@ fn reader_of(alloc: Global, value: &Value<'_>) -> Result<Read<Standing>, AllocEr
     }
 }
 
-/// The reader of a view, which has to be there.
+/// Returns the reader of a view, which has to be there.
 pub(crate) fn wanted_reader(alloc: Global, value: &Value<'_>) -> Result<Read<Standing>, AllocError>
     ensures { IfOk result (λ r.
         r ≡ values.wanted spec.reader_in (codes "reader") (value_view value.now)) }

@@ -1,4 +1,4 @@
-//! The short form of a view: what the reader is cleared for, and nothing else.
+//! The short form of a view: the clearance of the reader, and nothing else.
 ghost use Rattle.std.specs.Prelude.{◌≡◌, IfOk};
 ghost use Rattle.json.specs.Value.{value_view};
 ghost use Rattle.redaction.specs.Described as spec;
@@ -13,7 +13,7 @@ use marking::Handling;
 use policy::{Case, Gate, Gates, Permissions, Standing};
 use std::alloc::{AllocError, Global};
 
-/// A case in which gates and permissions change nothing.
+/// Returns a case whose gates and permissions change nothing.
 fn open_case(alloc: Global) -> Result<Case, AllocError>
     ensures { IfOk result (λ c. c ≡ spec.open_case) }
 {
@@ -31,7 +31,8 @@ fn open_case(alloc: Global) -> Result<Case, AllocError>
     })
 }
 
-/// A reader of another organisation who is cleared for this, and for nothing stricter. Takes no memory.
+/// Returns a reader of another organisation who is cleared for this handling, and for nothing stricter. Allocates
+/// nothing.
 pub(crate) fn cleared_reader(alloc: Global, handling: Handling) -> Standing
     ensures { result ≡ spec.cleared_reader handling }
 {
@@ -52,6 +53,7 @@ pub(crate) fn cleared_reader(alloc: Global, handling: Handling) -> Standing
     reader
 }
 
+/// Returns the view that an object in the short form says. It may name the Incident, as a report may have 16.
 #[tactic(auto, unfolding(crate::specs::Described::short_in))]
 pub(crate) fn short_in(alloc: Global, value: &Value<'_>) -> Result<Read<View>, AllocError>
     ensures { IfOk result (λ r. r ≡ spec.short_in (value_view value.now)) }

@@ -13,13 +13,14 @@ use json::Value;
 use policy::{Numbers, read_moment};
 use std::alloc::{AllocError, Global};
 
+/// Returns whether a value is an object.
 pub(crate) fn is_object(value: &Value<'_>) -> bool
     ensures { result ≡ spec.is_object (value_view value.now) }
 {
     matches!(value, Value::Object(_))
 }
 
-/// A fault where the value is no object.
+/// Fails with WrongKind unless the value is an object.
 pub(crate) fn object_in(value: &Value<'_>) -> Read<()>
     ensures { result ≡ spec.object_in (value_view value.now) }
 {
@@ -30,6 +31,7 @@ pub(crate) fn object_in(value: &Value<'_>) -> Read<()>
     }
 }
 
+/// Returns the truth value that a value is.
 fn truth_in(value: &Value<'_>) -> Read<bool>
     ensures { result ≡ spec.truth_in (value_view value.now) }
 {
@@ -39,19 +41,21 @@ fn truth_in(value: &Value<'_>) -> Read<bool>
     }
 }
 
+/// Returns whether each byte is a decimal digit.
 fn has_digits_alone(text: &[u8]) -> bool
     ensures { result ≡ list_all is_ascii_digit text.now }
 {
     text.iter().all(|b| b.is_ascii_digit())
 }
 
+/// Returns whether a text has decimal digits only, and at least one.
 fn is_whole(text: &[u8]) -> bool
     ensures { result ≡ spec.is_whole text.now }
 {
     !text.is_empty() && has_digits_alone(text)
 }
 
-/// A whole number below 2^32, written without a sign, a fraction and an exponent.
+/// Returns a whole number below 2^32, written without a sign, a fraction or an exponent. Fails with OutOfRange.
 fn whole(text: &str) -> Read<u32>
     ensures { result ≡ spec.whole text.now }
 {
@@ -64,6 +68,7 @@ fn whole(text: &str) -> Read<u32>
     }
 }
 
+/// Returns the whole number that a value is.
 #[tactic(auto, unfolding(crate::specs::Values::number_in))]
 pub(crate) fn number_in(value: &Value<'_>) -> Read<u32>
     ensures { result ≡ spec.number_in (value_view value.now) }
@@ -74,7 +79,7 @@ pub(crate) fn number_in(value: &Value<'_>) -> Read<u32>
     }
 }
 
-/// The path that the text is the JSON pointer of.
+/// Returns the path of which the text is the JSON pointer.
 pub(crate) fn path_of(alloc: Global, text: &str) -> Result<Read<Path>, AllocError>
     ensures { IfOk result (λ r. r ≡ spec.path_of text.now) }
 {
@@ -85,6 +90,7 @@ pub(crate) fn path_of(alloc: Global, text: &str) -> Result<Read<Path>, AllocErro
     }
 }
 
+/// Returns the path that a value says.
 #[tactic(auto, unfolding(crate::specs::Values::path_in))]
 fn path_in(alloc: Global, value: &Value<'_>) -> Result<Read<Path>, AllocError>
     ensures { IfOk result (λ r. r ≡ spec.path_in (value_view value.now)) }
@@ -95,6 +101,7 @@ fn path_in(alloc: Global, value: &Value<'_>) -> Result<Read<Path>, AllocError>
     }
 }
 
+/// Returns the moment that a value says.
 #[tactic(auto, unfolding(crate::specs::Values::moment_from))]
 pub(crate) fn moment_from(value: &Value<'_>) -> Read<i64>
     ensures { result ≡ spec.moment_from (value_view value.now) }
@@ -105,6 +112,7 @@ pub(crate) fn moment_from(value: &Value<'_>) -> Read<i64>
     }
 }
 
+/// Returns the moment that a text gives, in seconds since the beginning of 1970 (UTC).
 fn moment_of(text: &str) -> Read<i64>
     ensures { result ≡ spec.moment_of text.now }
 {
@@ -114,6 +122,7 @@ fn moment_of(text: &str) -> Read<i64>
     }
 }
 
+/// Returns whether a name is one of these.
 fn is_one_of(names: &[&str], name: &str) -> bool
     ensures { result ≡ spec.is_one_of (map (λ n. n.now) names.now) name.now }
 {
@@ -125,7 +134,7 @@ fn is_one_of(names: &[&str], name: &str) -> bool
     false
 }
 
-/// A fault where an object has a member beside these.
+/// Fails with UnknownMember if an object has a member besides these.
 pub(crate) fn only(value: &Value<'_>, names: &[&str]) -> Read<()>
     ensures { result ≡ spec.only (map (λ n. n.now) names.now) (value_view value.now) }
 {
@@ -135,6 +144,7 @@ pub(crate) fn only(value: &Value<'_>, names: &[&str]) -> Read<()>
     }
 }
 
+/// The same for the members of an object.
 fn only_among<'a>(members: &Vec<(&'a str, Value<'a>)>, names: &[&str]) -> Read<()>
     ensures { result ≡ spec.only_among (map (λ n. n.now) names.now) (keys (members_view members.now.items)) }
 {
@@ -146,7 +156,7 @@ fn only_among<'a>(members: &Vec<(&'a str, Value<'a>)>, names: &[&str]) -> Read<(
     Ok(())
 }
 
-/// The number under a name, which has to be there.
+/// Returns the number under a name, which has to be there.
 pub(crate) fn wanted_number(value: &Value<'_>, name: &str) -> Read<u32>
     ensures { result ≡ spec.wanted spec.number_in name.now (value_view value.now) }
 {
@@ -156,7 +166,7 @@ pub(crate) fn wanted_number(value: &Value<'_>, name: &str) -> Read<u32>
     }
 }
 
-/// The number under a name, if there is one.
+/// Returns the number under a name, if there is one.
 pub(crate) fn given_number(value: &Value<'_>, name: &str) -> Read<Option<u32>>
     ensures { result ≡ spec.given spec.number_in name.now (value_view value.now) }
 {
@@ -166,7 +176,7 @@ pub(crate) fn given_number(value: &Value<'_>, name: &str) -> Read<Option<u32>>
     }
 }
 
-/// The number under a name, or 0.
+/// Returns the number under a name, or 0.
 pub(crate) fn number_or_zero(value: &Value<'_>, name: &str) -> Read<u32>
     ensures { result ≡ spec.given_or 0 spec.number_in name.now (value_view value.now) }
 {
@@ -176,7 +186,7 @@ pub(crate) fn number_or_zero(value: &Value<'_>, name: &str) -> Read<u32>
     }
 }
 
-/// The path under a name, which has to be there.
+/// Returns the path under a name, which has to be there.
 pub(crate) fn wanted_path(
     alloc: Global,
     value: &Value<'_>,
@@ -191,7 +201,7 @@ pub(crate) fn wanted_path(
     }
 }
 
-/// The moment under a name, if there is one.
+/// Returns the moment under a name, if there is one.
 pub(crate) fn given_moment(value: &Value<'_>, name: &str) -> Read<Option<i64>>
     ensures { result ≡ spec.given spec.moment_from name.now (value_view value.now) }
 {
@@ -201,7 +211,7 @@ pub(crate) fn given_moment(value: &Value<'_>, name: &str) -> Read<Option<i64>>
     }
 }
 
-/// Whether a truth is said under a name; what isn't said doesn't hold.
+/// Returns the truth under a name; false if it is missing.
 pub(crate) fn flag(value: &Value<'_>, name: &str) -> Read<bool>
     ensures { result ≡ spec.flag name.now (value_view value.now) }
 {
@@ -211,13 +221,14 @@ pub(crate) fn flag(value: &Value<'_>, name: &str) -> Read<bool>
     }
 }
 
-/// How many items there are.
+/// Returns how many elements there are.
 pub(crate) fn count_of(items: &Vec<Value<'_>>) -> usize
     ensures { result ≡ spec.count_of (items_view items.now.items) }
 {
     items.as_slice().len()
 }
 
+/// Returns the whole numbers of an array.
 fn each_number(alloc: Global, items: &Vec<Value<'_>>) -> Result<Read<Numbers>, AllocError>
     ensures { IfOk result (λ r. r ≡ spec.each spec.number_in (items_view items.now.items)) }
 {
@@ -229,6 +240,7 @@ fn each_number(alloc: Global, items: &Vec<Value<'_>>) -> Result<Read<Numbers>, A
     Ok(unless(first, Numbers::new(found)))
 }
 
+/// Returns the whole numbers that a value says.
 #[tactic(auto, unfolding(crate::specs::Values::numbers_in))]
 fn numbers_in(alloc: Global, value: &Value<'_>) -> Result<Read<Numbers>, AllocError>
     ensures { IfOk result (λ r. r ≡ spec.numbers_in (value_view value.now)) }
@@ -239,7 +251,7 @@ fn numbers_in(alloc: Global, value: &Value<'_>) -> Result<Read<Numbers>, AllocEr
     }
 }
 
-/// The numbers under a name; none where it isn't there.
+/// Returns the whole numbers under a name; none if it is missing.
 pub(crate) fn numbers_under(
     alloc: Global,
     value: &Value<'_>,

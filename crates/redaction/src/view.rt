@@ -14,16 +14,18 @@ use json::{Error, Scratch, Value};
 use policy::{Case, Standing};
 use std::alloc::{AllocError, Global};
 
-/// For whom a report is redacted, and by which case.
+/// The reader for whom a report is redacted, and the case.
 #[derive(Drop)]
 pub(crate) struct View {
-    /// The place of the Incident in the report.
+    /// The place of the Incident in the report, from 0 on.
     pub(crate) incident: u32,
+    /// The case that the Incident is judged by.
     pub(crate) case: Case,
+    /// The reader, at the moment of the view.
     pub(crate) reader: Standing,
 }
 
-/// The moment of the view, which has to be said where a permission ends.
+/// Returns the moment of the view, which has to be said if a permission has an end.
 fn now_by(has_end: bool, value: Option<&Value<'_>>) -> Read<i64>
     ensures { result ≡ spec.now_by has_end (option_map (λ v. value_view v.now) value.entry) }
 {
@@ -34,21 +36,25 @@ fn now_by(has_end: bool, value: Option<&Value<'_>>) -> Read<i64>
     }
 }
 
+/// Returns the moment of the view.
 fn now_in(value: &Value<'_>) -> Read<i64>
     ensures { result ≡ spec.now_in (value_view value.now) }
 {
     now_by(has_end(value), value.get("now"))
 }
 
-/// What is read of a view, without its names.
+/// The parts of a view.
 type Parts = (((), (i64, u32)), (Case, Standing));
 
-/// The view of these parts; a reader of the source's organisation has to be said to be of the source.
+/// Returns the view of these parts. Fails with SourceUnsaid if a reader of the source's organisation isn't said to be
+/// of the source.
 fn view_read(parts: Read<Parts>) -> Read<View>
     ensures { result ≡ spec.view_read parts }
 {
     match parts {
         Ok((((), (now, incident)), (case, mut reader))) => {
+            // It would show less than a hub does, without a word. A reader of another organisation who is said to be
+            // of the source is accepted: in a caller's own books several organisations may be the source.
             if !reader.source && reader.org == case.source {
                 return Err(Fault::SourceUnsaid);
             }
@@ -63,6 +69,7 @@ fn view_read(parts: Read<Parts>) -> Read<View>
     }
 }
 
+/// Returns the view that an object in the long form says.
 fn long_in(alloc: Global, value: &Value<'_>) -> Result<Read<View>, AllocError>
     ensures { IfOk result (λ r. r ≡ spec.long_in (value_view value.now)) }
 {
@@ -73,6 +80,7 @@ fn long_in(alloc: Global, value: &Value<'_>) -> Result<Read<View>, AllocError>
     Ok(view_read(both(both(names, when), both(case, reader))))
 }
 
+/// Returns the view that an object says: in the short form if it has a clearance, else in the long one.
 fn view_in(alloc: Global, value: &Value<'_>) -> Result<Read<View>, AllocError>
     ensures { IfOk result (λ r. r ≡ spec.view_in (value_view value.now)) }
 {
@@ -83,7 +91,7 @@ fn view_in(alloc: Global, value: &Value<'_>) -> Result<Read<View>, AllocError>
     }
 }
 
-/// The view that a value says, which is an object.
+/// Returns the view that a value says, which is an object.
 fn view_from(alloc: Global, value: &Value<'_>) -> Result<View, Fault>
     ensures { Yields result (spec.view_from (value_view value.now)) }
 {
@@ -93,7 +101,7 @@ fn view_from(alloc: Global, value: &Value<'_>) -> Result<View, Fault>
     view_in(alloc, value)?
 }
 
-/// What the description says, or its first fault.
+/// Returns the view that a description says. Fails with its first fault.
 #[tactic(auto, unfolding(crate::specs::Described::described))]
 pub(crate) fn read_view(alloc: Global, description: &[u8]) -> Result<View, Fault>
     ensures { Yields result (spec.described description.now) }
@@ -103,7 +111,7 @@ pub(crate) fn read_view(alloc: Global, description: &[u8]) -> Result<View, Fault
     view_from(alloc, &value)
 }
 
-/// The JSON value of the text, in which no object has a member twice.
+/// Returns the JSON value of the text, in which no object has a member twice.
 fn parse<'a>(
     alloc: Global,
     description: &'a [u8],
@@ -117,6 +125,7 @@ fn parse<'a>(
     }
 }
 
+/// The same of a text that is UTF-8.
 fn parse_text<'a>(
     alloc: Global,
     text: &'a str,

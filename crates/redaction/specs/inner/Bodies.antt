@@ -1,4 +1,4 @@
--- The bytes of what is written of an excerpt.
+-- The bytes that are written of an excerpt.
 use Rattle.serde_json.specs.Data.{object}
 use Rattle.serde_json.specs.Written.{compact_text}
 use Rattle.iodef_tree.specs.Text.{Bytes}
@@ -8,6 +8,7 @@ use Rattle.redaction.specs.Answers.{excerpt_object}
 use Rattle.redaction.specs.declared.body.Body.{Body}
 use Rattle.redaction.specs.declared.body.Body.TheVariants as body
 
+-- the compact JSON of the whole excerpt, or of its document
 abbrev pub body_text : Body → Bytes
 body_text (body.Whole excerpt) = compact_text (excerpt_object (told_by excerpt.now))
 body_text (body.Document excerpt) = compact_text (object (data_of excerpt.now.document))

@@ -1,4 +1,4 @@
--- What is known of several readings when some of them are done.
+-- The state of several readings when some of them are done.
 use Rattle.std.specs.Prelude.{List, [], ◌∷◌, ◌++◌, Option, Some, None, Ok, Err}
 use Rattle.redaction.specs.Faults.{earlier}
 use Rattle.redaction.specs.Outcome.{Read}
@@ -14,7 +14,7 @@ abbrev pub unless : {A : Type 0} → Option Fault → A → Read A
 unless None x = Ok x
 unless (Some e) x = Err e
 
--- the fault and the values so far, and then one reading more
+-- the fault and the values so far, after one more reading
 abbrev pub collected : {A : Type 0} → Option Fault × List A → Read A → Option Fault × List A
 collected s (Ok x) = (s.0, s.1 ++ x ∷ [])
 collected s (Err e) = (Some (noted s.0 e), s.1)
