@@ -1,4 +1,4 @@
--- Why the program prints nothing: its name, and how the program ends.
+-- Why the program prints nothing: the name of the trouble, and how the program ends.
 use Rattle.std.specs.Prelude.{codes}
 use Rattle.iodef_tree.specs.Text.{Bytes}
 use Rattle.redaction.specs.Faults.{name_of}
@@ -9,6 +9,7 @@ use Rattle.iodef_redact.specs.declared.status.Status.TheVariants.{Refused, Faile
 use Rattle.iodef_redact.specs.declared.trouble.Trouble.{Trouble}
 use Rattle.iodef_redact.specs.declared.trouble.Trouble.TheVariants as trouble
 
+-- the name of a trouble: that of the fault, ReadFailed or WriteFailed
 abbrev pub trouble_name : Trouble → Bytes
 trouble_name (trouble.NoAnswer fault) = name_of fault
 trouble_name trouble.NoReport = codes "ReadFailed"
@@ -19,11 +20,12 @@ trouble_name trouble.NoView = codes "ReadFailed"
 trouble_name trouble.LongView = codes "ReadFailed"
 trouble_name trouble.WriteFailed = codes "WriteFailed"
 
--- what is asked is refused, but for want of memory
+-- a fault refuses the question, except want of memory, which is a failure
 abbrev pub status_of_fault : Fault → Status
 status_of_fault NoMemory = Failed
 status_of_fault _ = Refused
 
+-- how the program ends for a trouble
 abbrev pub trouble_status : Trouble → Status
 trouble_status (trouble.NoAnswer fault) = status_of_fault fault
 trouble_status _ = Failed

@@ -13,7 +13,8 @@ use std::env::Args;
 use std::io;
 use std::io::{Read, Write};
 
-/// Does what the words of the program's start say, its name first. One that isn't UTF-8 is usage.
+/// Does what the words of the program's start say; the first is the program's name. A word that isn't UTF-8 is a usage
+/// error.
 pub fn cli_start<R: Read, W: Write, E: Write>(
     rt: &HostRuntime,
     words: io::Result<Args>,
@@ -27,11 +28,12 @@ pub fn cli_start<R: Read, W: Write, E: Write>(
     }
 }
 
-/// The words behind the program's name.
+/// Returns the words behind the program's name.
 fn words_behind(alloc: Global, words: io::Result<Args>) -> io::Result<Vec<String>> {
     Ok(words?.skip(1).collect(alloc)?)
 }
 
+/// Ends the program for words that can't be read.
 fn refuse_words<W: Write, E: Write>(
     alloc: Global,
     error: &io::Error,
@@ -47,11 +49,12 @@ fn refuse_words<W: Write, E: Write>(
     }
 }
 
+/// Ends the program for want of memory.
 fn no_memory<W: Write, E: Write>(writer: &mut W, errors: &mut E) -> Status {
     end_with(writer, errors, Err(Trouble::NoAnswer(Fault::NoMemory)))
 }
 
-/// Does what the words say, which are those behind the program's name.
+/// Does what the words behind the program's name say.
 pub fn cli_run<R: Read, W: Write, E: Write>(
     rt: &HostRuntime,
     words: &[String],
@@ -69,6 +72,7 @@ pub fn cli_run<R: Read, W: Write, E: Write>(
     }
 }
 
+/// Prints the usage, or the help, on standard error.
 fn tell_usage<W: Write, E: Write>(error: &Error, writer: &mut W, errors: &mut E) -> Status {
     if error.kind() == ErrorKind::OutOfMemory {
         return no_memory(writer, errors);
@@ -79,7 +83,7 @@ fn tell_usage<W: Write, E: Write>(error: &Error, writer: &mut W, errors: &mut E)
     }
 }
 
-/// The view description: of a file, or the short form.
+/// Returns the view description: that of a file, or the short form.
 fn view_of(rt: &HostRuntime, whom: Whom<'_>) -> Result<Vec<u8>, Trouble> {
     match whom {
         Whom::Described(path) => read_view_file(rt, path),
@@ -90,7 +94,7 @@ fn view_of(rt: &HostRuntime, whom: Whom<'_>) -> Result<Vec<u8>, Trouble> {
     }
 }
 
-/// The answer to what is asked of the report on standard input. The view is read before it.
+/// Returns the answer about the report on standard input. The view is read before the report.
 fn answer<R: Read>(rt: &HostRuntime, asked: Asked<'_>, reader: &mut R) -> Result<Vec<u8>, Trouble> {
     let alloc = rt.alloc();
     match asked {
@@ -124,6 +128,7 @@ fn answer<R: Read>(rt: &HostRuntime, asked: Asked<'_>, reader: &mut R) -> Result
     }
 }
 
+/// Returns the excerpt, or only its document.
 fn excerpt(
     alloc: Global,
     report: &[u8],

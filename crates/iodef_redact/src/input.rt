@@ -1,4 +1,4 @@
-//! What the program reads: the report on standard input, and a view's file.
+//! What the program reads: the report on standard input, and the file of a view.
 
 use crate::trouble::Trouble;
 use redaction::Fault;
@@ -6,10 +6,10 @@ use std::alloc::Global;
 use std::fs;
 use std::io::{ErrorKind, Read};
 
-/// How many bytes of each are read.
+/// How many bytes of each may be read.
 pub const INPUT_LIMIT: usize = 1_048_576;
 
-/// All bytes of a reader, but no more than one beyond the limit.
+/// Returns all bytes of a reader, but no more than one beyond the limit.
 fn read_some<R: Read>(alloc: Global, reader: &mut R) -> Result<Vec<u8>, ErrorKind> {
     let mut bytes = Vec::new(alloc);
     match reader
@@ -22,7 +22,7 @@ fn read_some<R: Read>(alloc: Global, reader: &mut R) -> Result<Vec<u8>, ErrorKin
     }
 }
 
-/// The report.
+/// Returns the report on standard input.
 pub fn read_report<R: Read>(alloc: Global, reader: &mut R) -> Result<Vec<u8>, Trouble> {
     match read_some(alloc, reader) {
         Ok(bytes) if bytes.len() > INPUT_LIMIT => Err(Trouble::LongReport),
@@ -32,7 +32,7 @@ pub fn read_report<R: Read>(alloc: Global, reader: &mut R) -> Result<Vec<u8>, Tr
     }
 }
 
-/// Why the view's file isn't read.
+/// Returns why the view's file isn't read.
 fn view_trouble(kind: ErrorKind) -> Trouble {
     match kind {
         ErrorKind::OutOfMemory => Trouble::NoAnswer(Fault::NoMemory),
@@ -42,7 +42,7 @@ fn view_trouble(kind: ErrorKind) -> Trouble {
     }
 }
 
-/// The view description in a file.
+/// Returns the view description in a file.
 pub fn read_view_file(rt: &HostRuntime, path: &str) -> Result<Vec<u8>, Trouble> {
     let mut file = match fs::open(rt, path) {
         Ok(file) => file,

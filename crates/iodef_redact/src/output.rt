@@ -1,10 +1,10 @@
-//! What the program prints and tells.
+//! What the program prints on standard output and standard error.
 
 use crate::status::Status;
 use crate::trouble::Trouble;
 use std::io::Write;
 
-/// Prints an answer as it is.
+/// Prints an answer as it is, without a newline, so that callers in shell, C and Python get the same bytes.
 fn print<W: Write>(writer: &mut W, answer: &[u8]) -> Result<(), Trouble> {
     match writer.write_all(answer).and_then(|_| writer.flush()) {
         Ok(()) => Ok(()),
@@ -12,7 +12,7 @@ fn print<W: Write>(writer: &mut W, answer: &[u8]) -> Result<(), Trouble> {
     }
 }
 
-/// Tells the name of what went wrong, and on a second line why.
+/// Prints the name of a trouble on standard error, and the reason on a second line.
 fn tell<E: Write>(errors: &mut E, trouble: Trouble) -> Status {
     let (name, reason) = (trouble.name(), trouble.reason());
     match writeln!(errors, "{name}\n{reason}") {
@@ -21,7 +21,7 @@ fn tell<E: Write>(errors: &mut E, trouble: Trouble) -> Status {
     }
 }
 
-/// Prints the answer, or tells why there is none; and how the program ends.
+/// Prints the answer, or the trouble, and returns how the program ends.
 pub fn end_with<W: Write, E: Write>(
     writer: &mut W,
     errors: &mut E,

@@ -5,17 +5,18 @@ ghost use Rattle.iodef_redact.specs.Status.{exit_status};
 /// How the program ended.
 #[derive(Clone, Copy, Debug, PartialEq, Eq)]
 pub enum Status {
+    /// The answer is printed.
     Done,
     /// The report, the view or a word was refused.
     Refused,
-    /// The words are none of the program's, or ask for help.
+    /// The words are not the program's, or ask for help.
     Usage,
     /// Reading, writing or memory failed.
     Failed,
 }
 
 impl Status {
-    /// The exit status.
+    /// Returns the exit status.
     pub fn code(self) -> u8
         ensures { result ≡ exit_status self }
     {

@@ -1,5 +1,5 @@
-//! The program on whole inputs: what it prints, what it tells, how it ends. A row is the words behind the program's name, the
-//! report, the status, and what is printed and told.
+//! The program on whole inputs: what it prints, and how it ends. A row is the words behind the program's name, the
+//! report, the status, and what is printed on standard output and standard error.
 
 use crate::cli::cli_run;
 use crate::input::INPUT_LIMIT;
@@ -28,7 +28,7 @@ const MARKS: &str = r#"["/Incident/0","green","GREEN","/Incident/0"]
 const WHY: &str =
     "verdict Hidden H-RED\npath \"/Incident/0/Contact/0\"\ngate \"\" 3 0 pass\nsite \"/Incident/0/Contact/0\" \"red\" RED\nclearance GREEN M\n";
 
-/// What the words come to over a report.
+/// The result of the words for a report.
 #[derive(Clone, Copy)]
 struct Case<'a> {
     words: &'a [&'a str],
@@ -80,7 +80,7 @@ fn holds(rt: &HostRuntime, case: Case<'_>) -> io::Result<bool> {
     Ok(status == case.status && is_told && output.as_slice() == case.output.as_bytes())
 }
 
-/// The number of the first case that doesn't hold.
+/// Returns the number of the first case that doesn't hold.
 fn first_wrong(rt: &HostRuntime, cases: &[Case<'_>]) -> io::Result<Option<usize>> {
     for (number, case) in cases.iter().enumerate() {
         if !holds(rt, *case)? {
@@ -201,7 +201,7 @@ fn other_words(rt: HostRuntime) -> io::Result<()> {
     Ok(())
 }
 
-/// Gives so many spaces, and then fails or ends.
+/// Gives this many spaces, and then fails or ends.
 #[derive(Drop)]
 struct Spaces {
     left: usize,
@@ -225,7 +225,8 @@ impl Read for Spaces {
     }
 }
 
-/// Whether the program names the fault of an input of so many spaces, which then fails or ends, and prints nothing.
+/// Returns whether the program names the fault of an input of this many spaces, which then fails or ends, and prints
+/// nothing.
 fn is_read(
     rt: &HostRuntime,
     left: usize,

@@ -11,26 +11,26 @@ use std::alloc::AllocError;
 /// Why the program prints nothing.
 #[derive(Clone, Copy, Debug, PartialEq, Eq)]
 pub enum Trouble {
-    /// There is no answer, for this reason.
+    /// There is no answer, because of this fault.
     NoAnswer(Fault),
     /// Standard input can't be read.
     NoReport,
-    /// Standard input has too many bytes.
+    /// Standard input has more bytes than the limit.
     LongReport,
-    /// There is no file of the view's name.
+    /// There is no file with the view's name.
     NoSuchView,
     /// The program may not read the view's file.
     ClosedView,
     /// The view's file can't be read.
     NoView,
-    /// The view's file has too many bytes.
+    /// The view's file has more bytes than the limit.
     LongView,
     /// Standard output can't be written.
     WriteFailed,
 }
 
 impl Trouble {
-    /// Its name.
+    /// Returns its name.
     pub fn name(self) -> &'static str
         ensures { result.now ≡ trouble_name self }
     {
@@ -43,7 +43,7 @@ impl Trouble {
         }
     }
 
-    /// Why, in words.
+    /// Returns its reason, in words.
     pub fn reason(self) -> &'static str {
         match self {
             Trouble::NoAnswer(fault) => fault.reason(),
@@ -57,7 +57,7 @@ impl Trouble {
         }
     }
 
-    /// How the program ends for it.
+    /// Returns how the program ends for it.
     pub fn status(self) -> Status
         ensures { result ≡ trouble_status self }
     {

@@ -7,36 +7,41 @@ use std::alloc::{AllocError, Global};
 /// The clearances of the short form.
 const CLEARANCES: [&str; 5] = ["CLEAR", "GREEN", "AMBER", "STRICT", "RED"];
 
-/// For whom a report is redacted.
+/// The reader for whom a report is redacted.
 #[derive(Clone, Copy)]
 pub enum Whom<'a> {
-    /// A reader of this clearance, and the place of the Incident.
+    /// A reader with this clearance, and the place of the Incident.
     Cleared(&'a str, u32),
-    /// The reader that the view description in this file tells.
+    /// The reader of the view description in this file.
     Described(&'a str),
 }
 
 /// What the words ask for.
 #[derive(Clone, Copy)]
 pub enum Asked<'a> {
+    /// What a reader may see.
     Excerpt {
         whom: Whom<'a>,
         document_alone: bool,
     },
+    /// Why a reader sees a class, or doesn't.
     Explain {
         whom: Whom<'a>,
         pointer: &'a str,
     },
+    /// Whether a reader finds a text.
     Finds {
         whom: Whom<'a>,
         needle: &'a str,
         class: Option<&'a str>,
     },
+    /// The labels of an Incident.
     Marks {
         incident: u32,
     },
 }
 
+/// Returns the option for the place of the Incident.
 fn incident<'a>(alloc: Global) -> Arg<'a> {
     Arg::new(alloc, "incident")
         .long("incident")
@@ -45,8 +50,9 @@ fn incident<'a>(alloc: Global) -> Arg<'a> {
         .value_parser(value_parser!(u32))
 }
 
-/// A command about a reader, who has to be told one way or the other.
+/// Returns a command about a reader, who has to be given in one of two ways.
 fn about_reader<'a>(alloc: Global, command: Command<'a>) -> Result<Command<'a>, AllocError> {
+    // There is no reader by default.
     let clearance = Arg::new(alloc, "clearance")
         .long("clearance")
         .value_name("C")
@@ -63,6 +69,7 @@ fn about_reader<'a>(alloc: Global, command: Command<'a>) -> Result<Command<'a>, 
         .arg(incident(alloc).conflicts_with("for")?)
 }
 
+/// Returns a word that has to be there.
 fn word<'a>(alloc: Global, id: &'a str, name: &'a str, help: &'a str) -> Arg<'a> {
     Arg::new(alloc, id)
         .value_name(name)
@@ -70,6 +77,7 @@ fn word<'a>(alloc: Global, id: &'a str, name: &'a str, help: &'a str) -> Arg<'a>
         .required(true)
 }
 
+/// Returns the command `excerpt`.
 fn excerpt<'a>(alloc: Global) -> Result<Command<'a>, AllocError> {
     let document = Arg::new(alloc, "document")
         .long("document")
@@ -81,6 +89,7 @@ fn excerpt<'a>(alloc: Global) -> Result<Command<'a>, AllocError> {
     about_reader(alloc, command)?.arg(document)
 }
 
+/// Returns the command `explain`.
 fn explain<'a>(alloc: Global) -> Result<Command<'a>, AllocError> {
     let pointer = word(
         alloc,
@@ -94,6 +103,7 @@ fn explain<'a>(alloc: Global) -> Result<Command<'a>, AllocError> {
     about_reader(alloc, command)?.arg(pointer)
 }
 
+/// Returns the command `finds`.
 fn finds<'a>(alloc: Global) -> Result<Command<'a>, AllocError> {
     let text = word(alloc, "text", "TEXT", "The text, byte for byte");
     let class = Arg::new(alloc, "class")
@@ -106,12 +116,14 @@ fn finds<'a>(alloc: Global) -> Result<Command<'a>, AllocError> {
     about_reader(alloc, command)?.arg(text)?.arg(class)
 }
 
+/// Returns the command `marks`.
 fn marks<'a>(alloc: Global) -> Result<Command<'a>, AllocError> {
     Command::new(alloc, "marks")
         .about("Prints the label of each class of a report on standard input")
         .arg(incident(alloc))
 }
 
+/// Returns the whole program.
 fn program<'a>(alloc: Global) -> Result<Command<'a>, AllocError> {
     Command::new(alloc, "iodef-redact")
         .subcommand_required(true)
@@ -121,7 +133,7 @@ fn program<'a>(alloc: Global) -> Result<Command<'a>, AllocError> {
         .subcommand(marks(alloc)?)
 }
 
-/// The whole command line, the program's name first.
+/// Returns the whole command line, with the program's name first.
 pub fn command_line<'a>(alloc: Global, words: &'a [String]) -> Result<Vec<&'a str>, AllocError> {
     let mut line = Vec::new(alloc);
     line.push("iodef-redact")?;
@@ -131,15 +143,17 @@ pub fn command_line<'a>(alloc: Global, words: &'a [String]) -> Result<Vec<&'a st
     Ok(line)
 }
 
-// A required word is always there, so it has no default.
+// `clap` always gives a required word, so there is no default.
 fn text_of<'a>(found: &ArgMatches<'a>, id: &str) -> &'a str {
     found.get_str(id).unwrap_or("")
 }
 
+/// Returns the place of the Incident, 0 if it isn't given.
 fn place_in(found: &ArgMatches<'_>) -> u32 {
     found.get_one::<u32>("incident").unwrap_or(0)
 }
 
+/// Returns the reader.
 fn whom_in<'a>(found: &ArgMatches<'a>) -> Whom<'a> {
     match found.get_str("for") {
         Some(path) => Whom::Described(path),
@@ -147,6 +161,7 @@ fn whom_in<'a>(found: &ArgMatches<'a>) -> Whom<'a> {
     }
 }
 
+/// Returns what a command asks for.
 fn asked_by<'a>(command: &str, found: &ArgMatches<'a>) -> Asked<'a> {
     match command {
         "excerpt" => Asked::Excerpt {
@@ -168,7 +183,7 @@ fn asked_by<'a>(command: &str, found: &ArgMatches<'a>) -> Asked<'a> {
     }
 }
 
-/// Whether a clearance is none of the five.
+/// Returns whether a clearance is none of the five.
 fn is_unknown_clearance(asked: &Asked<'_>) -> bool {
     match asked {
         Asked::Excerpt { whom, .. } | Asked::Explain { whom, .. } | Asked::Finds { whom, .. } => {
@@ -181,7 +196,7 @@ fn is_unknown_clearance(asked: &Asked<'_>) -> bool {
     }
 }
 
-/// What a command line asks for, or the usage.
+/// Returns what a command line asks for. Fails with the usage.
 pub fn read_words<'a>(alloc: Global, line: &'a [&'a str]) -> Result<Asked<'a>, Error> {
     let matches = program(alloc)?.try_get_matches_from(line)?;
     let asked = match matches.subcommand() {
@@ -194,7 +209,7 @@ pub fn read_words<'a>(alloc: Global, line: &'a [&'a str]) -> Result<Asked<'a>, E
     Ok(asked)
 }
 
-/// The usage, with what is wrong with the words.
+/// Returns the usage, with what is wrong with the words.
 pub fn usage(alloc: Global, what: &str) -> Result<Error, AllocError> {
     program(alloc)?.error(ErrorKind::InvalidValue, what)
 }
