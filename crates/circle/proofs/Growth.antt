@@ -1,4 +1,4 @@
--- What is there stays there.
+-- No organisation, person, community or group goes away.
 use Rattle.std.proofs.Common.{◌==◌, false, if◌then◌else◌, Option, Some, None, refl}
 use Rattle.circle.specs.declared.directory.Org.{Org}
 use Rattle.circle.specs.declared.directory.Account.{Account}

@@ -1,4 +1,4 @@
--- Each command's grounds stand in the order of the codes.
+-- The grounds of each command are in the order of the codes.
 use Rattle.std.proofs.Common.{refl}
 use Rattle.circle.specs.declared.command.CircleCommand.TheVariants.{AddOrg, AddPerson, SuspendPerson, AddClient, RemoveClient, AddCommunity, Join, Leave, Link, Unlink, NewGroup, GroupAdd, GroupRemove, GroupActive, Arrange, CancelArrange, Nominate, Unnominate}
 use Rattle.circle.specs.Order.{GroundsAscend}

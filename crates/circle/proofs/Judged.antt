@@ -1,4 +1,4 @@
--- The facts of a directory tell its refusals, and the next number where it is sound.
+-- The facts of a directory give its refusals, and if it is sound the next number.
 use Rattle.std.proofs.Common.{◌≡◌, ℕ, ◌+◌, List, [], ◌∷◌, map, length, max, Option, Some, None, Result, Ok, Err, IfOk, OnOk, Bool, true, false, if◌then◌else◌, refl, sym, ap, ◌∙◌, arith, not, ◌&&◌, ◌<◌}
 use Rattle.std.specs.Prelude.{nat_le}
 use Rattle.std.proofs.lemmas.Bool.Decides.{nat_tests}
@@ -41,7 +41,7 @@ agrees d a (CancelArrange org) = refl
 agrees d a (Nominate person) = refl
 agrees d a (Unnominate person) = refl
 
--- the greatest of numbers with no gap is how many there are
+-- the greatest of numbers without a gap is how many there are
 greatest_counts : {X : Type 0} (number : X → ℕ) (n : ℕ) (rows : List X) → CountsFrom number n rows → max n (greatest (map number rows)) ≡ n + length rows
 greatest_counts number n [] h = omega arith
 greatest_counts number n (x ∷ xs) h =
@@ -76,7 +76,7 @@ none_said : (b : Bool) (r : Refusal) (rest : Option Refusal) → (if b then Some
 none_said true r rest h = cc
 none_said false r rest h = (refl, h)
 
--- what nothing refuses, nothing refuses by any of a list of grounds
+-- if no ground refuses, each ground of the list doesn't hold
 pub passed : (gs : List Ground) → first_answer gs ≡ None → Each (λ (g : Ground). g.holds ≡ false) gs
 passed [] h = tt
 passed (g ∷ gs) h = let said = none_said g.holds g.answer (first_answer gs) h in (said.0, passed gs said.1)
@@ -85,7 +85,7 @@ below_limit : (c : CircleCommand) (n : ℕ) → nat_le (limit_of c) n ≡ false 
 below_limit (AddPerson org name role key) n h = grind (arith, nat_tests)
 below_limit _ n h = grind (arith, nat_tests)
 
--- where the facts have nothing against a command, there is room for one more number
+-- if the facts refuse nothing, there is room for one more number
 room_left : (f : CircleFacts) (c : CircleCommand) → objection_of f c ≡ None → f.count < PERSON_LIMIT
 room_left f c h =
     let there = none_said (not f.exists) _ _ h in
@@ -95,15 +95,15 @@ room_left f c h =
     let put = none_said (not (is_removal c) && f.stands) _ _ taken.1 in
     below_limit c f.count (none_said (nat_le (limit_of c) f.count) _ _ put.1).0
 
--- where the facts have nothing against a command, its number is one more than what they count
+-- if the facts refuse nothing, the number of a command is one more than their count
 pub counted_edit : (a : Person) (c : CircleCommand) (f : CircleFacts) (n : ℕ) (edit : Edit) → objection_of f c ≡ None → (f.count < PERSON_LIMIT → n ≡ f.count + 1) → edit ≡ edit_of n a c → edit ≡ edit_of (f.count + 1) a c
 counted_edit a c f n edit fine next made = made ∙ ap (λ (m : ℕ). edit_of m a c) (next (room_left f c fine))
 
--- the facts of a directory refuse as it does
+-- the facts of a directory refuse what it refuses
 pub by_facts : (d : Directory) (a : Person) (c : CircleCommand) (f : CircleFacts) → f ≡ facts_of d a c → refusal_of d a c ≡ refusal_by f a c
 by_facts d a c f is = sym (ap (λ (g : CircleFacts). refusal_by g a c) is ∙ agrees d a c)
 
--- the edit by the facts makes the aftermath
+-- the edit by the facts leads to the state after the command
 makes : (d : Directory) (a : Person) (c : CircleCommand) (f : CircleFacts) (edit : Edit) → IsSound d → f ≡ facts_of d a c → refusal_by f a c ≡ None → edit ≡ edit_of (f.count + 1) a c → edited edit d ≡ state_after d a c
 makes d a c f edit sound is fine made =
     let none : refusal_of d a c ≡ None = by_facts d a c f is ∙ fine in

@@ -1,4 +1,4 @@
--- What a row put in or taken out keeps.
+-- What stays true of rows when one is put in or taken out.
 use Rattle.std.proofs.Common.{◌≡◌, ◌≢◌, ℕ, ◌+◌, ◌≤◌, ◌<◌, ◌==◌, ◌&&◌, ◌||◌, Bool, true, false, List, [], ◌∷◌, map, filter, length, max, min, IsTrue, if◌then◌else◌, refl, sym, ap, ◌∙◌, subst, arith}
 use Rattle.std.specs.declared.cmp.Ordering.{Ordering}
 use Rattle.std.specs.declared.cmp.Ordering.TheVariants.{Less, Equal, Greater}
@@ -35,7 +35,7 @@ pub pairs_left : {X : Type 0} (R : X → X → Type 0) (p : X → Bool) (xs : Li
 pairs_left R p [] all = tt
 pairs_left R p (x ∷ xs) all = elim (p x) as (λ b. Pairwise R (if b then x ∷ filter p xs else filter p xs)) [ true ↦ (each_left (R x) p xs all.0, pairs_left R p xs all.1) | false ↦ pairs_left R p xs all.1 ]
 
--- a new row that stands in the relation to each, whichever comes first
+-- a new row to which the relation holds, whichever row comes first
 pub pairs_put : {X : Type 0} (R : X → X → Type 0) (cmp : X → X → Ordering) (x : X) (xs : List X) → Each (λ y. R x y × R y x) xs → Pairwise R xs → Pairwise R (put_by cmp x xs)
 pairs_put R cmp x [] new all = (tt, tt)
 pairs_put R cmp x (y ∷ ys) new all = elim (is_lt (cmp x y)) as (λ b. Pairwise R (if b then x ∷ y ∷ ys else y ∷ put_by cmp x ys)) [
@@ -74,7 +74,7 @@ order_put cmp x (y ∷ ys) total new all = split (cmp x y) refl (order_put cmp x
     split Equal is rest = absurd (new.0 is)
     split Greater is rest = subst (λ o. Pairwise (λ a b. cmp a b ≡ Less) (if is_lt o then x ∷ y ∷ ys else y ∷ put_by cmp x ys)) (sym is) (each_put (λ z. cmp y z ≡ Less) cmp x ys (total.antisymm y x ∙ ap ordering_reverse is) all.0, rest)
 
--- ---- what the tests say
+-- ---- the tests of rows
 
 pub any_put : {X : Type 0} (p : X → Bool) (cmp : X → X → Ordering) (x : X) (xs : List X) → IsTrue (list_any p xs) → IsTrue (list_any p (put_by cmp x xs))
 any_put p cmp x [] h = cc
@@ -90,7 +90,7 @@ pub each_map : {X : Type 0} (P : X → Type 0) (f : X → X) (xs : List X) → (
 each_map P f [] go all = tt
 each_map P f (x ∷ xs) go all = (go x all.0, each_map P f xs go all.1)
 
--- what a row is compared by stays
+-- rows whose key stays
 pub differ_map : {X K : Type 0} (key : X → K) (f : X → X) (xs : List X) → ((x : X) → key (f x) ≡ key x) → Differ key xs → Differ key (map f xs)
 differ_map key f [] same all = tt
 differ_map key f (x ∷ xs) same all = (other xs all.0, differ_map key f xs same all.1)
@@ -114,7 +114,7 @@ pub names_map : {X : Type 0} (number : X → ℕ) (f : X → X) (xs : List X) (n
 names_map number f [] n same h = h
 names_map number f (x ∷ xs) n same h = rw (same x) (grind (arith, common_steps, names_map number f xs n same))
 
--- ---- by what no row has
+-- ---- a key that no row has
 
 pub pair_total : IsTotalOrder pair_cmp
 pair_total = then_total (on_total (λ (p : ℕ × ℕ). p.0) nat_cmp_total) (on_total (λ (p : ℕ × ℕ). p.1) nat_cmp_total)
@@ -133,13 +133,13 @@ pub differ_put : {X : Type 0} (key : X → List ℕ) (cmp : X → X → Ordering
 differ_put key cmp x xs none all = pairs_put (λ a b. key a ≢ key b) cmp x xs
     (each_weaker _ (λ y. (key x ≢ key y) × (key y ≢ key x)) xs (λ y h. ((λ e. text_apart (key y) (key x) h (sym e)), text_apart (key y) (key x) h)) (none_of _ xs none)) all
 
--- ---- names and what they find
+-- ---- names and the rows that they find
 
 pub none_any : {X : Type 0} (p : X → Bool) (xs : List X) → Each (λ x. p x ≡ false) xs → list_any p xs ≡ false
 none_any p [] all = refl
 none_any p (x ∷ xs) all = let here : p x ≡ false = all.0 in let rest = none_any p xs all.1 in grind arith
 
--- what holds of each row holds of the one that is found
+-- a property of each row holds of the row that is found
 pub found_then : {X : Type 0} (p : X → Bool) (P : X → Type 0) (Q : Type 0) (xs : List X) → ((x : X) → p x ≡ true → P x → Q) → list_any p xs ≡ true → Each P xs → Q
 found_then p P Q [] go h all = absurd (absurd_false h)
   where
@@ -151,7 +151,7 @@ found_then p P Q (x ∷ xs) go h all = split (p x) refl (found_then p P Q xs go)
     split true is rest = go x is all.0
     split false is rest = rest (sym (ap (λ b. b || list_any p xs) is) ∙ h) all.1
 
--- a number that is there isn't above how many there are
+-- a number that is there isn't above the number of rows
 pub names_within : {X : Type 0} (number : X → ℕ) (n m : ℕ) (xs : List X) → CountsFrom number n xs → Names number xs m → m ≤ n + length xs
 names_within number n m [] counts h = absurd (never h)
   where

@@ -1,4 +1,4 @@
--- What nothing refuses leaves a sound directory.
+-- A command that nothing refuses leaves a sound directory.
 use Rattle.std.proofs.Common.{◌≡◌, ℕ, ◌+◌, ◌≤◌, ◌<◌, ◌==◌, ◌&&◌, Bool, true, false, not, List, [], ◌∷◌, filter, length, max, min, IsTrue, Option, Some, None, if◌then◌else◌, refl, sym, ap, ◌∙◌, subst, arith}
 use Rattle.std.specs.Prelude.{nat_le}
 use Rattle.std.specs.List.{list_any}
@@ -41,7 +41,7 @@ first_of_pair g n b h = grind (arith, nat_tests)
 pub room : (limit n : ℕ) → nat_le limit n ≡ false → n < limit
 room limit n h = grind (arith, nat_tests)
 
--- ---- put in: a row with a number
+-- ---- a row with a number is put in
 
 org_kept : (n : ℕ) (orgs : List Org) (org : Org) → IsOrg orgs n → IsOrg (put_by (by_number org_number) org orgs) n
 org_kept n orgs org h = any_put (λ (o : Org). o.number == n) (by_number org_number) org orgs h

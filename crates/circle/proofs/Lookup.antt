@@ -1,4 +1,4 @@
--- Looking rows up: the rows of a key by halving.
+-- Looking rows up: the rows with a key, by halving.
 use Rattle.std.proofs.Common.{◌≡◌, ℕ, zero, suc, ◌+◌, ◌-◌, ◌≤◌, ◌<◌, ◌==◌, ◌&&◌, ◌||◌, not, Bool, true, false, List, [], ◌∷◌, filter, length, take, drop, get_or, Some, if◌then◌else◌, refl, sym, ap, ◌∙◌, subst, arith}
 use Rattle.std.specs.Prelude.{find, slice_get}
 use Rattle.std.specs.List.{list_any, AllWithin, insert}
@@ -59,7 +59,7 @@ ascend_drop key (suc n) (x ∷ xs) up = ascend_drop key n xs up.1
 
 -- ---- filters
 
--- the first rows that fail a test are not missed
+-- no row is missed if the first rows fail a test
 pub filter_drop : {X : Type 0} (p : X → Bool) (n : ℕ) (xs : List X) → AllWithin (λ x. p x ≡ false) xs 0 n → filter p xs ≡ filter p (drop n xs)
 filter_drop p zero xs none = refl
 filter_drop p (suc n) [] none = refl
@@ -69,7 +69,7 @@ filter_none : {X : Type 0} (p : X → Bool) (xs : List X) → AllWithin (λ x. p
 filter_none p [] none = refl
 filter_none p (x ∷ xs) none = ap (λ b. if b then x ∷ filter p xs else filter p xs) (none 0 x (omega arith) (omega arith)) ∙ filter_none p xs (λ k d low high. none (suc k) d (omega arith) (omega arith))
 
--- where the first rows pass a test and no other, those are what is left
+-- if the first rows pass a test and no others do, they are the rows that are kept
 pub filter_take : {X : Type 0} (p : X → Bool) (n : ℕ) (xs : List X) → AllWithin (λ x. p x ≡ true) xs 0 n → AllWithin (λ x. p x ≡ false) xs n (length xs) → filter p xs ≡ take n xs
 filter_take p zero xs all none = filter_none p xs none
 filter_take p (suc n) [] all none = refl
@@ -83,7 +83,7 @@ pub not_false : (b : Bool) → not b ≡ false → b ≡ true
 not_false true h = refl
 not_false false h = sym h
 
--- where rows ascend, those of a key are the stretch behind those below it
+-- if rows ascend, those with a key are the stretch behind the rows below it
 pub stretch : {X : Type 0} (key : X → ℕ × ℕ) (k : ℕ × ℕ) (xs ys : List X) (from until : ℕ) → ys ≡ drop from xs →
     AllWithin (λ x. is_lt (pair_cmp (key x) k) ≡ true) xs 0 from → AllWithin (λ x. is_lt (pair_cmp (key x) k) ≡ false) xs from (length xs) →
     AllWithin (λ x. is_lt (pair_cmp k (key x)) ≡ false) ys 0 until → AllWithin (λ x. is_lt (pair_cmp k (key x)) ≡ true) ys until (length ys) →
@@ -110,7 +110,7 @@ put_first : {X : Type 0} (cmp : X → X → Ordering) (x : X) (xs : List X) → 
 put_first cmp x [] above = refl
 put_first cmp x (y ∷ ys) above = ap (λ b. if b then x ∷ y ∷ ys else y ∷ put_by cmp x ys) (above 0 y (omega arith) (omega arith))
 
--- a row is put in at the place of the first one above it
+-- a row is put in at the place of the first row above it
 pub put_at : {X : Type 0} (cmp : X → X → Ordering) (x : X) (n : ℕ) (xs : List X) → n ≤ length xs → AllWithin (λ y. is_lt (cmp x y) ≡ false) xs 0 n → AllWithin (λ y. is_lt (cmp x y) ≡ true) xs n (length xs) → put_by cmp x xs ≡ insert xs n x
 put_at cmp x zero xs room within above = put_first cmp x xs above
 put_at cmp x (suc n) [] room within above = absurd (omega arith)
@@ -125,9 +125,9 @@ put_parted {X} key x k zs xs n same is room within above =
     (λ i d low high. ap (λ j. is_lt (pair_cmp j (key (get_or zs i d)))) (sym is) ∙ within i d low high)
     (λ i d low high. ap (λ j. is_lt (pair_cmp j (key (get_or zs i d)))) (sym is) ∙ above i d low high))
 
--- ---- rows of a key
+-- ---- rows with a key
 
--- some row passes both tests
+-- whether some row passes both tests
 pub any_having : {X : Type 0} (p q : X → Bool) (xs : List X) → list_any q (filter p xs) ≡ list_any (λ x. p x && q x) xs
 any_having p q [] = refl
 any_having p q (x ∷ xs) = split (p x) (any_having p q xs)
@@ -136,7 +136,7 @@ any_having p q (x ∷ xs) = split (p x) (any_having p q xs)
     split true h = ap (λ b. q x || b) h
     split false h = h
 
--- some row passes the test
+-- whether some row passes the test
 pub some_having : {X : Type 0} (p : X → Bool) (xs : List X) → not (length (filter p xs) == 0) ≡ list_any p xs
 some_having p [] = refl
 some_having p (x ∷ xs) = split (p x) (some_having p xs)
@@ -154,7 +154,7 @@ first_having p (x ∷ xs) = split (p x) (first_having p xs)
     split true h = refl
     split false h = h
 
--- some row of a key passes a test, looked for among the rows of the key alone
+-- a row with a key that passes a test is found among the rows with the key
 pub found_with : {X : Type 0} (key : X → ℕ × ℕ) (k : ℕ × ℕ) (q : X → Bool) (xs slice rows : List X) → slice ≡ xs → (Ascend key slice → rows ≡ having key k slice) → Ascend key xs → list_any q rows ≡ list_any (λ x. same_pair (key x) k && q x) xs
 found_with key k q xs slice rows same found up =
     ap (λ l. list_any q l) (found (subst (Ascend key) (sym same) up) ∙ ap (having key k) same) ∙ any_having (λ x. same_pair (key x) k) q xs

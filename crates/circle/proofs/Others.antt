@@ -1,4 +1,4 @@
--- What is another organisation's stays.
+-- The rows of another organisation stay.
 use Rattle.std.proofs.Common.{◌≡◌, ◌≢◌, ◌⊎◌, inl, inr, ℕ, ◌+◌, ◌<◌, ◌≤◌, ◌==◌, ◌&&◌, ◌||◌, Bool, true, false, not, List, [], ◌∷◌, map, filter, length, IsTrue, Option, Some, None, if◌then◌else◌, refl, sym, ap, ◌∙◌, subst, arith}
 use Rattle.std.specs.declared.cmp.Ordering.{Ordering}
 use Rattle.std.specs.declared.cmp.Ordering.TheVariants.{Less, Equal, Greater}
@@ -36,7 +36,7 @@ filter_put_out p cmp x (y ∷ ys) out = elim (is_lt (cmp x y)) as (λ b. filter 
   | false ↦ ap (λ zs. if p y then y ∷ zs else zs) (filter_put_out p cmp x ys out)
 ]
 
--- what a test keeps isn't touched where only rows that it drops are taken out
+-- if only rows that a test drops are taken out, the rows that it keeps stay
 filter_left : {X : Type 0} (p q : X → Bool) (xs : List X) → ((x : X) → p x ≡ true → q x ≡ true) → filter p (filter q xs) ≡ filter p xs
 filter_left p q [] go = refl
 filter_left p q (x ∷ xs) go = split (p x) (q x) refl refl (filter_left p q xs go)
@@ -58,7 +58,7 @@ less_of Less h = refl
 less_of Equal h = cc
 less_of Greater h = cc
 
--- a row that the test keeps, put into rows in order
+-- a row that the test keeps, put into rows that are in order
 filter_put_in : {X : Type 0} (p : X → Bool) (cmp : X → X → Ordering) (x : X) (xs : List X) → IsTotalOrder cmp → p x ≡ true → Pairwise (λ a b. cmp a b ≡ Less) xs → filter p (put_by cmp x xs) ≡ put_by cmp x (filter p xs)
 filter_put_in p cmp x [] total kept order = ap (λ b. if b then x ∷ [] else []) kept
 filter_put_in p cmp x (y ∷ ys) total kept order = split (is_lt (cmp x y)) (p y) refl refl (filter_put_in p cmp x ys total kept order.1)
@@ -82,7 +82,7 @@ filter_put_in p cmp x (y ∷ ys) total kept order = split (is_lt (cmp x y)) (p y
         ∙ (ap (λ t. if t then y ∷ filter p (put_by cmp x ys) else filter p (put_by cmp x ys)) is
         ∙ (rest ∙ sym (ap (λ t. put_by cmp x (if t then y ∷ filter p ys else filter p ys)) is)))
 
--- rows exchanged that are kept or dropped as before and show the same
+-- rows that are changed, are kept or dropped as before and show the same
 shown_exchanged : {X Y : Type 0} (show : X → Y) (p : X → Bool) (f : X → X) (xs : List X) → Each (λ x. (p (f x) ≡ p x) × (show (f x) ≡ show x)) xs → map show (filter p (map f xs)) ≡ map show (filter p xs)
 shown_exchanged show p f [] all = refl
 shown_exchanged show p f (x ∷ xs) all = split (p x) refl (shown_exchanged show p f xs all.1)
@@ -97,7 +97,7 @@ shown_exchanged show p f (x ∷ xs) all = split (p x) refl (shown_exchanged show
         ap (λ t. map show (if t then f x ∷ filter p (map f xs) else filter p (map f xs))) (all.0.0 ∙ is)
         ∙ (rest ∙ sym (ap (λ t. map show (if t then x ∷ filter p xs else filter p xs)) is))
 
--- rows exchanged of which only dropped ones are others
+-- rows of which only dropped ones are changed
 kept_exchanged : {X : Type 0} (p : X → Bool) (f : X → X) (xs : List X) → Each (λ x. (f x ≡ x) ⊎ ((p x ≡ false) × (p (f x) ≡ false))) xs → filter p (map f xs) ≡ filter p xs
 kept_exchanged p f [] all = refl
 kept_exchanged p f (x ∷ xs) all = split all.0 (kept_exchanged p f xs all.1)
@@ -132,7 +132,7 @@ same_number a b h = grind (arith, nat_tests)
 other_number : (a b : ℕ) → a ≢ b → (a == b) ≡ false
 other_number a b h = grind (arith, nat_tests)
 
--- the one row of a number has this owner
+-- the one row with a number has this owner
 owner_of : {X : Type 0} (number owner : X → ℕ) (n k o : ℕ) (xs : List X) → CountsFrom number n xs → list_any (λ x. number x == k && owner x == o) xs ≡ true → Each (λ x. number x ≡ k → owner x ≡ o) xs
 owner_of {X = X} number owner n k o [] counts h = tt
 owner_of {X = X} number owner n k o (x ∷ xs) counts h = split (number x == k) (owner x == o) refl refl (owner_of number owner (n + 1) k o xs counts.1)
@@ -160,7 +160,7 @@ owner_of {X = X} number owner n k o (x ∷ xs) counts h = split (number x == k) 
         differs : number x ≡ k → ⊥
         differs e = grind (arith, nat_tests)
 
--- ---- of the directory
+-- ---- the directory
 
 not_theirs : (o own other : ℕ) (t : Bool) → other ≢ own → o ≡ own → (o == other && t) ≡ false
 not_theirs o own other t apart is = grind (arith, nat_tests)
@@ -216,14 +216,14 @@ groups_exchanged d n own other active sound apart of_own =
         inr (of_them, same_when (λ (x : Group). x.owner == other) (g.number == n) (record g { active = active }) g refl ∙ of_them)
     either g false is owned = inl (ap (λ b. if b then record g { active = active } else g) is)
 
--- a group of theirs isn't one of one's own
+-- a group of another organisation isn't one of the actor's
 two_owners : (d : Directory) (theirs mine own other : ℕ) → IsSound d → other ≢ own → has_group_of theirs other d ≡ true → has_group_of mine own d ≡ true → theirs ≢ mine
 two_owners d theirs mine own other sound apart of_them of_own same =
     found_then (λ (g : Group). g.number == theirs && g.owner == other) (λ (g : Group). group_number g ≡ mine → g.owner ≡ own) ⊥ d.groups
     (λ g here owned. apart (sym (second_of_pair g.number theirs g.owner other here) ∙ owned (first_of_pair g.number theirs g.owner other here ∙ same)))
     of_them (owner_of group_number (λ (g : Group). g.owner) 0 mine own d.groups sound.groups.numbered.0 of_own)
 
--- a group that is there hasn't the next number
+-- a group that is there doesn't have the next number
 not_next : (d : Directory) (group other : ℕ) (name releasability : List ℕ) → IsSound d → has_group_of group other d ≡ true → next_in d (NewGroup name releasability) ≢ group
 not_next d group other name releasability sound there same =
     let next : next_in d (NewGroup name releasability) ≡ length d.groups + 1 = next_number group_number GROUP_LIMIT d.groups sound.groups.numbered in
@@ -238,7 +238,7 @@ mine_if : (mine theirs : Bool) → (not mine || theirs) ≡ false → mine ≡ t
 mine_if true theirs h = refl
 mine_if false theirs h = cc
 
--- what another organisation has stays where these four sets stay
+-- the rows of another organisation stay if these four sets stay
 left_alone : (other own : ℕ) (d e : Directory) → e.arrangements ≡ d.arrangements → e.accounts ≡ d.accounts → e.groups ≡ d.groups → e.group_members ≡ d.group_members → LeavesTheirs other own d e
 left_alone other own d e arrangements accounts groups members = record {
   arrangements = ap (λ (rows : List Arrangement). filter (λ (a : Arrangement). a.source == other) rows) arrangements;

@@ -1,4 +1,4 @@
--- Owners stay members that may extend their groups.
+-- The owners of groups stay members that may extend them.
 use Rattle.std.proofs.Common.{◌≡◌, ℕ, ◌==◌, ◌&&◌, ◌||◌, Bool, true, false, not, List, [], ◌∷◌, filter, IsTrue, Option, Some, None, if◌then◌else◌, refl, sym, ap, ◌∙◌, arith}
 use Rattle.std.specs.declared.cmp.Ordering.{Ordering}
 use Rattle.std.specs.Ordering.{is_lt}
@@ -35,7 +35,7 @@ any_new p cmp x (y ∷ ys) here = elim (is_lt (cmp x y)) as (λ b. IsTrue (list_
     after true e = refl
     after false e = e
 
--- what is found is found where only other rows are taken out
+-- a row that is found is found too if only other rows are taken out
 any_left : {X : Type 0} (p q : X → Bool) (xs : List X) → ((x : X) → p x ≡ true → q x ≡ true) → IsTrue (list_any p xs) → IsTrue (list_any p (filter q xs))
 any_left p q [] go h = h
 any_left p q (x ∷ xs) go h = split (p x) (q x) refl refl (any_left p q xs go)

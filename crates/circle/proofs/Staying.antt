@@ -1,4 +1,4 @@
--- A refused command leaves all, and a suspended person stays suspended.
+-- A refused command changes nothing, and a suspended person stays suspended.
 use Rattle.std.proofs.Common.{◌≡◌, ℕ, ◌==◌, ◌&&◌, ◌||◌, Bool, true, false, not, List, [], ◌∷◌, map, IsTrue, Option, Some, None, if◌then◌else◌, refl, sym, ap, ◌∙◌}
 use Rattle.std.specs.List.{list_any}
 use Rattle.circle.specs.declared.directory.Account.{Account}
@@ -16,7 +16,7 @@ use Rattle.circle.proofs.Keeping.{any_put}
 pub leaves_all : RefusalsLeaveAll
 leaves_all d a c why is = ap (λ (r : Option Refusal). unless_refused r d (changed d a c)) is
 
--- a test that an exchange keeps
+-- a test that an exchange doesn't change
 any_map : {X : Type 0} (p : X → Bool) (f : X → X) (xs : List X) → ((x : X) → p x ≡ true → p (f x) ≡ true) → IsTrue (list_any p xs) → IsTrue (list_any p (map f xs))
 any_map p f [] go h = h
 any_map p f (x ∷ xs) go h = split (p x) refl (any_map p f xs go)

@@ -21,16 +21,20 @@ use Rattle.circle.specs.Refusals.{refusal_of}
 
 -- ---- edits
 
--- the rows in which those of this number are exchanged
+-- the accounts, with the person of this number changed by f
 abbrev pub exchange_account : ℕ → (Person → Person) → List Account → List Account
 exchange_account n f = map (λ (a : Account). if a.person.number == n then record a { person = f a.person } else a)
 
+-- the groups, with the group of this number changed by f
 abbrev pub exchange_group : ℕ → (Group → Group) → List Group → List Group
 exchange_group n f = map (λ (g : Group). if g.number == n then f g else g)
 
+-- the members of groups, with one more at its place
 abbrev pub put_group_member : GroupMember → List GroupMember → List GroupMember
 put_group_member = put_by (by_pair group_member_key)
 
+-- The directory after an edit of one row. A row that is put in comes before the first row above it and never replaces
+-- one; a row that is taken out is found by its key.
 abbrev pub edited_row : RowEdit → Directory → Directory
 edited_row (PutOrg org) d = record d { orgs = put_by (by_number org_number) org d.orgs }
 edited_row (PutAccount account) d = record d { accounts = put_by (by_number account_number) account d.accounts }
@@ -50,31 +54,33 @@ edited_row (TakeGroupMember group org) d = record d { group_members = filter (λ
 edited_row (PutArrangement arrangement) d = record d { arrangements = put_by (by_pair arrangement_key) arrangement d.arrangements }
 edited_row (TakeArrangement source org) d = record d { arrangements = filter (λ (a : Arrangement). not (a.source == source && a.org == org)) d.arrangements }
 
--- the edits one after another
+-- the directory after several edits of rows, one after another
 abbrev pub edited_rows : List RowEdit → Directory → Directory
 edited_rows [] d = d
 edited_rows (edit ∷ edits) d = edited_rows edits (edited_row edit d)
 
--- the owner of a group as a member that may extend it
+-- the owner of a group, as a member that may extend it
 abbrev pub founder : Group → GroupMember
 founder group = record { group = group.number; org = group.owner; extend = true }
 
--- one edit for each row
+-- an edit as the edits of its rows
 abbrev pub rows_of : Edit → List RowEdit
 rows_of (Row edit) = edit ∷ []
 rows_of (Found group) = PutGroup group ∷ PutGroupMember (founder group) ∷ []
 
+-- the directory after an edit: a founded group is put in, and then its owner as a member
 abbrev pub edited : Edit → Directory → Directory
 edited (Row edit) d = edited_row edit d
 edited (Found group) d = edited_row (PutGroupMember (founder group)) (edited_row (PutGroup group) d)
 
 -- ---- commands
 
+-- the greatest of some numbers, or 0
 abbrev pub greatest : List ℕ → ℕ
 greatest [] = 0
 greatest (n ∷ ns) = max n (greatest ns)
 
--- the number that the row put by a command gets: one more than the greatest, or 1
+-- the number of the row that a command puts in: one more than the greatest, or 1
 abbrev pub next_in : Directory → CircleCommand → ℕ
 next_in d (AddOrg name) = greatest (map org_number d.orgs) + 1
 next_in d (AddPerson org name role key) = greatest (map account_number d.accounts) + 1
@@ -82,7 +88,7 @@ next_in d (AddCommunity name) = greatest (map community_number d.communities) + 
 next_in d (NewGroup name releasability) = greatest (map group_number d.groups) + 1
 next_in d _ = 0
 
--- what the actor's command changes, where it puts a row of this number
+-- the edit of the actor's command, whose new row gets this number
 abbrev pub edit_of : ℕ → Person → CircleCommand → Edit
 edit_of n a (AddOrg name) = Row (PutOrg (record { number = n; name = name }))
 edit_of n a (AddPerson org name role key) = Row (PutAccount (record { person = record { number = n; org = org; name = name; role = role; active = true; nominated = false }; key = key }))
@@ -103,13 +109,15 @@ edit_of n a (CancelArrange org) = Row (TakeArrangement a.org org)
 edit_of n a (Nominate person) = Row (SetNominated person true)
 edit_of n a (Unnominate person) = Row (SetNominated person false)
 
--- the directory where nothing refuses the command
+-- the directory after a command that nothing refuses
 abbrev pub changed : Directory → Person → CircleCommand → Directory
 changed d actor command = edited (edit_of (next_in d command) actor command) d
 
+-- the second directory, or the first if there is a refusal
 abbrev pub unless_refused : Option Refusal → Directory → Directory → Directory
 unless_refused None before after = after
 unless_refused (Some refusal) before after = before
 
+-- the directory after a command: as it was if the command is refused
 abbrev pub state_after : Directory → Person → CircleCommand → Directory
 state_after d actor command = unless_refused (refusal_of d actor command) d (changed d actor command)

@@ -3,7 +3,7 @@ use Rattle.std.specs.Prelude.{ℕ, List, codes}
 use Rattle.circle.specs.declared.refusal.Code.{Code}
 use Rattle.circle.specs.declared.refusal.Code.TheVariants.{K1, W1, B1, N1, N2, W2, W3, N3, S1, S2, S3, L1, F1, F2}
 
--- the place in the order in which the grounds of the codes are asked
+-- the order in which the grounds are asked, by their codes
 abbrev pub place_in_order : Code → ℕ
 place_in_order K1 = 1
 place_in_order W1 = 2
@@ -20,6 +20,7 @@ place_in_order L1 = 12
 place_in_order F1 = 13
 place_in_order F2 = 14
 
+-- the name of a code
 abbrev pub name_of : Code → List ℕ
 name_of K1 = codes "K1"
 name_of W1 = codes "W1"
@@ -36,6 +37,7 @@ name_of L1 = codes "L1"
 name_of F1 = codes "F1"
 name_of F2 = codes "F2"
 
+-- the HTTP status of a code (RFC 9110 section 15)
 abbrev pub status_of : Code → ℕ
 status_of K1 = 401
 status_of W1 = 403
@@ -52,6 +54,7 @@ status_of L1 = 409
 status_of F1 = 503
 status_of F2 = 503
 
+-- the reason of a code, in words
 abbrev pub reason_of : Code → List ℕ
 reason_of K1 = codes "unknown or suspended key"
 reason_of W1 = codes "role does not allow it"

@@ -1,4 +1,4 @@
--- The refusal as the facts tell it: one order of grounds for every command.
+-- The refusal by the facts: one order of grounds for every command.
 use Rattle.std.specs.Prelude.{ℕ, Bool, true, false, not, ◌&&◌, ◌||◌, ◌==◌, nat_le, List, Option, Some, None, if◌then◌else◌, codes}
 use Rattle.circle.specs.declared.TheConstants.{ORG_LIMIT, PERSON_LIMIT, COMMUNITY_LIMIT, GROUP_LIMIT}
 use Rattle.circle.specs.declared.directory.Role.{Role}
@@ -12,6 +12,7 @@ use Rattle.circle.specs.Outcomes.{bare}
 use Rattle.circle.specs.Texts.{is_name, is_releasability}
 use Rattle.circle.specs.Refusals.{is_administrator, is_coordinator}
 
+-- whether a role allows the command: an administrator's or a coordinator's
 abbrev pub is_allowed : CircleCommand → Role → Bool
 is_allowed (AddOrg name) = is_administrator
 is_allowed (AddPerson org name role key) = is_administrator
@@ -25,9 +26,11 @@ is_allowed (Link community other) = is_administrator
 is_allowed (Unlink community other) = is_administrator
 is_allowed _ = is_coordinator
 
+-- this field if it is bad, else the other answer
 abbrev pub field_if : Bool → List ℕ → Option (List ℕ) → Option (List ℕ)
 field_if bad field other = if bad then Some field else other
 
+-- the first argument of the command that is bad by itself, if one is
 abbrev pub bad_field : CircleCommand → Person → Option (List ℕ)
 bad_field (AddOrg name) a = field_if (not (is_name name)) (codes "name") None
 bad_field (AddPerson org name role key) a = field_if (not (is_name name)) (codes "name") None
@@ -41,17 +44,20 @@ bad_field (NewGroup name releasability) a = field_if (not (is_name name)) (codes
 bad_field (Arrange org handling) a = field_if (org == a.org) (codes "org") None
 bad_field _ a = None
 
+-- whether the actor's organisation may not change the group so
 abbrev pub lacks_right : CircleCommand → CircleFacts → Bool
 lacks_right (GroupAdd group org extend) f = not f.may_extend
 lacks_right (GroupRemove group org) f = not f.owner || f.target_is_owner
 lacks_right (GroupActive group active) f = not f.owner
 lacks_right _ f = false
 
+-- whether the person is of another organisation
 abbrev pub is_strange : CircleCommand → CircleFacts → Bool
 is_strange (Nominate person) f = not f.own_person
 is_strange (Unnominate person) f = not f.own_person
 is_strange _ f = false
 
+-- Whether the command takes something back. `Unnominate` does: it is refused by `S2` if the person isn't nominated.
 abbrev pub is_removal : CircleCommand → Bool
 is_removal (RemoveClient org client) = true
 is_removal (Leave community org) = true
@@ -61,18 +67,19 @@ is_removal (CancelArrange org) = true
 is_removal (Unnominate person) = true
 is_removal _ = false
 
--- how many rows there may be of the kind that the command numbers; of what numbers nothing the facts count 0
+-- the limit of the kind of row that the command numbers; of a command that numbers none the facts count 0
 abbrev pub limit_of : CircleCommand → ℕ
 limit_of (AddOrg name) = ORG_LIMIT
 limit_of (AddPerson org name role key) = PERSON_LIMIT
 limit_of (AddCommunity name) = COMMUNITY_LIMIT
 limit_of _ = GROUP_LIMIT
 
+-- the refusal of a bad field if there is one, else the other answer
 abbrev pub with_field : Option (List ℕ) → Option Refusal → Option Refusal
 with_field (Some field) rest = Some (record { code = B1; detail = field })
 with_field None rest = rest
 
--- the first ground from N2 on, by the facts
+-- the first ground from `N2` on that the facts give
 abbrev pub objection_of : CircleFacts → CircleCommand → Option Refusal
 objection_of f c =
     if not f.exists then Some (bare N2) else
@@ -83,6 +90,6 @@ objection_of f c =
     if nat_le (limit_of c) f.count then Some (bare L1) else
     None
 
--- the refusal by the facts
+-- the refusal by the facts: of the role, then of the arguments, then of the facts
 abbrev pub refusal_by : CircleFacts → Person → CircleCommand → Option Refusal
 refusal_by f a c = if not (is_allowed c a.role) then Some (bare W1) else with_field (bad_field c a) (objection_of f c)

@@ -1,4 +1,4 @@
--- What holds of every command.
+-- The laws of every command.
 use Rattle.std.specs.Prelude.{◌≡◌, ◌≢◌, ℕ, Some, IsTrue}
 use Rattle.circle.specs.declared.directory.Person.{Person}
 use Rattle.circle.specs.declared.command.CircleCommand.{CircleCommand}
@@ -11,34 +11,35 @@ use Rattle.circle.specs.Sound.{IsSound, IsOrg, OwnersExtend}
 use Rattle.circle.specs.Others.{LeavesTheirs}
 use Rattle.circle.specs.Growth.{Grows}
 
--- what a person of a sound directory changes leaves it sound
+-- A command of a person of a sound directory leaves the directory sound.
 abbrev pub StaysSound : Type 0
 StaysSound = (d : Directory) (actor : Person) (command : CircleCommand) → IsSound d → IsOrg d.orgs actor.org → IsSound (state_after d actor command)
 
--- the owners of groups stay members that may extend them
+-- The owners of groups stay members that may extend them.
 abbrev pub OwnersStay : Type 0
 OwnersStay = (d : Directory) (actor : Person) (command : CircleCommand) → OwnersExtend d → OwnersExtend (state_after d actor command)
 
--- the directory without a row is sound
+-- The directory without a row is sound, and so are the owners of its groups.
 abbrev pub EmptyIsSound : Type 0
 EmptyIsSound = IsSound empty × OwnersExtend empty
 
--- a refused command leaves every row
+-- A refused command changes no row.
 abbrev pub RefusalsLeaveAll : Type 0
 RefusalsLeaveAll = (d : Directory) (actor : Person) (command : CircleCommand) (why : Refusal) → refusal_of d actor command ≡ Some why → state_after d actor command ≡ d
 
--- nobody changes another organisation's arrangements, nominations or groups, but by an extend flag
+-- No command of a person, of any role, changes another organisation's arrangements, nominations or groups, except that
+-- an extend flag lets it put a member in.
 abbrev pub OrganisationsKeepApart : Type 0
 OrganisationsKeepApart = (d : Directory) (actor : Person) (command : CircleCommand) (other : ℕ) → IsSound d → other ≢ actor.org → LeavesTheirs other actor.org d (state_after d actor command)
 
--- a suspended person stays suspended
+-- A suspended person stays suspended.
 abbrev pub SuspendedStays : Type 0
 SuspendedStays = (d : Directory) (actor : Person) (command : CircleCommand) (person : ℕ) → IsTrue (has_suspended person d) → IsTrue (has_suspended person (state_after d actor command))
 
--- no organisation, person, community or group goes away
+-- No organisation, person, community or group goes away.
 abbrev pub NothingVanishes : Type 0
 NothingVanishes = (d : Directory) (actor : Person) (command : CircleCommand) → Grows d (state_after d actor command)
 
--- an edit is the edits of its rows one after another
+-- An edit is the edits of its rows, one after another.
 abbrev pub EditsAreRows : Type 0
 EditsAreRows = (edit : Edit) (d : Directory) → edited_rows (rows_of edit) d ≡ edited edit d

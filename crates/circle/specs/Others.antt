@@ -1,4 +1,4 @@
--- What belongs to one organisation and not to another.
+-- The rows that belong to one organisation and not to another.
 use Rattle.std.specs.Prelude.{◌≡◌, ◌⊎◌, ℕ, ◌&&◌, ◌==◌, List, map, filter, IsTrue}
 use Rattle.circle.specs.declared.directory.Account.{Account}
 use Rattle.circle.specs.declared.directory.Group.{Group}
@@ -11,7 +11,7 @@ use Rattle.circle.specs.Aftermath.{put_group_member}
 abbrev pub arrangements_of : ℕ → Directory → List Arrangement
 arrangements_of source d = filter (λ (a : Arrangement). a.source == source) d.arrangements
 
--- the numbers of the organisation's nominated persons
+-- The numbers of the organisation's nominated persons. Their rows may change: an administrator may suspend one.
 abbrev pub nominated_of : ℕ → Directory → List ℕ
 nominated_of org d = map account_number (filter (λ (a : Account). a.person.org == org && a.person.nominated) d.accounts)
 
@@ -19,17 +19,18 @@ nominated_of org d = map account_number (filter (λ (a : Account). a.person.org 
 abbrev pub groups_owned : ℕ → Directory → List Group
 groups_owned owner d = filter (λ (g : Group). g.owner == owner) d.groups
 
--- the members of the group
+-- the members of a group
 abbrev pub members_in : ℕ → Directory → List GroupMember
 members_in group d = filter (λ (m : GroupMember). m.group == group) d.group_members
 
--- the organisation has an extend flag in the group, which has one member more
+-- the organisation may extend the group, and the group has one member more
 pub record ExtendsBy (own group : ℕ) (before after : Directory) (member : GroupMember) : Type 0 where
   pub flag : IsTrue (has_extender group own before)
   pub group_of : member.group ≡ group
   pub put_in : members_in group after ≡ put_group_member member (members_in group before)
 
--- what is another organisation's stays, but for what an extend flag allows
+-- The arrangements, nominations, groups and members of another organisation's groups stay, except that an extend flag
+-- lets a member be put in.
 pub record LeavesTheirs (other own : ℕ) (before after : Directory) : Type 0 where
   pub arrangements : arrangements_of other after ≡ arrangements_of other before
   pub nominations : nominated_of other after ≡ nominated_of other before

@@ -1,4 +1,4 @@
--- What is asked of a directory beside its commands.
+-- What is asked of a directory besides its commands.
 use Rattle.std.specs.Prelude.{ℕ, Bool, true, ◌&&◌, ◌||◌, ◌==◌, List, map, filter, find, Option, option_map}
 use Rattle.std.specs.List.{list_any}
 use Rattle.std.specs.Str.{bytes_eq}
@@ -15,6 +15,7 @@ use Rattle.circle.specs.Directory.{Directory, has_membership, has_group_being}
 
 -- ---- rows
 
+-- the person of an account
 abbrev pub person_in : Account → Person
 person_in a = a.person
 
@@ -22,45 +23,51 @@ person_in a = a.person
 abbrev pub person_of_key : List ℕ → Directory → Option Person
 person_of_key key d = option_map person_in (find (λ (a : Account). bytes_eq a.key key) d.accounts)
 
+-- the person with this number
 abbrev pub person_of : ℕ → Directory → Option Person
 person_of n d = option_map person_in (find (λ (a : Account). a.person.number == n) d.accounts)
 
+-- the group with this number
 abbrev pub group_of : ℕ → Directory → Option Group
 group_of n d = find (λ (g : Group). g.number == n) d.groups
 
 -- ---- what an organisation is part of, by number
 
+-- the communities of which the organisation is a member, by number
 abbrev pub communities_of : ℕ → Directory → List ℕ
 communities_of org d = map (λ (m : Membership). m.community) (filter (λ (m : Membership). m.org == org) d.memberships)
 
--- its rows among the members of groups
+-- the rows of the organisation among the members of groups
 abbrev pub memberships_in_groups : ℕ → Directory → List GroupMember
 memberships_in_groups org d = filter (λ (m : GroupMember). m.org == org) d.group_members
 
+-- the groups of which the organisation is a member, by number
 abbrev pub groups_joined : ℕ → Directory → List ℕ
 groups_joined org d = map (λ (m : GroupMember). m.group) (memberships_in_groups org d)
 
+-- the active groups of which the organisation is a member
 abbrev pub active_groups_joined : ℕ → Directory → List ℕ
 active_groups_joined org d = filter (λ n. has_group_being n true d) (groups_joined org d)
 
--- those whose client it is
+-- the organisations whose client it is
 abbrev pub orgs_whose_client : ℕ → Directory → List ℕ
 orgs_whose_client client d = map (λ (c : Client). c.org) (filter (λ (c : Client). c.client == client) d.clients)
 
--- ---- how organisations stand to each other
+-- ---- two organisations
 
--- they are in one community
+-- both organisations are members of one community
 abbrev pub share_community : ℕ → ℕ → Directory → Bool
 share_community org other d = list_any (λ n. has_membership n other d) (communities_of org d)
 
--- one is in one of two connected communities, and the other in the other
+-- of the two connected communities, one organisation is in the one and the other in the other
 abbrev pub joins : ℕ → ℕ → Directory → Connection → Bool
 joins org other d l =
     (has_membership l.low org d && has_membership l.high other d) || (has_membership l.high org d && has_membership l.low other d)
 
+-- some connection joins communities of both organisations
 abbrev pub are_connected : ℕ → ℕ → Directory → Bool
 are_connected org other d = list_any (joins org other d) d.connections
 
--- what the source arranged with the organisation
+-- what the source arranged with the organisation, if anything
 abbrev pub arranged : ℕ → ℕ → Directory → Option Handling
 arranged source org d = option_map (λ (a : Arrangement). a.handling) (find (λ (a : Arrangement). a.source == source && a.org == org) d.arrangements)

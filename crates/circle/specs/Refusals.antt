@@ -1,4 +1,4 @@
--- On which grounds a command is refused.
+-- The grounds on which a command is refused.
 use Rattle.std.specs.Prelude.{ℕ, Bool, true, false, not, ◌&&◌, ◌||◌, ◌==◌, nat_le, List, [], ◌∷◌, length, Option, Some, None, if◌then◌else◌, codes, min, max}
 use Rattle.circle.specs.declared.TheConstants.{ORG_LIMIT, PERSON_LIMIT, COMMUNITY_LIMIT, GROUP_LIMIT}
 use Rattle.circle.specs.declared.directory.Role.{Role}
@@ -13,7 +13,7 @@ use Rattle.circle.specs.Outcomes.{bare}
 use Rattle.circle.specs.Texts.{is_name, is_releasability}
 use Rattle.circle.specs.Directory.{Directory, has_org, has_org_named, has_person, has_key, has_suspended, has_nominated, has_person_of, has_client, has_community, has_community_named, has_membership, has_connection, has_group_named, has_group_of, has_group_being, has_group_member, has_extender, has_arrangement}
 
--- a ground: whether it holds, and what is answered then
+-- a ground: whether it holds, and the answer if it does
 pub record Ground : Type 0 where
   pub holds : Bool
   pub answer : Refusal
@@ -23,49 +23,61 @@ abbrev pub first_answer : List Ground → Option Refusal
 first_answer [] = None
 first_answer (g ∷ gs) = if g.holds then Some g.answer else first_answer gs
 
+-- a ground with this code and no detail
 abbrev pub refuse : Code → Bool → Ground
 refuse code holds = record { holds = holds; answer = bare code }
 
 -- ---- the grounds, each under its name
 
+-- whether the role is that of an administrator
 abbrev pub is_administrator : Role → Bool
 is_administrator Administrator = true
 is_administrator _ = false
 
+-- whether the role is that of a coordinator
 abbrev pub is_coordinator : Role → Bool
 is_coordinator Coordinator = true
 is_coordinator _ = false
 
+-- `W1` unless the actor is an administrator
 abbrev pub unless_administrator : Person → Ground
 unless_administrator actor = refuse W1 (not (is_administrator actor.role))
 
+-- `W1` unless the actor is a coordinator
 abbrev pub unless_coordinator : Person → Ground
 unless_coordinator actor = refuse W1 (not (is_coordinator actor.role))
 
+-- `B1` with the field as its detail, if the argument is bad
 abbrev pub bad : List ℕ → Bool → Ground
 bad field holds = record { holds = holds; answer = record { code = B1; detail = field } }
 
+-- `N2` unless the row that is named is there
 abbrev pub unknown_unless : Bool → Ground
 unknown_unless known = refuse N2 (not known)
 
+-- `W2` if the group isn't the actor's to extend or to change
 abbrev pub not_yours : Bool → Ground
 not_yours = refuse W2
 
+-- `W3` unless the person is of the actor's organisation
 abbrev pub stranger_unless : Bool → Ground
 stranger_unless own = refuse W3 (not own)
 
+-- `S1` if it is so already
 abbrev pub already : Bool → Ground
 already = refuse S1
 
+-- `S2` unless it is so
 abbrev pub not_so_unless : Bool → Ground
 not_so_unless stands = refuse S2 (not stands)
 
+-- `L1` if there are as many rows as the limit
 abbrev pub full : ℕ → {X : Type 0} → List X → Ground
 full limit rows = refuse L1 (nat_le limit (length rows))
 
 -- ---- the table
 
--- why the actor's command may be refused, the first ground first
+-- the table of refusals: the grounds of the actor's command, in their order
 abbrev pub grounds : Directory → Person → CircleCommand → List Ground
 grounds d a (AddOrg name) =
     unless_administrator a ∷ bad (codes "name") (not (is_name name)) ∷ already (has_org_named name d) ∷ full ORG_LIMIT d.orgs ∷ []
@@ -104,5 +116,6 @@ grounds d a (Nominate person) =
 grounds d a (Unnominate person) =
     unless_coordinator a ∷ unknown_unless (has_person person d) ∷ stranger_unless (has_person_of person a.org d) ∷ not_so_unless (has_nominated person d) ∷ []
 
+-- the refusal of the actor's command: the answer of the first ground that holds, if one holds
 abbrev pub refusal_of : Directory → Person → CircleCommand → Option Refusal
 refusal_of d actor command = first_answer (grounds d actor command)

@@ -1,12 +1,12 @@
-//! The rows of the directory. Numbers of organisations, persons, communities and groups count from 1.
+//! The rows of the directory. The numbers of organisations, persons, communities and groups count from 1.
 ghost use Rattle.std.specs.Prelude.{◌≡◌, min, max};
 
 use crate::name::Name;
 use crate::releasability::Releasability;
 use std::alloc::AllocError;
 
-/// What a person may do: an administrator keeps the directory, a coordinator its organisation's groups,
-/// arrangements and nominations, a poster posts incidents as a coordinator does, and everybody reads.
+/// What a person may do: an administrator keeps the directory; a coordinator keeps its organisation's groups,
+/// arrangements and nominations, and posts incidents; a poster posts incidents; everybody reads.
 #[derive(Clone, Copy, Debug, PartialEq, Eq)]
 pub enum Role {
     Administrator,
@@ -15,7 +15,10 @@ pub enum Role {
     Reader,
 }
 
-/// How what is marked `default` is to be handled (RFC 7970 section 3.3.1; the labels of TLP 2.0).
+/// How an organisation handles the label `default` (RFC 7970 section 3.3.1; the labels of TLP 2.0).
+///
+/// A type of this crate, although `marking` has one too: so `circle` is checked, and its edits are tried, without
+/// reading the crates of documents. The crate above turns one into the other.
 #[derive(Clone, Copy, Debug, PartialEq, Eq)]
 pub enum Handling {
     Clear,
@@ -25,7 +28,7 @@ pub enum Handling {
     Red,
 }
 
-/// An organisation; no other has its name.
+/// An organisation. No two have the same name.
 #[derive(Clone, Debug, PartialEq, Eq, Drop)]
 pub struct Org {
     pub number: u32,
@@ -39,13 +42,13 @@ pub struct Person {
     pub org: u32,
     pub name: Name,
     pub role: Role,
-    /// Not suspended.
+    /// Whether the person isn't suspended.
     pub active: bool,
-    /// Named by a coordinator of its organisation for what is for the organisation's few.
+    /// Whether a coordinator of its organisation nominated it (TLP 2.0, TLP:AMBER+STRICT).
     pub nominated: bool,
 }
 
-/// A person with the SHA-256 of its key; no other person has the same.
+/// A person with the SHA-256 of its key. No two persons, suspended or not, have the same key.
 #[derive(Clone, Debug, PartialEq, Eq, Drop)]
 pub struct Account {
     pub person: Person,
@@ -59,7 +62,7 @@ pub struct Client {
     pub client: u32,
 }
 
-/// A community of organisations; no other has its name.
+/// A community of organisations. No two have the same name.
 #[derive(Clone, Debug, PartialEq, Eq, Drop)]
 pub struct Community {
     pub number: u32,
@@ -73,14 +76,15 @@ pub struct Membership {
     pub org: u32,
 }
 
-/// Two communities that are connected (the MISP book, distribution level 2), the smaller number first.
+/// Two connected communities (the MISP book, distribution level 2), the smaller number first. The commands `Link` and
+/// `Unlink` put it in and take it out.
 #[derive(Clone, Copy, Debug, PartialEq, Eq)]
 pub struct Connection {
     pub low: u32,
     pub high: u32,
 }
 
-/// A sharing group (the MISP book, distribution level 4); its owner has no other of this name.
+/// A sharing group (the MISP book, distribution level 4). No two groups of one owner have the same name.
 #[derive(Debug, PartialEq, Eq, Drop)]
 pub struct Group {
     pub number: u32,
@@ -90,7 +94,7 @@ pub struct Group {
     pub active: bool,
 }
 
-/// A group and one of its organisations, which adds others where `extend` is set.
+/// A group and one of its members, which may put in others if `extend` is set.
 #[derive(Clone, Copy, Debug, PartialEq, Eq)]
 pub struct GroupMember {
     pub group: u32,
@@ -98,7 +102,7 @@ pub struct GroupMember {
     pub extend: bool,
 }
 
-/// How an organisation handles what the source marks `default`, as the source's coordinator set it.
+/// How an organisation handles the label `default` of the source, as a coordinator of the source arranged it.
 #[derive(Clone, Copy, Debug, PartialEq, Eq)]
 pub struct Arrangement {
     pub source: u32,
@@ -107,7 +111,7 @@ pub struct Arrangement {
 }
 
 impl Connection {
-    /// The connection of two communities, named in either order.
+    /// Returns the connection of two communities, given in either order.
     pub fn between(one: u32, other: u32) -> Connection
         ensures { result ≡ record { low = min one other; high = max one other } }
     {
@@ -118,7 +122,7 @@ impl Connection {
     }
 }
 
-// Derived, these copies would have an exit for want of memory at each field; only the texts take any.
+// Written by hand: derived, these copies would fail for want of memory at each field, and only the texts take any.
 
 impl Clone for Person {
     ghost is_clone = { λ person copy. copy ≡ person };

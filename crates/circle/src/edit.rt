@@ -1,4 +1,4 @@
-//! What a command would change, where its arguments are good.
+//! The edit of a command whose arguments are good.
 ghost use Rattle.std.specs.Prelude.{◌≡◌, ◌==◌, Ok, true, false, not, codes, None, IfOk, IfErr, OnOk};
 ghost use Rattle.circle.specs.declared.command.Edit.TheVariants.{Row, Found};
 ghost use Rattle.circle.specs.declared.command.RowEdit.TheVariants.{PutOrg, PutAccount, PutCommunity};
@@ -17,20 +17,24 @@ use crate::releasability::Releasability;
 use crate::text::Text;
 use std::alloc::{AllocError, Global};
 
-/// Why there is no edit: the first bad field, or want of memory.
+/// Why there is no edit.
 #[derive(Clone, Copy)]
 pub enum Unfit {
+    /// The first bad field.
     BadField(&'static str),
+    /// Memory ran out.
     NoMemory,
 }
 
 impl CircleCommand {
-    /// The change that the command makes, where it puts a row of this number; else its first bad field.
+    /// Returns the edit of the command, whose new row gets this number. Fails with the first bad field.
     pub(crate) fn edit(&self, alloc: Global, actor: &Person, number: u32) -> Result<Edit, Unfit>
         ensures good { OnOk result (bad_field self.now actor.now ≡ None) }
         ensures value { IfOk result (λ edit. edit ≡ edit_of number actor.now self.now) }
         ensures bad { IfErr result (TellsUnfit (bad_field self.now actor.now)) }
     {
+        // A table with an arm for each command. In two halves, each would have to say which commands it gets, and
+        // prove that it never meets the others.
         match *self {
             CircleCommand::AddOrg { ref name } => new_org(alloc, number, name),
             CircleCommand::AddPerson {
@@ -104,14 +108,14 @@ impl CircleCommand {
     }
 }
 
-/// The edit of a row, which no argument can spoil.
+/// Returns the edit of a row that no argument can spoil.
 fn row(edit: RowEdit) -> Result<Edit, Unfit>
     ensures { result ≡ Ok (Row edit) }
 {
     Ok(Edit::Row(edit))
 }
 
-/// The edit of a row, unless two numbers that have to differ are the same.
+/// Returns the edit of a row. Fails with the field if two numbers that have to differ are the same.
 fn unless_same(one: u32, other: u32, field: &'static str, edit: RowEdit) -> Result<Edit, Unfit>
     ensures good { OnOk result (field_if (one == other) field.now None ≡ None) }
     ensures value { IfOk result (λ made. made ≡ Row edit) }
@@ -124,6 +128,7 @@ fn unless_same(one: u32, other: u32, field: &'static str, edit: RowEdit) -> Resu
     }
 }
 
+/// Returns the text as a name. Fails with the field `name`.
 fn fit_name(alloc: Global, text: &Text) -> Result<Name, Unfit>
     ensures good { OnOk result (is_name text.now ≡ true) }
     ensures value { IfOk result (λ name. name ≡ text.now) }
@@ -137,6 +142,7 @@ fn fit_name(alloc: Global, text: &Text) -> Result<Name, Unfit>
     }
 }
 
+/// Returns the text as a releasability. Fails with the field `releasability`.
 fn fit_releasability(alloc: Global, text: &Text) -> Result<Releasability, Unfit>
     ensures good { OnOk result (is_releasability text.now ≡ true) }
     ensures value { IfOk result (λ found. found ≡ text.now) }
@@ -150,6 +156,7 @@ fn fit_releasability(alloc: Global, text: &Text) -> Result<Releasability, Unfit>
     }
 }
 
+/// Returns the edit that puts in an organisation.
 fn new_org(alloc: Global, number: u32, name: &Text) -> Result<Edit, Unfit>
     ensures good { OnOk result (field_if (not (is_name name.now)) (codes "name") None ≡ None) }
     ensures value { IfOk result (λ edit. edit ≡
@@ -161,6 +168,7 @@ fn new_org(alloc: Global, number: u32, name: &Text) -> Result<Edit, Unfit>
     Ok(Edit::Row(RowEdit::PutOrg(Org { number, name })))
 }
 
+/// Returns the edit that puts in a person, active and not nominated.
 fn new_account(
     alloc: Global,
     number: u32,
@@ -198,6 +206,7 @@ fn new_account(
     Ok(Edit::Row(RowEdit::PutAccount(Account { person, key })))
 }
 
+/// Returns the edit that puts in a community.
 fn new_community(alloc: Global, number: u32, name: &Text) -> Result<Edit, Unfit>
     ensures good { OnOk result (field_if (not (is_name name.now)) (codes "name") None ≡ None) }
     ensures value { IfOk result (λ edit. edit ≡
@@ -209,6 +218,7 @@ fn new_community(alloc: Global, number: u32, name: &Text) -> Result<Edit, Unfit>
     Ok(Edit::Row(RowEdit::PutCommunity(Community { number, name })))
 }
 
+/// Returns the edit that founds an active group.
 fn new_group(
     alloc: Global,
     number: u32,
@@ -242,7 +252,7 @@ fn new_group(
 }
 
 impl Edit {
-    /// The change as edits of rows, to be made one after another.
+    /// Returns the change as edits of rows, which are to be made one after another. Fails if memory runs out.
     pub fn into_rows(self, alloc: Global) -> Result<Vec<RowEdit>, AllocError>
         ensures { IfOk result (λ rows. rows.items ≡ rows_of self) }
     {

@@ -1,4 +1,4 @@
-//! Why a command is refused, or what it changes: by the facts alone.
+//! Judges a command by its facts: why it is refused, or what it changes.
 ghost use Rattle.std.specs.Prelude.{◌≡◌, ◌+◌, None, IfOk, IfErr, OnOk, option_map};
 ghost use Rattle.circle.specs.Outcomes.{RefusedAs, bare};
 ghost use Rattle.circle.specs.Directory.{Directory};
@@ -15,9 +15,12 @@ use crate::refusal::{Code, Refusal};
 use crate::{COMMUNITY_LIMIT, GROUP_LIMIT, ORG_LIMIT, PERSON_LIMIT};
 use std::alloc::Global;
 
-/// The refusal of the actor's command, or the whole change that it makes. The refusal is the first ground of the facts,
-/// whatever facts they are, and that of each directory of which these are the facts. Where a number is given the change is
-/// that of each sound one. Want of memory is `F2`, which may stand in place of any answer.
+/// Returns the whole change that the actor's command makes. Fails with the refusal: the first ground that the facts
+/// give, whatever facts they are. It is the refusal of each directory with these facts, and the change leads each
+/// sound one to its next state. Only a sound directory has numbers without gaps, so that the count plus one is the
+/// next number.
+///
+/// Want of memory is `F2`, which may come in place of any answer.
 pub fn judge(
     alloc: Global,
     actor: &Person,
@@ -38,7 +41,7 @@ pub fn judge(
     judge_by_facts(alloc, actor, facts, command)
 }
 
-/// The refusal, or the change, by the facts alone, whatever the directory.
+/// Judges by the facts only, whatever the directory is.
 fn judge_by_facts(
     alloc: Global,
     actor: &Person,
@@ -53,6 +56,8 @@ fn judge_by_facts(
     if !command.is_allowed(actor.role) {
         return Err(Refusal::bare(alloc, Code::W1));
     }
+    // The edit before the facts, since making its names is the only test of them. So a name may be allocated for a
+    // command that is refused afterwards; `F2` is then a right answer.
     let edit = match command.edit(alloc, actor, facts.count.saturating_add(1)) {
         Ok(edit) => edit,
         Err(Unfit::BadField(field)) => return Err(Refusal::new(alloc, Code::B1, field)),
@@ -65,6 +70,7 @@ fn judge_by_facts(
 }
 
 impl CircleCommand {
+    /// Returns whether the role allows the command.
     fn is_allowed(&self, role: Role) -> bool
         ensures { result ≡ is_allowed self.now role }
     {
@@ -83,7 +89,7 @@ impl CircleCommand {
         }
     }
 
-    /// What the facts have against a command whose arguments are good: the first ground from `N2` on.
+    /// Returns the first ground from `N2` on that the facts give against a command with good arguments.
     fn objection(&self, facts: &CircleFacts) -> Option<Code>
         ensures { option_map bare result ≡ objection_of facts.now self.now }
     {
@@ -109,6 +115,7 @@ impl CircleCommand {
         None
     }
 
+    /// Returns whether the actor's organisation may not change the group so.
     fn lacks_right(&self, facts: &CircleFacts) -> bool
         ensures { result ≡ lacks_right self.now facts.now }
     {
@@ -120,6 +127,7 @@ impl CircleCommand {
         }
     }
 
+    /// Returns whether the person is of another organisation.
     fn is_strange(&self, facts: &CircleFacts) -> bool
         ensures { result ≡ is_strange self.now facts.now }
     {
@@ -129,6 +137,7 @@ impl CircleCommand {
         }
     }
 
+    /// Returns whether the command takes something back.
     fn is_removal(&self) -> bool
         ensures { result ≡ is_removal self.now }
     {
@@ -143,7 +152,7 @@ impl CircleCommand {
         )
     }
 
-    /// How many rows there may be of the kind that the command numbers.
+    /// Returns the limit of the kind of row that the command numbers.
     fn limit(&self) -> u32
         ensures { result ≡ limit_of self.now }
     {
@@ -151,7 +160,7 @@ impl CircleCommand {
             CircleCommand::AddOrg { .. } => ORG_LIMIT,
             CircleCommand::AddPerson { .. } => PERSON_LIMIT,
             CircleCommand::AddCommunity { .. } => COMMUNITY_LIMIT,
-            // of what numbers nothing the facts count 0, so any limit lets it pass
+            // For a command that numbers nothing the count is 0, so any limit lets it pass.
             _ => GROUP_LIMIT,
         }
     }

@@ -1,10 +1,10 @@
-//! Laws of the definitions, each the contract of a function that does nothing.
+//! Laws of the definitions. Each law is the contract of a function that does nothing.
 ghost use Rattle.circle.specs.Laws.{EditsAreRows, EmptyIsSound, NothingVanishes, OrganisationsKeepApart, OwnersStay, RefusalsLeaveAll, StaysSound, SuspendedStays};
 ghost use Rattle.circle.specs.Order.{GroundsAscend};
 ghost use Rattle.circle.specs.declared.TheConstants.{ORG_LIMIT, PERSON_LIMIT, COMMUNITY_LIMIT, GROUP_LIMIT, NAME_LIMIT, RELEASABILITY_LIMIT};
 ghost use Rattle.std.specs.Prelude.{◌≡◌};
 
-/// What a person of a sound directory changes leaves it sound.
+/// A command of a person of a sound directory leaves the directory sound.
 pub fn stays_sound()
     ensures { StaysSound }
 {}
@@ -19,18 +19,18 @@ pub fn empty_is_sound()
     ensures { EmptyIsSound }
 {}
 
-/// The grounds of each command stand in the order of the codes.
+/// The grounds of each command are in the order of the codes.
 pub fn grounds_in_order()
     ensures { GroundsAscend }
 {}
 
-/// A refused command leaves every row.
+/// A refused command changes no row.
 pub fn refusals_leave_all()
     ensures { RefusalsLeaveAll }
 {}
 
-/// No command of a person of one organisation changes another organisation's arrangements, nominations or
-/// groups, except that an extend flag lets it put a member into a group.
+/// No command of a person of one organisation changes another organisation's arrangements, nominations or groups,
+/// except that an extend flag lets it put a member into a group.
 pub fn organisations_keep_apart()
     ensures { OrganisationsKeepApart }
 {}

@@ -1,13 +1,13 @@
 //! The circle: its organisations, persons, communities, sharing groups and arrangements, and who may change them.
 //!
-//! To read first, in `specs/`: `Refusals`, the table of commands, each with its grounds in order; `Aftermath`, what an
-//! accepted command changes; `Sound`, what is always so of a directory. Then the contract of [`judge::judge`].
+//! Read first, in `specs/`: `Refusals`, the table of commands, each with its grounds in order; `Aftermath`, what an
+//! accepted command changes; `Sound`, what always holds of a directory. Then the contract of [`judge::judge`].
 //!
-//! The rooms, in the way of a command:
+//! The modules, in the order of a command:
 //!
-//! - [`command`]: what is asked, what is found out about it, and the edit that it leads to; its texts are [`text`];
+//! - [`command`]: a command, its facts, and the edit that it leads to; its texts are [`text`];
 //! - [`directory`]: the rows, whose texts keep limits: [`name`], [`releasability`];
-//! - [`judge`]: the refusal or the edit, by what was found out alone; `edit` makes the edit;
+//! - [`judge`]: the refusal or the edit, from the facts; `edit` makes the edit;
 //! - [`refusal`]: the codes of the whole product, and a refusal with its detail;
 //! - [`laws`]: what holds of every directory and every command.
 #![tactic(auto)]
@@ -25,13 +25,13 @@ pub mod text;
 /// How many organisations there may be.
 pub const ORG_LIMIT: u32 = 1_000;
 
-/// How many persons there may be, the suspended ones too.
+/// How many persons there may be, suspended ones too.
 pub const PERSON_LIMIT: u32 = 10_000;
 
 /// How many communities there may be.
 pub const COMMUNITY_LIMIT: u32 = 1_000;
 
-/// How many sharing groups there may be, those that aren't active too.
+/// How many sharing groups there may be, inactive ones too.
 pub const GROUP_LIMIT: u32 = 1_000;
 
 /// How many bytes a name may have.

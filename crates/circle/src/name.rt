@@ -1,4 +1,4 @@
-//! Names, which keep their limits.
+//! Names within their limits.
 ghost use Rattle.std.specs.Prelude.{◌≡◌, IfOk, IsTrue, Some, None, if◌then◌else◌, string_bytes};
 ghost use Rattle.std.specs.List.{list_all};
 ghost use Rattle.circle.specs.Texts.{is_name, is_no_control};
@@ -7,8 +7,8 @@ use crate::NAME_LIMIT;
 use std::alloc::{AllocError, Global};
 use std::marker::Model;
 
-/// The name of an organisation, a person, a community or a group: 1 to [`NAME_LIMIT`] bytes, none of them
-/// a control character of ASCII.
+/// The name of an organisation, a person, a community or a group: 1 to [`NAME_LIMIT`] bytes, none of which is a
+/// control character of ASCII. Bytes count, not letters; nothing is trimmed.
 #[derive(Debug, Drop)]
 pub struct Name {
     text: String,
@@ -26,7 +26,7 @@ impl Model for Name {
 }
 
 impl Name {
-    /// The text as a name; `None` where it is outside the limits.
+    /// Returns the text as a name, or `None` if it is outside the limits. Fails if memory runs out.
     pub fn of(alloc: Global, text: &str) -> Result<Option<Name>, AllocError>
         ensures { IfOk result (λ name. name ≡ (if is_name text.now then Some text.now else None)) }
     {
@@ -37,6 +37,7 @@ impl Name {
         Ok(Some(Name { text }))
     }
 
+    /// Returns the name as a string slice.
     pub fn as_str(&self) -> &str
         ensures value { result.now ≡ self.now }
         ensures limits { IsTrue (is_name self.now) }
@@ -44,7 +45,7 @@ impl Name {
         self.text.as_str()
     }
 
-    /// Gives the string back; takes no memory.
+    /// Returns the string. Allocates nothing.
     pub fn into_string(self) -> String
         ensures value { string_bytes result ≡ self }
         ensures limits { IsTrue (is_name self) }
@@ -53,6 +54,7 @@ impl Name {
     }
 }
 
+/// Returns whether the text is a name.
 fn names_something(text: &str) -> bool
     ensures { result ≡ is_name text.now }
 {
@@ -60,6 +62,7 @@ fn names_something(text: &str) -> bool
     1 <= bytes.len() && bytes.len() <= NAME_LIMIT && has_no_control(bytes)
 }
 
+/// Returns whether no byte is a control character of ASCII.
 fn has_no_control(bytes: &[u8]) -> bool
     ensures { result ≡ list_all is_no_control bytes.now }
 {

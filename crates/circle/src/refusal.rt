@@ -7,42 +7,42 @@ use crate::text::Text;
 use std::alloc::Global;
 use thiserror::Error;
 
-/// Why a request was not done, in the order in which the grounds are asked; `F1` and `F2` may stand
-/// in place of any other answer.
+/// Why a request was not done, in the order in which the grounds are asked. `F1` and `F2` may come in place of any
+/// other answer.
 #[derive(Clone, Copy, Debug, PartialEq, Eq)]
 pub enum Code {
     /// The key is unknown, or its person is suspended.
     K1,
     /// The actor's role doesn't allow the request.
     W1,
-    /// An argument is bad; the detail names it.
+    /// An argument is bad. The detail names it.
     B1,
     /// There is no such incident for the actor.
     N1,
     /// There is no such organisation, person, community or group.
     N2,
-    /// The group isn't the actor's to extend or to change.
+    /// The actor may not extend or change the group.
     W2,
-    /// The person isn't the actor's to nominate.
+    /// The actor may not nominate the person.
     W3,
     /// There is no such class.
     N3,
-    /// What the request would bring about stands already.
+    /// It is so already: the row, name, key or flag is there.
     S1,
-    /// What the request would take back doesn't stand.
+    /// It is not so: there is nothing to take back.
     S2,
     /// The incident has another revision.
     S3,
     /// A limit would be passed.
     L1,
-    /// A call of the store failed.
+    /// The store failed.
     F1,
-    /// The memory didn't suffice.
+    /// Memory ran out.
     F2,
 }
 
 impl Code {
-    /// The code as replies show it.
+    /// Returns the code's name, as replies show it.
     pub fn name(self) -> &'static str
         ensures { result.now ≡ name_of self }
     {
@@ -64,7 +64,7 @@ impl Code {
         }
     }
 
-    /// The status of the reply (RFC 9110 section 15).
+    /// Returns the HTTP status of the reply (RFC 9110 section 15).
     pub fn status(self) -> u16
         ensures { result ≡ status_of self }
     {
@@ -78,7 +78,7 @@ impl Code {
         }
     }
 
-    /// The reason in words, as replies show it.
+    /// Returns the reason in words, as replies show it.
     pub fn reason(self) -> &'static str
         ensures { result.now ≡ reason_of self }
     {
@@ -101,16 +101,18 @@ impl Code {
     }
 }
 
-/// A refusal: its code, and what it tells beside it, which is empty for most codes.
+/// A refusal. A refusal of a directory's command has a detail only for `B1`.
 #[derive(Debug, Drop, Error)]
 #[error("{reason}", reason = .code.reason())]
 pub struct Refusal {
+    /// The code.
     pub code: Code,
+    /// The field of a bad argument, or what else the code has to say.
     pub detail: Text,
 }
 
 impl Refusal {
-    /// The refusal without a detail; it takes no memory.
+    /// Returns a refusal without a detail. Allocates nothing.
     pub fn bare(alloc: Global, code: Code) -> Refusal
         ensures { result ≡ bare code }
     {
@@ -120,7 +122,7 @@ impl Refusal {
         }
     }
 
-    /// The refusal with this detail, or that of want of memory.
+    /// Returns a refusal with this detail, or `F2` if memory runs out.
     pub fn new(alloc: Global, code: Code, detail: &str) -> Refusal
         ensures { (result ≡ record { code = code; detail = detail.now }) ⊎ (result ≡ no_memory) }
     {

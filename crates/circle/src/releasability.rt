@@ -1,4 +1,4 @@
-//! To whom what a group shares may be released: a text that keeps its limit.
+//! Releasabilities within their limit.
 ghost use Rattle.std.specs.Prelude.{◌≡◌, IfOk, IsTrue, Some, None, if◌then◌else◌, string_bytes};
 ghost use Rattle.circle.specs.Texts.{is_releasability};
 
@@ -6,7 +6,8 @@ use crate::RELEASABILITY_LIMIT;
 use std::alloc::{AllocError, Global};
 use std::marker::Model;
 
-/// To whom a group's content may be passed on, in the group's own words: at most [`RELEASABILITY_LIMIT`] bytes.
+/// To whom a group's content may be passed on, in the group's own words: at most [`RELEASABILITY_LIMIT`] bytes, of any
+/// kind.
 #[derive(Debug, Drop)]
 pub struct Releasability {
     text: String,
@@ -24,7 +25,7 @@ impl Model for Releasability {
 }
 
 impl Releasability {
-    /// The text as a releasability; `None` where it is too long.
+    /// Returns the text as a releasability, or `None` if it is too long. Fails if memory runs out.
     pub fn of(alloc: Global, text: &str) -> Result<Option<Releasability>, AllocError>
         ensures { IfOk result (λ found. found ≡
             (if is_releasability text.now then Some text.now else None)) }
@@ -36,6 +37,7 @@ impl Releasability {
         Ok(Some(Releasability { text }))
     }
 
+    /// Returns the releasability as a string slice.
     pub fn as_str(&self) -> &str
         ensures value { result.now ≡ self.now }
         ensures limits { IsTrue (is_releasability self.now) }
@@ -43,7 +45,7 @@ impl Releasability {
         self.text.as_str()
     }
 
-    /// Gives the string back; takes no memory.
+    /// Returns the string. Allocates nothing.
     pub fn into_string(self) -> String
         ensures value { string_bytes result ≡ self }
         ensures limits { IsTrue (is_releasability self) }

@@ -1,10 +1,13 @@
-//! Texts of any length, as they are asked for.
+//! Texts of any length, as a command gives them.
 ghost use Rattle.std.specs.Prelude.{◌≡◌, IfOk, string_bytes};
 
 use std::alloc::{AllocError, Global};
 use std::marker::Model;
 
-/// A text as it was asked for, of any length; contracts see its bytes.
+/// A text of any length. Contracts see its bytes.
+///
+/// A type of this crate, although `json_pointer` has one too: so `circle` is checked, and its edits are tried, without
+/// reading the crates of documents.
 #[derive(Debug, Drop)]
 pub struct Text {
     text: String,
@@ -19,26 +22,28 @@ impl Model for Text {
 }
 
 impl Text {
-    /// The text of a string; takes no memory.
+    /// Returns the text of a string. Allocates nothing.
     pub fn new(text: String) -> Text
         ensures { result ≡ string_bytes text }
     {
         Text { text }
     }
 
+    /// Returns the text of a string slice, which is copied. Fails if memory runs out.
     pub fn of(alloc: Global, text: &str) -> Result<Text, AllocError>
         ensures { IfOk result (λ t. t ≡ text.now) }
     {
         Ok(Text::new(String::from_str(alloc, text)?))
     }
 
+    /// Returns the text as a string slice.
     pub fn as_str(&self) -> &str
         ensures { result.now ≡ self.now }
     {
         self.text.as_str()
     }
 
-    /// Gives the string back; takes no memory.
+    /// Returns the string. Allocates nothing.
     pub fn into_string(self) -> String
         ensures { string_bytes result ≡ self }
     {

@@ -15,7 +15,7 @@ use Rattle.circle.proofs.Keeping.{each_put, each_weaker, pairs_left}
 use Rattle.circle.proofs.Kept.{same_when}
 use Rattle.circle_rows.specs.Rows.{IsAscending}
 
--- x is below y and z isn't: so z isn't below x
+-- if x is below y and z isn't, z isn't below x
 above_new : (x y z : ℕ × ℕ) → is_lt (pair_cmp x y) ≡ true → is_lt (pair_cmp z y) ≡ false → is_lt (pair_cmp z x) ≡ false
 above_new x y z here there = grind (arith, nat_tests)
 

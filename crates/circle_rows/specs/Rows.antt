@@ -5,6 +5,7 @@ use Rattle.circle.specs.Directory.{Directory, org_number, account_number, commun
 use Rattle.circle.specs.Stretches.{Ascend, numbered}
 use Rattle.circle_rows.specs.declared.sets.Sets.{Sets}
 
+-- the directory of the rows in memory
 abbrev pub directory_of : Sets → Directory
 directory_of s = record {
   orgs = s.orgs.items;
@@ -30,7 +31,7 @@ pub record IsAscending (d : Directory) : Type 0 where
   pub group_members : Ascend group_member_key d.group_members
   pub arrangements : Ascend arrangement_key d.arrangements
 
--- each set takes so many rows more without memory
+-- each set takes this many rows more without allocating
 pub record HasRoom (n : ℕ) (s : Sets) : Type 0 where
   pub orgs : vec_len s.orgs + n ≤ vec_capacity s.orgs
   pub accounts : vec_len s.accounts + n ≤ vec_capacity s.accounts

@@ -1,4 +1,5 @@
-//! What a directory in memory finds out about a command.
+//! The facts that a directory in memory finds out about a command. They are filled for a bad command too: a missing
+//! row makes a fact false.
 ghost use Rattle.std.specs.Prelude.{◌≡◌, ◌≤◌, min};
 ghost use Rattle.circle.specs.Facts.{exists_in, may_extend_in, owns_in, target_owns_in, is_own_person, stands_in, count_in, facts_of};
 ghost use Rattle.circle.specs.Sound.{IsSound};
@@ -8,7 +9,8 @@ use circle::command::{CircleCommand, CircleFacts};
 use circle::directory::Person;
 
 impl DirectoryRows {
-    /// The facts of the actor's command. The count goes as far as a u32 counts, which is further than a sound directory does.
+    /// Returns the facts of the actor's command. The count is at most 4,294,967,295, which is more than a sound
+    /// directory has.
     pub fn facts(&self, actor: &Person, command: &CircleCommand) -> CircleFacts
         ensures told { result ≡ record
             (facts_of self.now actor.now command.now) {
@@ -28,6 +30,7 @@ impl DirectoryRows {
         }
     }
 
+    /// Returns whether all that the command names is there.
     fn knows(&self, actor: &Person, command: &CircleCommand) -> bool
         ensures { result ≡ exists_in self.now actor.now command.now }
     {
@@ -59,6 +62,7 @@ impl DirectoryRows {
         }
     }
 
+    /// Returns whether the actor's organisation may extend the group.
     fn lets_extend(&self, actor: &Person, command: &CircleCommand) -> bool
         ensures { result ≡ may_extend_in self.now actor.now command.now }
     {
@@ -70,6 +74,7 @@ impl DirectoryRows {
         }
     }
 
+    /// Returns whether the actor's organisation owns the group.
     fn is_owned(&self, actor: &Person, command: &CircleCommand) -> bool
         ensures { result ≡ owns_in self.now actor.now command.now }
     {
@@ -81,6 +86,7 @@ impl DirectoryRows {
         }
     }
 
+    /// Returns whether the organisation that is named owns the group.
     fn is_targets(&self, command: &CircleCommand) -> bool
         ensures { result ≡ target_owns_in self.now command.now }
     {
@@ -90,6 +96,7 @@ impl DirectoryRows {
         }
     }
 
+    /// Returns whether the person is of the actor's organisation.
     fn is_persons_own(&self, actor: &Person, command: &CircleCommand) -> bool
         ensures { result ≡ is_own_person self.now actor.now command.now }
     {
@@ -101,6 +108,7 @@ impl DirectoryRows {
         }
     }
 
+    /// Returns whether the row, name, key or flag is there that the command would bring about, or take back.
     fn stands(&self, actor: &Person, command: &CircleCommand) -> bool
         ensures { result ≡ stands_in self.now actor.now command.now }
     {
@@ -131,6 +139,7 @@ impl DirectoryRows {
         }
     }
 
+    /// Returns how many rows there are of the kind that the command numbers.
     fn count(&self, command: &CircleCommand) -> u32
         ensures told { result ≡ min (count_in self.now command.now) 4294967295 }
         ensures exact { IsSound self.now → result ≡ count_in self.now command.now }
@@ -145,6 +154,7 @@ impl DirectoryRows {
     }
 }
 
+/// Returns a number of rows as a u32, at most its greatest value.
 fn as_count(rows: usize) -> u32
     ensures told { result ≡ min rows 4294967295 }
     ensures exact { rows ≤ 4294967295 → result ≡ rows }

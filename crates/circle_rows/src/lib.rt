@@ -1,13 +1,13 @@
-//! A directory of the circle in memory, for the shelf in memory and for tests: what the rules of `circle` ask of a
-//! directory, and the edits that they lead to, over sorted rows.
+//! A directory of the circle in memory, for the shelf in memory and for tests: the facts of commands and the edits
+//! that they lead to, over sorted rows.
 //!
-//! To read first: the contracts of [`DirectoryRows::facts`] and [`DirectoryRows::apply`], and `Rows` in `specs/`, the
+//! Read first: the contracts of [`DirectoryRows::facts`] and [`DirectoryRows::apply`], and `Rows` in `specs/`, the
 //! directory that the rows make.
 //!
-//! The rooms, from the outside in:
+//! The modules, from the outside in:
 //!
-//! - `rows`: [`DirectoryRows`], nine lists (`sets`) that are ordered by a key (`keys`, `keyed`);
-//! - `lookups`: whether it has a row; `facts`: what it finds out about a command; `reads`: what else is asked of it.
+//! - `rows`: [`DirectoryRows`], nine lists (`sets`) in the order of a key (`keys`, `keyed`);
+//! - `lookups`: whether it has a row; `facts`: the facts of a command; `reads`: other questions.
 #![tactic(auto)]
 
 mod facts;

@@ -8,70 +8,70 @@ use crate::rows::DirectoryRows;
 use circle::directory::{Account, Group, GroupMember};
 
 impl DirectoryRows {
-    /// Whether there is an organisation of this number.
+    /// Returns whether there is an organisation with this number.
     pub fn has_org(&self, number: u32) -> bool
         ensures { result ≡ has_org number self.now }
     {
         has_row(self.sets.orgs.as_slice(), (0, number))
     }
 
-    /// Whether an organisation has this name.
+    /// Returns whether there is an organisation with this name.
     pub fn has_org_named(&self, name: &str) -> bool
         ensures { result ≡ has_org_named name.now self.now }
     {
         self.sets.orgs.iter().any(|org| org.name.as_str() == name)
     }
 
-    /// Whether there is a person of this number.
+    /// Returns whether there is a person with this number.
     pub fn has_person(&self, number: u32) -> bool
         ensures { result ≡ has_person number self.now }
     {
         has_row(self.sets.accounts.as_slice(), (0, number))
     }
 
-    /// Whether a person has the key with this SHA-256.
+    /// Returns whether a person, suspended or not, has the key with this SHA-256.
     pub fn has_key(&self, key: &[u8; 32]) -> bool
         ensures { result ≡ has_key key.now self.now }
     {
         self.sets.accounts.iter().any(|account| account.key == *key)
     }
 
-    /// Whether the person is there, and suspended.
+    /// Returns whether the person is there and is suspended.
     pub fn has_suspended(&self, number: u32) -> bool
         ensures { result ≡ has_suspended number self.now }
     {
         is_any_suspended(rows_of_key(self.sets.accounts.as_slice(), (0, number)))
     }
 
-    /// Whether the person is there, and nominated.
+    /// Returns whether the person is there and is nominated.
     pub fn has_nominated(&self, number: u32) -> bool
         ensures { result ≡ has_nominated number self.now }
     {
         is_any_nominated(rows_of_key(self.sets.accounts.as_slice(), (0, number)))
     }
 
-    /// Whether the person is there, and of the organisation.
+    /// Returns whether the person is there and is of the organisation.
     pub fn has_person_of(&self, number: u32, org: u32) -> bool
         ensures { result ≡ has_person_of number org self.now }
     {
         is_any_of(rows_of_key(self.sets.accounts.as_slice(), (0, number)), org)
     }
 
-    /// Whether the one has the other as a client.
+    /// Returns whether the first organisation has the second as a client.
     pub fn has_client(&self, org: u32, client: u32) -> bool
         ensures { result ≡ has_client org client self.now }
     {
         has_row(self.sets.clients.as_slice(), (org, client))
     }
 
-    /// Whether there is a community of this number.
+    /// Returns whether there is a community with this number.
     pub fn has_community(&self, number: u32) -> bool
         ensures { result ≡ has_community number self.now }
     {
         has_row(self.sets.communities.as_slice(), (0, number))
     }
 
-    /// Whether a community has this name.
+    /// Returns whether there is a community with this name.
     pub fn has_community_named(&self, name: &str) -> bool
         ensures { result ≡ has_community_named name.now self.now }
     {
@@ -81,42 +81,42 @@ impl DirectoryRows {
             .any(|community| community.name.as_str() == name)
     }
 
-    /// Whether the organisation is of the community.
+    /// Returns whether the organisation is a member of the community.
     pub fn has_membership(&self, community: u32, org: u32) -> bool
         ensures { result ≡ has_membership community org self.now }
     {
         has_row(self.sets.memberships.as_slice(), (community, org))
     }
 
-    /// Whether the two communities are connected, the smaller number first.
+    /// Returns whether the two communities are connected. The smaller number comes first.
     pub fn has_connection(&self, low: u32, high: u32) -> bool
         ensures { result ≡ has_connection low high self.now }
     {
         has_row(self.sets.connections.as_slice(), (low, high))
     }
 
-    /// Whether there is a group of this number.
+    /// Returns whether there is a group with this number.
     pub fn has_group(&self, number: u32) -> bool
         ensures { result ≡ has_group number self.now }
     {
         has_row(self.sets.groups.as_slice(), (0, number))
     }
 
-    /// Whether the organisation owns a group of this name.
+    /// Returns whether the organisation owns a group with this name.
     pub fn has_group_named(&self, owner: u32, name: &str) -> bool
         ensures { result ≡ has_group_named owner name.now self.now }
     {
         self.sets.groups.iter().any(|group| group.owner == owner && group.name.as_str() == name)
     }
 
-    /// Whether the organisation owns the group.
+    /// Returns whether the organisation owns the group.
     pub fn has_group_of(&self, number: u32, owner: u32) -> bool
         ensures { result ≡ has_group_of number owner self.now }
     {
         is_any_owned(rows_of_key(self.sets.groups.as_slice(), (0, number)), owner)
     }
 
-    /// Whether the group is there, and its flag has this value.
+    /// Returns whether the group is there and its flag has this value.
     pub fn has_group_being(&self, number: u32, active: bool) -> bool
         ensures { result ≡ has_group_being number active self.now }
     {
@@ -126,21 +126,21 @@ impl DirectoryRows {
         )
     }
 
-    /// Whether the organisation is a member of the group.
+    /// Returns whether the organisation is a member of the group.
     pub fn has_group_member(&self, group: u32, org: u32) -> bool
         ensures { result ≡ has_group_member group org self.now }
     {
         has_row(self.sets.group_members.as_slice(), (group, org))
     }
 
-    /// Whether the organisation is a member of the group that may add others.
+    /// Returns whether the organisation is a member of the group that may extend it.
     pub fn has_extender(&self, group: u32, org: u32) -> bool
         ensures { result ≡ has_extender group org self.now }
     {
         may_any_extend(rows_of_key(self.sets.group_members.as_slice(), (group, org)))
     }
 
-    /// Whether the source arranged something with the organisation.
+    /// Returns whether the source arranged something with the organisation.
     pub fn has_arrangement(&self, source: u32, org: u32) -> bool
         ensures { result ≡ has_arrangement source org self.now }
     {
@@ -148,36 +148,42 @@ impl DirectoryRows {
     }
 }
 
+/// Returns whether one of the persons is suspended.
 fn is_any_suspended(rows: &[Account]) -> bool
     ensures { result ≡ list_any (λ a. not a.person.active) rows.now }
 {
     rows.iter().any(|account| !account.person.active)
 }
 
+/// Returns whether one of the persons is nominated.
 fn is_any_nominated(rows: &[Account]) -> bool
     ensures { result ≡ list_any (λ a. a.person.nominated) rows.now }
 {
     rows.iter().any(|account| account.person.nominated)
 }
 
+/// Returns whether one of the persons is of the organisation.
 fn is_any_of(rows: &[Account], org: u32) -> bool
     ensures { result ≡ list_any (λ a. a.person.org == org) rows.now }
 {
     rows.iter().any(|account| account.person.org == org)
 }
 
+/// Returns whether the organisation owns one of the groups.
 fn is_any_owned(rows: &[Group], owner: u32) -> bool
     ensures { result ≡ list_any (λ g. g.owner == owner) rows.now }
 {
     rows.iter().any(|group| group.owner == owner)
 }
 
+/// Returns whether the flag of one of the groups has this value.
 fn is_any_being(rows: &[Group], active: bool) -> bool
     ensures { result ≡ list_any (λ g. same_flag active g.active) rows.now }
 {
     rows.iter().any(|group| group.active == active)
 }
 
+/// Returns whether one of the members may extend its group.
 fn may_any_extend(rows: &[GroupMember]) -> bool
     ensures { result ≡ list_any (λ m. m.extend) rows.now }
 {

@@ -1,4 +1,4 @@
-//! What is asked of a directory in memory beside its commands.
+//! What is asked of a directory in memory besides the facts of commands.
 ghost use Rattle.std.specs.Prelude.{◌≡◌, IfOk};
 ghost use Rattle.std.specs.Option.{option_copied};
 ghost use Rattle.circle.specs.Reads.{person_of_key, person_of, group_of, communities_of, memberships_in_groups, groups_joined, active_groups_joined, orgs_whose_client, share_community, joins, are_connected, arranged};
@@ -12,7 +12,7 @@ use circle::directory::{
 use std::alloc::{AllocError, Global};
 
 impl DirectoryRows {
-    /// The person with the key of this SHA-256, active or not.
+    /// Returns the person, active or not, whose key has this SHA-256.
     pub fn person_of_key(&self, key: &[u8; 32]) -> Option<&Person>
         ensures { option_copied result ≡ person_of_key key.now self.now }
     {
@@ -23,21 +23,21 @@ impl DirectoryRows {
             .map(|account| &account.person)
     }
 
-    /// The person of this number.
+    /// Returns the person with this number.
     pub fn person_of(&self, number: u32) -> Option<&Person>
         ensures { option_copied result ≡ person_of number self.now }
     {
         row_of(self.sets.accounts.as_slice(), (0, number)).map(|account| &account.person)
     }
 
-    /// The group of this number.
+    /// Returns the group with this number.
     pub fn group_of(&self, number: u32) -> Option<&Group>
         ensures { option_copied result ≡ group_of number self.now }
     {
         row_of(self.sets.groups.as_slice(), (0, number))
     }
 
-    /// How the source arranged that the organisation handles what is marked `default`.
+    /// Returns how the source arranged that the organisation handles the label `default`, if it did.
     pub fn arranged(&self, source: u32, org: u32) -> Option<Handling>
         ensures { result ≡ arranged source org self.now }
     {
@@ -46,7 +46,7 @@ impl DirectoryRows {
         )
     }
 
-    /// The communities of the organisation, by number.
+    /// Returns the communities of which the organisation is a member, by number. Fails if memory runs out.
     pub fn communities_of(&self, alloc: Global, org: u32) -> Result<Vec<u32>, AllocError>
         ensures { IfOk result (λ found. found.items ≡ communities_of org self.now) }
     {
@@ -58,7 +58,7 @@ impl DirectoryRows {
             .collect(alloc)
     }
 
-    /// The organisation's rows among the members of groups, by the group's number.
+    /// Returns the organisation's rows among the members of groups, by the group's number. Fails if memory runs out.
     pub fn memberships_in_groups(
         &self,
         alloc: Global,
@@ -74,7 +74,7 @@ impl DirectoryRows {
             .collect(alloc)
     }
 
-    /// The groups of which the organisation is a member, by number.
+    /// Returns the groups of which the organisation is a member, by number. Fails if memory runs out.
     pub fn groups_joined(&self, alloc: Global, org: u32) -> Result<Vec<u32>, AllocError>
         ensures { IfOk result (λ found. found.items ≡ groups_joined org self.now) }
     {
@@ -86,7 +86,7 @@ impl DirectoryRows {
             .collect(alloc)
     }
 
-    /// Those of them that are active.
+    /// Returns those of these groups that are active. Fails if memory runs out.
     pub fn active_groups_joined(&self, alloc: Global, org: u32) -> Result<Vec<u32>, AllocError>
         ensures { IfOk result (λ found. found.items ≡ active_groups_joined org self.now) }
     {
@@ -95,7 +95,7 @@ impl DirectoryRows {
         Ok(groups)
     }
 
-    /// The organisations whose client this one is, by number.
+    /// Returns the organisations whose client this one is, by number. Fails if memory runs out.
     pub fn orgs_whose_client(&self, alloc: Global, client: u32) -> Result<Vec<u32>, AllocError>
         ensures { IfOk result (λ found. found.items ≡ orgs_whose_client client self.now) }
     {
@@ -107,7 +107,7 @@ impl DirectoryRows {
             .collect(alloc)
     }
 
-    /// Whether both organisations are of one community.
+    /// Returns whether both organisations are members of one community.
     pub fn share_community(&self, org: u32, other: u32) -> bool
         ensures { result ≡ share_community org other self.now }
     {
@@ -119,7 +119,7 @@ impl DirectoryRows {
             .any(|community| self.has_membership(community, other))
     }
 
-    /// Whether the one is of one of two connected communities, and the other of the other.
+    /// Returns whether the organisations are in two communities that are connected, one in each.
     pub fn are_connected(&self, org: u32, other: u32) -> bool
         ensures { result ≡ are_connected org other self.now }
     {
@@ -129,6 +129,7 @@ impl DirectoryRows {
             .any(|row| self.are_joined(row, org, other))
     }
 
+    /// Returns whether the organisations are in the two communities of the connection, one in each.
     fn are_joined(&self, row: &Connection, org: u32, other: u32) -> bool
         ensures { result ≡ joins org other self.now row.now }
     {
@@ -139,63 +140,63 @@ impl DirectoryRows {
 
 /// The rows of each set.
 impl DirectoryRows {
-    /// The organisations, by number.
+    /// Returns the organisations, by number.
     pub fn orgs(&self) -> &[Org]
         ensures { result.now ≡ self.now.orgs }
     {
         self.sets.orgs.as_slice()
     }
 
-    /// The persons with their keys, by number.
+    /// Returns the persons with their keys, by number.
     pub fn accounts(&self) -> &[Account]
         ensures { result.now ≡ self.now.accounts }
     {
         self.sets.accounts.as_slice()
     }
 
-    /// The clients, by organisation and client.
+    /// Returns the clients, by organisation and client.
     pub fn clients(&self) -> &[Client]
         ensures { result.now ≡ self.now.clients }
     {
         self.sets.clients.as_slice()
     }
 
-    /// The communities, by number.
+    /// Returns the communities, by number.
     pub fn communities(&self) -> &[Community]
         ensures { result.now ≡ self.now.communities }
     {
         self.sets.communities.as_slice()
     }
 
-    /// The communities' members, by community and organisation.
+    /// Returns the members of communities, by community and organisation.
     pub fn memberships(&self) -> &[Membership]
         ensures { result.now ≡ self.now.memberships }
     {
         self.sets.memberships.as_slice()
     }
 
-    /// The connected communities, by the smaller and the greater number.
+    /// Returns the connections, by the smaller and the greater number.
     pub fn connections(&self) -> &[Connection]
         ensures { result.now ≡ self.now.connections }
     {
         self.sets.connections.as_slice()
     }
 
-    /// The groups, by number.
+    /// Returns the groups, by number.
     pub fn groups(&self) -> &[Group]
         ensures { result.now ≡ self.now.groups }
     {
         self.sets.groups.as_slice()
     }
 
-    /// The groups' members, by group and organisation.
+    /// Returns the members of groups, by group and organisation.
     pub fn group_members(&self) -> &[GroupMember]
         ensures { result.now ≡ self.now.group_members }
     {
         self.sets.group_members.as_slice()
     }
 
-    /// The arrangements, by source and organisation.
+    /// Returns the arrangements, by source and organisation.
     pub fn arrangements(&self) -> &[Arrangement]
         ensures { result.now ≡ self.now.arrangements }
     {

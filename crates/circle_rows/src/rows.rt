@@ -1,4 +1,4 @@
-//! A directory in memory: its rows in sorted vectors, found by halving.
+//! A directory in memory: its rows in sorted vectors, which are searched by halving.
 ghost use Rattle.std.specs.Prelude.{◌≡◌, OnOk, OnErr};
 ghost use Rattle.circle.specs.Directory.{empty};
 ghost use Rattle.circle.specs.Aftermath.{edited_rows};
@@ -8,7 +8,7 @@ use circle::command::RowEdit;
 use std::alloc::{AllocError, Global};
 use std::marker::Model;
 
-/// A directory in memory, which contracts see as its nine lists of rows, each in the order of its key.
+/// A directory in memory. Contracts see its nine lists of rows, each in the order of its key.
 #[derive(Drop)]
 pub struct DirectoryRows {
     pub(crate) sets: Sets,
@@ -27,7 +27,7 @@ impl Model for DirectoryRows {
 }
 
 impl DirectoryRows {
-    /// The directory without a row; takes no memory.
+    /// Returns the directory without a row. Allocates nothing.
     pub fn new(alloc: Global) -> DirectoryRows
         ensures { result ≡ empty }
     {
@@ -36,11 +36,12 @@ impl DirectoryRows {
         }
     }
 
-    /// Makes the edits one after another, or, where the memory doesn't suffice, none.
+    /// Makes the edits one after another. Fails if memory runs out; then it makes none.
     pub fn apply(&mut self, edits: Vec<RowEdit>) -> Result<(), AllocError>
         ensures made { OnOk result (self.new ≡ edited_rows edits.items self.old) }
         ensures none { OnErr result (self.new ≡ self.old) }
     {
+        // Room for all edits first, so that nothing can fail between two of them.
         self.sets.reserve(edits.len())?;
         self.sets.edit_all(edits);
         Ok(())

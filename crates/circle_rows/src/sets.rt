@@ -11,6 +11,7 @@ use circle::directory::{
 };
 use std::alloc::{AllocError, Global};
 
+/// The rows of each set, in the order of its key.
 #[derive(Drop)]
 pub(crate) struct Sets {
     pub orgs: Vec<Org>,
@@ -27,6 +28,7 @@ pub(crate) struct Sets {
 impl Sets {
     ghost use Rattle.circle_rows.specs.Rows.{directory_of, IsAscending, HasRoom};
 
+    /// Returns the sets without a row. Allocates nothing.
     pub fn new(alloc: Global) -> Sets
         ensures { directory_of result ≡ empty }
     {
@@ -43,7 +45,7 @@ impl Sets {
         }
     }
 
-    /// Takes the memory for so many rows more in each set.
+    /// Allocates room for this many rows more in each set.
     pub fn reserve(&mut self, more: usize) -> Result<(), AllocError>
         ensures same { directory_of self.new ≡ directory_of self.old }
         ensures room { OnOk result (HasRoom more self.new) }
@@ -59,7 +61,7 @@ impl Sets {
         self.arrangements.reserve(more)
     }
 
-    /// Makes the edit, where there is room for a row.
+    /// Makes the edit. There is room for a row in each set.
     pub fn edit(&mut self, edit: RowEdit)
         requires room { HasRoom 1 self.old }
         requires order { IsAscending (directory_of self.old) }
@@ -100,7 +102,7 @@ impl Sets {
     ghost use Rattle.circle.specs.Aftermath.{edited_rows};
     ghost use Rattle.circle_rows.specs.Rows.{directory_of, IsAscending, HasRoom};
 
-    /// Makes the edits one after another, where there is room for a row for each.
+    /// Makes the edits one after another. There is room for a row for each.
     pub fn edit_all(&mut self, edits: Vec<RowEdit>)
         requires room { HasRoom (length edits.items) self.old }
         requires order { IsAscending (directory_of self.old) }
@@ -113,6 +115,7 @@ impl Sets {
     }
 }
 
+/// Makes the person inactive.
 fn suspend(rows: &mut Vec<Account>, person: u32)
     ensures items { rows.new.items ≡
         exchange_account person (λ p. record p { active = false }) rows.old.items }
@@ -124,6 +127,7 @@ fn suspend(rows: &mut Vec<Account>, person: u32)
     }
 }
 
+/// Makes the person of the row inactive, if it is this one.
 fn suspend_row(row: &mut Account, person: u32)
     ensures { row.new ≡ (if row.old.person.number == person then record
         (row.old) { person = record (row.old.person) { active = false } } else row.old) }
@@ -133,6 +137,7 @@ fn suspend_row(row: &mut Account, person: u32)
     }
 }
 
+/// Sets whether the person is nominated.
 fn nominate(rows: &mut Vec<Account>, person: u32, nominated: bool)
     ensures items { rows.new.items ≡
         exchange_account person (λ p. record p { nominated = nominated }) rows.old.items }
@@ -144,6 +149,7 @@ fn nominate(rows: &mut Vec<Account>, person: u32, nominated: bool)
     }
 }
 
+/// The same of the person of the row, if it is this one.
 fn nominate_row(row: &mut Account, person: u32, nominated: bool)
     ensures { row.new ≡ (if row.old.person.number == person then record
         (row.old) { person = record (row.old.person) { nominated = nominated } } else row.old) }
@@ -153,6 +159,7 @@ fn nominate_row(row: &mut Account, person: u32, nominated: bool)
     }
 }
 
+/// Sets whether the group is active.
 fn switch(rows: &mut Vec<Group>, group: u32, active: bool)
     ensures items { rows.new.items ≡
         exchange_group group (λ g. record g { active = active }) rows.old.items }
@@ -164,6 +171,7 @@ fn switch(rows: &mut Vec<Group>, group: u32, active: bool)
     }
 }
 
+/// The same of the group of the row, if it is this one.
 fn switch_row(row: &mut Group, group: u32, active: bool)
     ensures { row.new ≡ (if row.old.number == group then record
         (row.old) { active = active } else row.old) }
