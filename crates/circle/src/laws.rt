@@ -50,8 +50,8 @@ pub fn edits_are_rows()
     ensures { EditsAreRows }
 {}
 
-/// The limits of the directory: how many organisations, persons, communities and groups there may be, and how many bytes a
-/// name and a releasability may have.
+/// The limits of the directory: how many organisations, persons, communities and groups there may be, and how many
+/// bytes a name and a releasability may have.
 pub fn limits_of_the_circle()
     ensures orgs { ORG_LIMIT ≡ 1000 }
     ensures persons { PERSON_LIMIT ≡ 10000 }

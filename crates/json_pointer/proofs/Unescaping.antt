@@ -50,7 +50,7 @@ encode_utf8-code : (c b : ℕ) → escaped_by c ≡ Some b → encode_utf8 b ≡
 unfolding encode_utf8
 encode_utf8-code c b h = grind arith
 
--- ---- the steps of the reading, each over the token so far, what is left from the character on, and what is left behind it
+-- ---- the steps of the reading, over the token so far, what is left at a character, and what is left behind it
 
 module _ (kept left rest : List ℕ) (whole : Option (List ℕ)) where
   pub plain_step : (c : ℕ) → left ≡ encode_utf8 c ++ rest → c ≢ 126 → made_then kept (unescaped_from false left) ≡ whole → made_then (kept ++ encode_utf8 c) (unescaped_from false rest) ≡ whole

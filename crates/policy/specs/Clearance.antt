@@ -9,7 +9,8 @@ use Rattle.policy.specs.declared.rule.Rule.{Rule}
 use Rattle.policy.specs.declared.rule.Rule.TheVariants.{P, O, C, M, A}
 use Rattle.policy.specs.declared.standing.Standing.{Standing}
 
--- a row of the table of clearances: a rule, whether it holds of the reader, and the handling that it clears the reader for
+-- a row of the table of clearances: a rule, whether it holds of the reader, and the handling that it clears the reader
+-- for
 pub record Row : Type 0 where
   pub rule : Rule
   pub holds : Bool
