@@ -22,7 +22,7 @@ escaped token = flat_map escaped_byte token
 abbrev pub pointer_text : Tokens → Bytes
 pointer_text p = flat_map (λ token. byte "/" ∷ escaped token) p
 
--- the byte that a `~` and this one stand for: `~0` is `~` and `~1` is `/` (section 4)
+-- the byte that a `~` and this one mean together: `~0` is `~` and `~1` is `/` (section 4)
 abbrev pub escaped_by : ℕ → Option ℕ
 escaped_by c = if c == byte "0" then Some (byte "~") else (if c == byte "1" then Some (byte "/") else None)
 

@@ -87,7 +87,7 @@ any-prefix (x ∷ r) (y ∷ p) =
     any-map (same_path (x ∷ r)) (λ q. y ∷ q) (prefixes p) ∙ any-left (bytes_eq x y) (same_path r) (prefixes p)
     ∙ ap (λ b. bytes_eq x y && b) (any-prefix r p)
 
--- a path is refused exactly where some gate on it refuses
+-- a path is refused exactly if some gate on it refuses
 pub refused-any : (c : Case) (s : Standing) (p : Tokens) → is_some (refusal_at c s p) ≡ list_any (refuses_on s p) c.gates
 refused-any c s p =
     first-flat_map (refusals_at c s) (prefixes p)

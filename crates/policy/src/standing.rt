@@ -1,4 +1,4 @@
-//! How a reader stands to an incident.
+//! The standing of a reader: what the policy asks of it.
 ghost use Rattle.std.specs.Prelude.{◌≡◌};
 ghost use Rattle.policy.specs.Standing.{stranger};
 
@@ -6,7 +6,7 @@ use crate::numbers::Numbers;
 use marking::Handling;
 use std::alloc::Global;
 
-/// How a person, the reader, stands to an incident and to its source, the organisation that posted it.
+/// What holds between a person, the reader, and an incident and its source, the organisation that posted it.
 #[derive(Drop)]
 pub struct Standing {
     /// The reader's organisation is the source.

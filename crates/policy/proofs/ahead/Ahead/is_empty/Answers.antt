@@ -5,7 +5,7 @@ use Rattle.policy.specs.Ahead.{Met}
 use Rattle.policy.proofs.Onwards.{none-refuses, none-grants}
 use Rattle.policy.proofs.ahead.Ahead.is_empty.Goals as goal
 
--- Where nothing is met, nothing is left.
+-- If nothing is met anywhere, nothing is left.
 pub returns-then-is_empty : goal.returns-then-is_empty
 returns-then-is_empty c = (
   grind (arith, common_steps),
