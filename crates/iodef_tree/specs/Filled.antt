@@ -1,4 +1,5 @@
--- No array of a tree is empty, at any depth.
+-- No array of a tree is empty, at any depth. It is a fold to a truth value, so that a walk down the tree finds it at
+-- each member.
 use Rattle.std.specs.Prelude.{◌≡◌, List, [], ◌∷◌, Bool, true, false, ◌&&◌}
 use Rattle.std.specs.List.{list_all}
 use Rattle.iodef_tree.specs.declared.object.Object.{Object, fold-Object}

@@ -20,6 +20,8 @@ pub enum Required {
 /// Why a body is no list of documents: the first of these faults that applies, in this order. All faults of one kind
 /// come before those of the next; of one kind, the first in stored order is returned. A pointer is one in the body
 /// that was read.
+///
+/// The text of `Display` has no path, since printing one allocates; [`Path::print`] prints it.
 #[derive(Debug, Drop, Error)]
 pub enum ReadFault {
     /// The bytes are no JSON text (RFC 8259). A number outside every range, such as `1e999`, counts here too.

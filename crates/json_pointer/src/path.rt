@@ -97,6 +97,7 @@ impl Path {
     pub fn member(&self, alloc: Global, name: &str) -> Result<Path, AllocError>
         ensures { IfOk result (λ p. p ≡ self.now ++ name.now ∷ []) }
     {
+        // One call for names and places: two calls would differ only in the digits.
         let mut path = self.clone()?;
         path.tokens.push(Text::new(String::from_str(alloc, name)?))?;
         Ok(path)
