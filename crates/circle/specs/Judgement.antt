@@ -51,7 +51,7 @@ lacks_right (GroupRemove group org) f = not f.owner || f.target_is_owner
 lacks_right (GroupActive group active) f = not f.owner
 lacks_right _ f = false
 
--- whether the person is of another organisation
+-- whether the person isn't of the actor's organisation
 abbrev pub is_strange : CircleCommand → CircleFacts → Bool
 is_strange (Nominate person) f = not f.own_person
 is_strange (Unnominate person) f = not f.own_person

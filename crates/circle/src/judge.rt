@@ -127,7 +127,7 @@ impl CircleCommand {
         }
     }
 
-    /// Returns whether the person is of another organisation.
+    /// Returns whether the person isn't of the actor's organisation.
     fn is_strange(&self, facts: &CircleFacts) -> bool
         ensures { result ≡ is_strange self.now facts.now }
     {

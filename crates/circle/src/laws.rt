@@ -29,8 +29,8 @@ pub fn refusals_leave_all()
     ensures { RefusalsLeaveAll }
 {}
 
-/// No command of a person of one organisation changes another organisation's arrangements, nominations or groups,
-/// except that an extend flag lets it put a member into a group.
+/// No command of one organisation's person changes the arrangements, nominations or groups of another organisation.
+/// One exception: an extend flag lets it put a member into a group.
 pub fn organisations_keep_apart()
     ensures { OrganisationsKeepApart }
 {}

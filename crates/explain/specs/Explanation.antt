@@ -34,9 +34,9 @@ passages_on c s p = flat_map (passages_at c s) (prefixes p)
 abbrev pub covering : List LocatedLine → Case → Standing → Tokens → List Permission
 covering es c s p = filter (covers es s p) c.permissions
 
--- The verdict of a class with all that it rests on: the path, the community that the incident names, the gates on the
--- way with their results, the site, the text of its label and its handling, the clearance with its rule, and the
--- covering permissions.
+-- The verdict of a class with all that it rests on. These are its path, the community that the incident names, the
+-- gates on the way with their results, and the site with the text of its label and its handling. Then come the
+-- clearance with its rule, and the covering permissions.
 pub record Explanation : Type 0 where
   pub verdict : Verdict
   pub path : Tokens

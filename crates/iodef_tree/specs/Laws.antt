@@ -65,8 +65,8 @@ OutlineIsOneToOne = (f g : Forest) → IsSound f → IsSound g → lines 1 f ≡
 abbrev pub LinesAreAnOutline : Type 0
 LinesAreAnOutline = (f : Forest) → IsSound f → is_outline (lines 1 f) ≡ true
 
--- q is the path of the longest class, among these lines, that is a proper prefix of p, or the root if there is none
--- (RFC 7970 section 3).
+-- Of the classes among these lines whose paths are proper prefixes of p, q is the longest path, or the root's if there
+-- is none (RFC 7970 section 3).
 pub record IsNearestClass (es : List LocatedLine) (p q : Tokens) : Type 0 where
   pub stands : (is_root q || has_class es q) ≡ true
   pub proper : is_under q p ≡ true

@@ -45,9 +45,9 @@ may_follow (Some x) l = bytes_lt x.name l.name || (bytes_eq x.name l.name && (x.
 abbrev pub is_short : List Line → Bool
 is_short ls = nat_le (counted ls) LINE_LIMIT
 
--- A line may come behind others. It is a member of the root, or at most one deeper than the newest line if that is a
--- class, and else at most as deep; it may follow the newest line of its parent; its text is one of its kind; and no
--- limit is passed.
+-- A line may come behind others if these hold. It is a member of the root, or at most one deeper than the newest line
+-- if that is a class, or else at most as deep. It may follow the newest line of its parent. Its text is one of its
+-- kind. No limit is passed.
 abbrev pub may_come : List Line → Line → Bool
 may_come before l =
     is_short (l ∷ before) && (nat_lt 0 l.depth && (nat_le l.depth (deepest before) && (may_follow (last_sibling l.depth before) (sibling l) && is_sound_line l)))

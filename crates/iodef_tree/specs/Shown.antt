@@ -16,7 +16,7 @@ counted_with l n = if not (is_label_line l) then 1 + n else n
 abbrev pub if_short : ℕ → Option ℕ
 if_short n = if nat_le n LINE_LIMIT then Some n else None
 
--- whether a line may come, by the newest line of each open depth and by how deep it may be
+-- whether a line may come, apart from the limit of lines: by the newest line of each open depth and how deep it may be
 abbrev pub fits_edge : List Sibling → ℕ → Line → Bool
 fits_edge last deep l =
     nat_lt 0 l.depth && (nat_le l.depth deep && (may_follow (slice_get last (l.depth - 1)) (sibling l) && is_sound_line l))

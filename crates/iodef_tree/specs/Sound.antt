@@ -12,8 +12,8 @@ use Rattle.iodef_tree.specs.declared.TheConstants.{DEPTH_LIMIT, LINE_LIMIT}
 abbrev pub SiblingPlace : Type 0
 SiblingPlace = Bytes × Option ℕ
 
--- A line may be right behind a sibling if its name is later, which begins its array if it has one, or if it is the
--- next element of the same array.
+-- A line may be right behind a sibling if its name is later, or if it is the next element of the same array. A line
+-- with a later name is no element, or the first of its array.
 abbrev pub may_stand_behind : SiblingPlace → Bytes → Option ℕ → Bool
 may_stand_behind s name None = bytes_lt s.0 name
 may_stand_behind s name (Some zero) = bytes_lt s.0 name

@@ -13,7 +13,7 @@ use Rattle.iodef_tree.specs.declared.TheConstants.{DEPTH_LIMIT}
 use Rattle.iodef_tree.specs.declared.line.Kind.{Kind}
 use Rattle.iodef_tree.specs.declared.line.Kind.TheVariants as kind
 
--- A value without an object and without a number that is neither an i64 nor a u64, and with at most so many arrays one
+-- A value in which no object is, and no number that is neither an i64 nor a u64. At most so many arrays in it are one
 -- inside the other (RFC 8259 sections 3 to 6).
 abbrev mutual
   pub is_plain : ℕ → Data → Bool

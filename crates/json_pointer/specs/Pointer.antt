@@ -10,7 +10,7 @@ use Rattle.json_pointer.specs.declared.pointer.PathFault.TheVariants.{BadPath, N
 abbrev pub escaped_byte : ℕ → Bytes
 escaped_byte c = if c == byte "~" then codes "~0" else (if c == byte "/" then codes "~1" else c ∷ [])
 
--- the byte is one of the two that are written otherwise
+-- whether a pointer escapes the byte: it is `~` or `/`
 abbrev pub is_escaped_byte : ℕ → Bool
 is_escaped_byte c = (c == byte "~") || (c == byte "/")
 
@@ -69,10 +69,10 @@ fault_name NoMemory = codes "NoMemory"
 
 -- ---- laws
 
--- the pointer of a path is read as that path
+-- The law that the pointer of a path is read as that path.
 abbrev pub PointerIsRead : Type 0
 PointerIsRead = (p : Tokens) → pointer_tokens (pointer_text p) ≡ Some p
 
--- the path that is read from a text has it as its pointer
+-- The law that a text that is read as a path is the pointer of that path.
 abbrev pub ReadIsPrinted : Type 0
 ReadIsPrinted = (text : Bytes) (p : Tokens) → pointer_tokens text ≡ Some p → pointer_text p ≡ text

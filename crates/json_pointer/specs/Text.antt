@@ -13,7 +13,8 @@ Bytes = List ℕ
 abbrev pub Tokens : Type 0
 Tokens = List Bytes
 
--- one text before another in byte order
+-- One text is before another in the byte order of its UTF-8. RFC 8727 leaves the order of members open; this is that
+-- of `serde_json`.
 abbrev pub bytes_lt : Bytes → Bytes → Bool
 bytes_lt x y = is_lt (slice_cmp nat_cmp x y)
 
@@ -26,24 +27,24 @@ abbrev pub is_root : Tokens → Bool
 is_root [] = true
 is_root (x ∷ p) = false
 
--- a path is a prefix of itself and of all that is below it
+-- whether the first path is a prefix of the second; a path is a prefix of itself and of all that is below it
 abbrev pub is_prefix : Tokens → Tokens → Bool
 is_prefix [] p = true
 is_prefix (x ∷ q) [] = false
 is_prefix (x ∷ q) (y ∷ p) = bytes_eq x y && is_prefix q p
 
--- a proper prefix
+-- whether the first path is a proper prefix of the second, so that the second is below it
 abbrev pub is_under : Tokens → Tokens → Bool
 is_under [] [] = false
 is_under [] (y ∷ p) = true
 is_under (x ∷ q) [] = false
 is_under (x ∷ q) (y ∷ p) = bytes_eq x y && is_under q p
 
--- a text is another, and maybe more behind it
+-- a text begins with another
 abbrev pub BeginsWith : Bytes → Bytes → Type 0
 BeginsWith text front = (rest : Bytes) × (text ≡ front ++ rest)
 
--- every prefix of a path, the shortest first
+-- all prefixes of a path, the shortest first and the path itself last
 abbrev pub prefixes : Tokens → List Tokens
 prefixes [] = [] ∷ []
 prefixes (x ∷ p) = [] ∷ map (λ q. x ∷ q) (prefixes p)

@@ -69,8 +69,8 @@ impl Path {
 
     /// Returns the path of which the text is the JSON pointer (RFC 6901 section 3).
     ///
-    /// Fails with BadPath if the text is neither empty nor begins with a slash, or if a `~` in it is followed by
-    /// neither `0` nor `1`; with NoMemory if memory runs out.
+    /// Fails with BadPath if the text is neither empty nor begins with a slash, or if neither `0` nor `1` follows a
+    /// `~` in it. Fails with NoMemory if memory runs out.
     pub fn parse(alloc: Global, text: &str) -> Result<Path, PathFault>
         ensures path { IfOk result (λ p. pointer_tokens text.now ≡ Some p) }
         ensures bad { result ≡ Err PathFault.BadPath → pointer_tokens text.now ≡ None }

@@ -5,8 +5,8 @@ ghost use Rattle.std.specs.Prelude.{◌≡◌, string_bytes};
 use std::alloc::AllocError;
 use std::marker::Model;
 
-/// A text, which contracts see as the list of its bytes. The names and texts of lines, members and paths hold it in place
-/// of a `String`, so that lines, paths and faults are compared as they are.
+/// A text, which contracts see as the list of its bytes. The names and texts of lines, members and paths hold it
+/// instead of a `String`. So contracts compare lines, paths and faults as they are.
 #[derive(Debug, Drop)]
 pub struct Text {
     string: String,

@@ -11,8 +11,8 @@ use thiserror::Error;
 #[derive(Debug, Drop, Error)]
 pub enum MarkingFault {
     /// The class at this path is the first, in stored order, that breaks the marking rule. Its `restriction` is none
-    /// of the ten texts (RFC 7970 section 3.3.1), or its `ext-restriction` is no text or has no `restriction` beside
-    /// it, or `ext-value` has no `ext-restriction`.
+    /// of the ten texts (RFC 7970 section 3.3.1), or is `ext-value` without an `ext-restriction`. Or its
+    /// `ext-restriction` is no text, or has no `restriction` beside it.
     #[error("a class breaks the marking rule")]
     BadMarking(Path),
     /// Memory ran out.

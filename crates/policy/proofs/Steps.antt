@@ -117,8 +117,8 @@ not_some : (o : Option LabelValue) → is_none o ≡ not (is_some o)
 not_some None = refl
 not_some (Some l) = refl
 
--- A permission covers a class if it covers the path above and no label is written in the class, or if it is at the
--- class itself.
+-- A permission covers a class if it is at the class itself, or if it covers the path above and no label is written in
+-- the class.
 pub covers-push : (es : List LocatedLine) (s : Standing) (p : Tokens) (x : Bytes) (y : Permission) →
     covers es s (p ++ x ∷ []) y
     ≡ ((covers es s p y && is_none (written_label es (p ++ x ∷ []))) || (holds_for s y && same_path y.path (p ++ x ∷ [])))

@@ -1,6 +1,6 @@
 -- The clearance of a reader (FIRST TLP 2.0). The strictest goes to the recipients that the source named. Then come
--- their organisations, the clients of these and of the source, and the community that the incident names, or those of
--- the source if it names none.
+-- their organisations, and the clients of these and of the source. Then comes the community that the incident names,
+-- or those of the source if it names none.
 use Rattle.std.specs.Prelude.{Bool, true, ◌&&◌, List, [], ◌∷◌, find}
 use Rattle.std.specs.Option.{option_map_or}
 use Rattle.marking.specs.declared.label.Handling.{Handling}

@@ -43,8 +43,8 @@ pub record IsNearestRefusal (c : Case) (s : Standing) (p : Tokens) (g : Gate) : 
   pub shortest : All (λ h. refuses_on s p h ≡ true → length g.path ≤ length h.path) c.gates
   pub first : find (λ h. same_path h.path g.path && is_some (refusal_of_gate s h)) c.gates ≡ Some g
 
--- The refusal of a path is that of the refusing gate with the shortest path, and of the first in the list if several
--- have that path.
+-- The refusal of a path is that of the refusing gate with the shortest path. If several have that path, it is that of
+-- the first in the list.
 abbrev pub RefusalIsNearest : Type 0
 RefusalIsNearest = (c : Case) (s : Standing) (p : Tokens) (r : Rule) → refusal_at c s p ≡ Some r →
     (g : Gate) × IsNearestRefusal c s p g × (refusal_of_gate s g ≡ Some r)

@@ -44,8 +44,8 @@ is_cleared_for s l = is_at_most (handling_for s l) (clearance_of s).0
 abbrev pub is_covered : List LocatedLine → Case → Standing → Tokens → Bool
 is_covered es c s p = list_any (covers es s p) c.permissions
 
--- The class at p is visible. Either the reader is of the source, or no gate on the path refuses it and it is cleared
--- for the nearest label or covered by a permission.
+-- The class at p is visible if the reader is of the source. It is visible too if no gate on the path refuses the
+-- reader, and the reader is cleared for the nearest label or a permission covers the class.
 abbrev pub is_visible : List LocatedLine → Case → Standing → Tokens → Bool
 is_visible es c s p =
     s.source || (is_none (refusal_at c s p) && (is_cleared_for s (label_at es p) || is_covered es c s p))

@@ -12,9 +12,9 @@ use iodef_tree::{Document, Path, Text};
 use marking::written_at;
 use std::alloc::{AllocError, Global};
 
-/// Returns whether the permission covers the class at the path for the reader: it includes the reader and hasn't
-/// ended, it is at the path or above, and no label is written below it down to the path (RFC 7970 section 3.3.1).
-/// Fails if memory runs out.
+/// Returns whether the permission covers the class at the path for the reader. It has to include the reader, must not
+/// have ended, and has to be at the path or above. No label may be written below it down to the path (RFC 7970 section
+/// 3.3.1). Fails if memory runs out.
 pub fn covers(
     alloc: Global,
     document: &Document,

@@ -17,8 +17,8 @@ pub fn visible_passes_gates()
     ensures { VisiblePassesGates }
 {}
 
-/// The refusal on a path is that of the refusing gate with the shortest path, and of the first in the list if several
-/// have that path.
+/// The refusal on a path is that of the refusing gate with the shortest path. If several have that path, it is that of
+/// the first in the list.
 pub fn refusal_is_nearest()
     ensures { RefusalIsNearest }
 {}

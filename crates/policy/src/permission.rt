@@ -1,5 +1,5 @@
 //! Permissions. By a permission the source lets more readers see a class and what is below it, down to the next
-//! written label, without an end or up to a moment.
+//! written label. It may end at a moment.
 
 ghost use Rattle.std.specs.Prelude.{◌≡◌};
 ghost use Rattle.policy.specs.Permissions as spec;

@@ -29,8 +29,8 @@ by_fates P true ended shown framed gone shown' framed' gone' s f g = s refl
 by_fates P false true shown framed gone shown' framed' gone' s f g = g refl refl
 by_fates P false false shown framed gone shown' framed' gone' s f g = f refl
 
--- If a class that isn't visible is gone exactly if no visible class is below it, a property of each fate holds by what
--- is decided of the class: whether it is visible, and whether it holds a visible one.
+-- A property of each fate holds by what is decided of the class: whether it is visible, and whether it holds a visible
+-- one. For this, a class that isn't visible is gone exactly if no visible class is below it.
 pub by_verdict : (P : Bool → Bool → Bool → Type 0) (visible holds ended : Bool) → (visible ≡ false → ended ≡ not holds) → ((h e : Bool) → P true h e) → P false true false → P false false true →
     P visible holds ended
 by_verdict P true holds ended says shown framed gone = shown holds ended

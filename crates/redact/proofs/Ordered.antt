@@ -31,8 +31,8 @@ later x y differ h = by_order (slice_cmp nat_cmp x y) refl
 
 -- ---- siblings that are not kept
 
--- If n elements of an array are kept, a line that may be behind the last sibling of the document may be, at its new
--- place, behind the last one that is kept.
+-- How siblings follow one another when some are not kept. Of an array, n elements are kept. A line that may be behind
+-- the last sibling of the document may be, at its new place, behind the last kept one.
 abbrev pub Trails : Option SiblingPlace → Option SiblingPlace → ℕ → Type 0
 Trails before before' n = (name : Bytes) (place : Option ℕ) → may_stand before name place ≡ true → may_stand before' name (new_place n place) ≡ true
 

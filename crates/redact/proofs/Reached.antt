@@ -1,5 +1,5 @@
--- The lines below some paths are dropped. The lines that are kept of an outline are an outline, and the depth of the
--- newest of them says of each next line whether it is below such a path.
+-- The lines below some paths are dropped. The kept lines of an outline are an outline. The depth of the newest of them
+-- says of the next line whether it is below such a path.
 use Rattle.std.proofs.Common.{◌≡◌, ℕ, suc, ◌<◌, ◌≤◌, Bool, true, false, cond, not, ◌&&◌, ◌⊎◌, inl, inr, List, [], ◌∷◌, refl, sym, ◌∙◌, ap, subst, arith, if◌then◌else◌}
 use Rattle.std.specs.Prelude.{filter, find, nat_lt, nat_le, Option, Some, None}
 use Rattle.std.specs.Option.{option_map_or}

@@ -25,8 +25,8 @@ pub record Report : Type 0 where
 abbrev pub class_path : LocatedLine → Tokens
 class_path e = if is_class e then e.path else e.parent
 
--- A line under the path of its class. Of a plain line this doesn't say which element of an array it is, since a line
--- moves up if a class before it is taken out.
+-- A line under the path of its class. It doesn't say which element of an array a plain line is, since a line moves up
+-- if a class before it is taken out.
 abbrev pub by_class : LocatedLine → LocatedLine
 by_class e = record { parent = e.parent; path = class_path e; line = e.line }
 

@@ -13,8 +13,8 @@ use Rattle.redact.specs.declared.excerpts.Excerpt.{Excerpt}
 abbrev pub told_by : Excerpt → Told
 told_by e = record { outline = e.document; withheld = e.withheld.items; classes = e.classes }
 
--- Each visible class of the document has a place in the excerpt, and the label that holds there is the one that holds
--- at the class in the document.
+-- Each visible class of the document has a place in the excerpt. The label that holds there is the one that holds at
+-- the class in the document.
 abbrev pub LabelsSurvive : List Line → Case → Standing → List Line → Type 0
 LabelsSurvive ls c s excerpt = (e : LocatedLine) → Contains (located ls) e → is_seen_class ls c s e ≡ true →
     option_map (label_at (located excerpt)) (excerpt_place ls c s e.path) ≡ Some (label_at (located ls) e.path)

@@ -126,9 +126,8 @@ module _ (gone : Tokens → Bool) where
   abbrev pub is_shutting : LocatedLine → Bool
   is_shutting e = is_class e && gone e.path
 
-  -- What is known of earlier lines, of which the newest is first, and of those that stay. If the newest line that
-  -- stays is that of a class at such a path, its depth says of the next line whether that is below it. The lines that
-  -- stay are an outline.
+  -- What is known of earlier lines, of which the newest is first, and of those that stay. If the newest of these is
+  -- the class at such a path, its depth says whether the next line is below it. The lines that stay are an outline.
   pub record Reach (before : List LocatedLine) (o : Option ℕ) : Type 0 where
     pub beyond : (d : ℕ) → d ≤ deepest (lines_of before) → gone (parent_path before d) ≡ is_beyond o d
     pub deep : DeepAs o (lines_of before) (lines_of (filter stays before))

@@ -117,7 +117,7 @@ impl Probe {
     /// Returns whether the report with these lines meets the want. If [`Probe::feed`] returned true, this returns
     /// true, also for a report whose markings aren't accepted.
     ///
-    /// Fails with the fault that was returned, or with NoMemory.
+    /// Fails with the fault that was returned, if one was, or with NoMemory.
     pub fn finish(self) -> Result<bool, OutlineFault>
         ensures ended { IfSome self.fed.fault (λ f. result ≡ Err f) }
         ensures told { self.fed.fault ≡ None → first_bad_marking (located self.fed.lines) ≡ None →

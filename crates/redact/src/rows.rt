@@ -173,7 +173,7 @@ impl RowPass {
     /// Returns what the reader is served of the document with these lines. Returns `None` if no class is visible or
     /// the markings aren't accepted.
     ///
-    /// Fails with the fault that was returned, or with NoMemory.
+    /// Fails with the fault that was returned, if one was, or with NoMemory.
     pub fn finish(self) -> Result<Option<Excerpt>, OutlineFault>
         ensures ended { IfSome self.fed.fault (λ f. result ≡ Err f) }
         ensures told { self.fed.fault ≡ None → first_bad_marking (located self.fed.lines) ≡ None →

@@ -20,7 +20,7 @@ number_of OutOfRange = 8
 number_of BadPointer = 9
 number_of BadMoment = 10
 number_of SourceUnsaid = 11
--- of what is asked beside it
+-- of the question besides the view
 number_of NotUtf8 = 12
 -- of the report
 number_of NotJson = 13

@@ -40,8 +40,8 @@ fn truth_bytes(alloc: Global, truth: bool) -> Result<Vec<u8>, AllocError>
 }
 
 /// Returns `true` if a class that the reader of a view description may see directly holds a text that contains
-/// `needle`, byte for byte, and else `false`. If `class` is given, only classes of that name are searched. A reader
-/// who sees no class finds nothing.
+/// `needle`, byte for byte; else `false`. If `class` is given, only classes of that name are searched. A reader who
+/// sees no class finds nothing.
 ///
 /// Fails with the first fault in the order of [`Fault`].
 #[tactic(auto, unfolding(crate::specs::Answers::finds_text))]

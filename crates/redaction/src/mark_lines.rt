@@ -72,9 +72,8 @@ fn push_cell(alloc: Global, out: &mut String, before: &str, text: &str) -> Resul
     push_quoted(alloc, out, text)
 }
 
-/// Returns a line for each class of the Incident at a place of the report, in stored order. A line is the compact JSON
-/// array of the class's path, its label, how the label is handled if nothing is arranged, and the path of
-/// its site.
+/// Returns a line for each class of the Incident at a place of the report, in stored order. A line is a compact JSON
+/// array: the class's path, its label, how the label is handled if nothing is arranged, and the path of its site.
 ///
 /// Fails with the first fault in the order of [`Fault`].
 #[tactic(auto, unfolding(crate::specs::Answers::marks_text))]
