@@ -27,8 +27,8 @@ first_of (x ∷ xs) = Some x
 abbrev pub refusals_at : Case → Standing → Tokens → List Rule
 refusals_at c s q = filter_map (refusal_of_gate s) (filter (λ g. same_path g.path q) c.gates)
 
--- The refusal on a path: of the gates at its prefixes, that of the one with the shortest path; if several have that
--- path, that of the first.
+-- The refusal on a path: of the gates at its prefixes that refuse, that of the one with the shortest path. If several
+-- have that path, it is that of the first.
 abbrev pub refusal_at : Case → Standing → Tokens → Option Rule
 refusal_at c s p = first_of (flat_map (refusals_at c s) (prefixes p))
 
@@ -54,8 +54,8 @@ is_visible es c s p =
 abbrev pub showing_rule : Standing → LabelValue → Rule
 showing_rule s l = if s.source then Src else if is_cleared_for s l then (clearance_of s).1 else X
 
--- The rule of a handling that hides a class. CLEAR hides nothing, as everybody is cleared for it, so it has no rule of
--- its own.
+-- The rule of a handling that hides a class. CLEAR has no rule of its own, since everybody is cleared for it and it
+-- hides nothing; H-GREEN is in its place.
 abbrev pub hidden_by : Handling → Rule
 hidden_by Clear = HGreen
 hidden_by Green = HGreen
