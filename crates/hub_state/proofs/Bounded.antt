@@ -1,4 +1,4 @@
--- In a sound state no incident has more rows than a u32 counts.
+-- In a sound state no incident has more rows than a u32 can count.
 use Rattle.std.proofs.Common.{◌≡◌, ℕ, ◌+◌, ◌-◌, ◌^◌, ◌≤◌, ◌==◌, ◌&&◌, ◌||◌, Bool, true, false, not, List, filter, length, Option, refl, ap, ◌∙◌, subst, arith}
 use Rattle.std.proofs.lemmas.Bool.{and_left, eqb-true, eq-eqb, false_from_ne_true}
 use Rattle.std.specs.Prelude.{ℤ, min, IsTrue}
@@ -37,7 +37,7 @@ owner incidents test m h =
 apart : (incidents : List Incident) (m n : ℕ) → IsIncident incidents m → list_any (λ (i : Incident). i.naming.number == n) incidents ≡ false → (m == n) ≡ false
 apart incidents m n there none = false_from_ne_true (m == n) (λ h. never (list_any (λ (i : Incident). i.naming.number == n) incidents) (subst (IsIncident incidents) (eqb-true m n h) there) none)
 
--- what holds of each incident's count holds of every number's, where there is nothing to count without an incident
+-- what holds of each incident's count holds for every number, as a missing incident has no rows
 few : (count : ℕ → ℕ) (limit n : ℕ) (incidents : List Incident) → Each (λ (i : Incident). count i.naming.number ≤ limit) incidents →
     (list_any (λ (i : Incident). i.naming.number == n) incidents ≡ false → count n ≡ 0) → count n ≤ limit
 few count limit n incidents all none = split (list_any (λ (i : Incident). i.naming.number == n) incidents) refl
@@ -60,7 +60,7 @@ few_permissions s n sound = few (λ m. permissions_of m s.permissions) PERMISSIO
     count_none (λ (x : Permission). x.incident == n) s.permissions (each_weaker _ _ s.permissions (λ x there.
     apart s.incidents x.incident n (owner s.incidents (λ (i : Incident). is_class_in i.document x.permission.path) x.incident there) none) sound.permissions.places))
 
--- ---- what a u32 tells of what stands, and of what would stand
+-- ---- the counts as u32, of the rows that there are and that there would be
 
 pub gates_told : (s : State) (n : ℕ) (gates : List CaseGate) → IsSound s → gates ≡ its_gates n s.gates → min (class_gates_among gates) 4294967295 ≡ class_gates n s.gates
 gates_told s n gates sound is =

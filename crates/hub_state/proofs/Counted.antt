@@ -1,4 +1,4 @@
--- What is asked of the gates, recipients and permissions of an incident is asked of those rows among all.
+-- A test or count on the rows of one incident is a test or count on all rows of the state.
 use Rattle.std.proofs.Common.{◌≡◌, ℕ, ◌+◌, ◌==◌, ◌&&◌, ◌||◌, Bool, true, false, not, List, [], ◌∷◌, filter, map, length, if◌then◌else◌, Option, Some, None, refl, sym, ap, ◌∙◌, arith}
 use Rattle.std.specs.Prelude.{ℤ, count_by}
 use Rattle.std.specs.List.{list_any}
@@ -30,7 +30,7 @@ use Rattle.hub_state.specs.declared.state.Recipient.{Recipient}
 use Rattle.hub_state.proofs.Indexing.{and_and}
 use Rattle.hub_state.proofs.Keeping.{count_put, any_map}
 
--- by tests that agree
+-- two tests that agree give the same result
 pub any_same : {X : Type 0} (p q : X → Bool) (xs : List X) → ((x : X) → p x ≡ q x) → list_any p xs ≡ list_any q xs
 any_same p q [] same = refl
 any_same p q (x ∷ xs) same = ap (λ b. b || list_any p xs) (same x) ∙ ap (λ b. q x || b) (any_same p q xs same)
@@ -39,7 +39,7 @@ pub count_agree : {X : Type 0} (p q : X → Bool) (xs : List X) → ((x : X) →
 count_agree p q [] same = refl
 count_agree p q (x ∷ xs) same = count_by-cons p x xs ∙ (ap (λ b. (if b then 1 else 0) + count_by p xs) (same x) ∙ (ap (λ n. (if q x then 1 else 0) + n) (count_agree p q xs same) ∙ sym (count_by-cons q x xs)))
 
--- of those that pass another test
+-- a count among the elements that pass another test
 pub count_filter : {X : Type 0} (p q : X → Bool) (xs : List X) → count_by p (filter q xs) ≡ count_by (λ x. q x && p x) xs
 count_filter p q [] = refl
 count_filter p q (x ∷ xs) = split (q x) (count_filter p q xs) ∙ sym (count_by-cons (λ x. q x && p x) x xs)
@@ -57,7 +57,7 @@ turned : (a b c : Bool) → (a && (not b && c)) ≡ (not (a && b) && (a && c))
 turned true b c = refl
 turned false b c = refl
 
--- of what the rows of an incident have
+-- tests and counts on what the rows of an incident have
 module _ {X Y : Type 0} (mine : X → Bool) (get : X → Y) where
   any_among : (test : Y → Bool) (xs : List X) → list_any test (map get (filter mine xs)) ≡ list_any (λ x. mine x && test (get x)) xs
   any_among test xs = any_map test get (filter mine xs) ∙ any_having mine (λ x. test (get x)) xs
@@ -69,7 +69,7 @@ module _ {X Y : Type 0} (mine : X → Bool) (get : X → Y) where
   count_among : (test : Y → Bool) (xs : List X) → count_by test (map get (filter mine xs)) ≡ count_by (λ x. mine x && test (get x)) xs
   count_among test xs = count_map test (filter mine xs) ∙ count_filter (λ x. test (get x)) mine xs
 
-  -- all but some
+  -- a count of all but some
   count_beside : (some : Y → Bool) (xs : List X) → count_by (λ y. not (some y)) (map get (filter mine xs)) ≡ count_by mine (filter (λ x. not (mine x && some (get x))) xs)
   count_beside some xs =
       count_among (λ y. not (some y)) xs
@@ -126,7 +126,7 @@ granted_stands s r permissions is = at_same (λ p. is_permission_among_until p r
 pub gates_counted : (n : ℕ) (rows : List Gate) → class_gates_among (its_gates n rows) ≡ class_gates n rows
 gates_counted n rows = count_among (λ (g : Gate). g.incident == n) (λ (g : Gate). g.gate) (λ (g : CaseGate). not (is_root g.path)) rows
 
--- with a gate that takes the place of the one at its path
+-- with a gate in place of the one at its path
 pub gates_exchanged : (n : ℕ) (p : Tokens) (level : ℕ) (group : Option ℕ) (rows : List Gate) →
     class_gates_with p (its_gates n rows) ≡ class_gates n (put_by gate_cmp (gate_with (record { incident = n; path = p }) level group) (filter (λ (g : Gate). not (is_gate_at (record { incident = n; path = p }) g)) rows))
 gates_exchanged n p level group rows =

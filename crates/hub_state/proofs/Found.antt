@@ -49,7 +49,7 @@ found_passes p r (y ∷ ys) x h k = split (p y) h (found_passes p r ys x)
     split true e rest = ap (λ z. r z || list_any (λ y. p y && r y) ys) (some_same e) ∙ ap (λ b. b || list_any (λ y. p y && r y) ys) k
     split false e rest = rest e k
 
--- of those that pass p there is one alone, so what one of them passes, the one that is found passes
+-- only one element passes p, so the one that is found passes whatever one of them passes
 none_later : {X K : Type 0} (key : X → K) (p r : X → Bool) (x : X) (xs : List X) → ((a b : X) → p a ≡ true → p b ≡ true → key a ≡ key b) → p x ≡ true → Each (λ y. key x ≢ key y) xs → list_any (λ y. p y && r y) xs ≡ false
 none_later key p r x [] alone here all = refl
 none_later key p r x (y ∷ ys) alone here all = split (p y) refl (none_later key p r x ys alone here all.1)

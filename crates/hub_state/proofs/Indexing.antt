@@ -1,4 +1,4 @@
--- Rows told apart by their keys, and the index of the incidents.
+-- Rows have different keys, and the index of the incidents.
 use Rattle.std.proofs.Common.{◌≡◌, ℕ, ◌==◌, ◌&&◌, ◌||◌, Bool, true, false, not, List, [], ◌∷◌, filter, if◌then◌else◌, refl, sym, ap, ◌∙◌, arith}
 use Rattle.std.specs.declared.cmp.Ordering.{Ordering}
 use Rattle.std.specs.Ordering.{is_lt, is_eq, nat_cmp, ordering_then}
@@ -42,7 +42,7 @@ index_left n incidents names all test =
 
 -- ---- rows under one key
 
--- paths are the same where their pointers are
+-- two paths are the same exactly if their pointers are
 pub paths_by_pointers : (p q : Tokens) → bytes_eq (pointer_text p) (pointer_text q) ≡ same_path p q
 paths_by_pointers p q =
     let s = pointer_text p in

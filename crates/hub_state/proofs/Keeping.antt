@@ -1,4 +1,4 @@
--- Rows put in and taken out: what is found, filtered and counted then.
+-- Rows put and taken: what is found, filtered and counted afterwards.
 use Rattle.std.proofs.Common.{◌≡◌, ℕ, ◌+◌, ◌≤◌, ◌<◌, ◌==◌, ◌||◌, not, Bool, true, false, if◌then◌else◌, List, [], ◌∷◌, filter, Option, Some, None, refl, sym, ap, ◌∙◌, subst, arith, map}
 use Rattle.std.proofs.lemmas.Bool.{both_ways, false_from_ne_true, false≢true}
 use Rattle.std.specs.Prelude.{count_by, find, is_some}
@@ -28,7 +28,7 @@ never b h k = absurd (both_ways b k h)
 pub turned : (m n : ℕ) → (m == n) ≡ false → (n == m) ≡ false
 turned m n h = grind (arith, nat_tests)
 
--- what is one number isn't another
+-- a number can't equal two different ones
 pub not_both : (m n k : ℕ) → (n == k) ≡ false → (m == n) ≡ true → (m == k) ≡ false
 not_both m n k h e = grind (arith, nat_tests)
 
@@ -39,7 +39,7 @@ numbers_above number n (x ∷ xs) h =
     let first : number x ≡ n + 1 = h.0 in
     (omega arith, each_weaker (λ y. n + 1 < number y) (λ y. n < number y) xs (λ y e. omega arith) (numbers_above number (n + 1) xs h.1))
 
--- where nothing passes, taking out what passes leaves all
+-- if no element passes, removing those that pass removes none
 pub none_taken : {X : Type 0} (p : X → Bool) (xs : List X) → list_any p xs ≡ false → filter (λ x. not (p x)) xs ≡ xs
 none_taken p [] h = refl
 none_taken p (x ∷ xs) h = split (p x) h (none_taken p xs)
@@ -78,7 +78,7 @@ found_any p (x ∷ xs) h = split (p x) refl (found_any p xs)
     split true is rest = ap (λ b. b || list_any p xs) is
     split false is rest = ap (λ b. b || list_any p xs) is ∙ rest (sym (ap (λ b. is_some (if b then Some x else find p xs)) is) ∙ h)
 
--- a row that isn't looked for doesn't hide the one that is
+-- putting a row that isn't looked for doesn't hide the one that is
 pub find_put : {X : Type 0} (p : X → Bool) (cmp : X → X → Ordering) (x : X) (xs : List X) → p x ≡ false → find p (put_by cmp x xs) ≡ find p xs
 find_put p cmp x [] h = ap (λ b. if b then Some x else None) h
 find_put p cmp x (y ∷ ys) h = elim (is_lt (cmp x y)) as (λ b. find p (if b then x ∷ y ∷ ys else y ∷ put_by cmp x ys) ≡ find p (y ∷ ys)) [
@@ -86,7 +86,7 @@ find_put p cmp x (y ∷ ys) h = elim (is_lt (cmp x y)) as (λ b. find p (if b th
   | false ↦ ap (λ o. if p y then Some y else o) (find_put p cmp x ys h)
 ]
 
--- a row that alone is looked for is found
+-- a row is found if it is the only one looked for
 pub find_new : {X : Type 0} (p : X → Bool) (cmp : X → X → Ordering) (x : X) (xs : List X) → p x ≡ true → Each (λ y. p y ≡ false) xs → find p (put_by cmp x xs) ≡ Some x
 find_new p cmp x [] h none = ap (λ b. if b then Some x else None) h
 find_new p cmp x (y ∷ ys) h none = elim (is_lt (cmp x y)) as (λ b. find p (if b then x ∷ y ∷ ys else y ∷ put_by cmp x ys) ≡ Some x) [
@@ -106,7 +106,7 @@ find_left p q (x ∷ xs) stays = split (q x) refl (find_left p q xs stays)
 
 -- ---- what is left
 
--- what holds of each row that passes
+-- what holds of each row that passes a test
 pub each_passed : {X : Type 0} (P Q : X → Type 0) (q : X → Bool) (xs : List X) → ((x : X) → q x ≡ true → P x → Q x) → Each P xs → Each Q (filter q xs)
 each_passed P Q q [] go all = tt
 each_passed P Q q (x ∷ xs) go all = split (q x) refl (each_passed P Q q xs go all.1)
@@ -131,7 +131,7 @@ pub all_each : {X : Type 0} (p : X → Bool) (xs : List X) → list_all p xs ≡
 all_each p [] h = tt
 all_each p (x ∷ xs) h = (grind arith, all_each p xs (grind arith))
 
--- a row that is filtered out isn't seen among the others
+-- a row that the filter drops leaves its result unchanged
 pub filter_put : {X : Type 0} (p : X → Bool) (cmp : X → X → Ordering) (x : X) (xs : List X) → p x ≡ false → filter p (put_by cmp x xs) ≡ filter p xs
 filter_put p cmp x [] h = ap (λ b. if b then x ∷ [] else []) h
 filter_put p cmp x (y ∷ ys) h = elim (is_lt (cmp x y)) as (λ b. filter p (if b then x ∷ y ∷ ys else y ∷ put_by cmp x ys) ≡ filter p (y ∷ ys)) [
@@ -149,7 +149,7 @@ filter_left p q (x ∷ xs) stays = split (q x) refl (filter_left p q xs stays)
         let other : p x ≡ false = false_from_ne_true (p x) (λ h. never (q x) (stays x h) is) in
         ap (λ b. filter p (if b then x ∷ filter q xs else filter q xs)) is ∙ (rest ∙ sym (ap (λ b. if b then x ∷ filter p xs else filter p xs) other))
 
--- a filter of what its contrary left
+-- a filter of what its contrary keeps
 pub filter_none : {X : Type 0} (p q : X → Bool) (xs : List X) → ((x : X) → q x ≡ true → p x ≡ false) → filter p (filter q xs) ≡ []
 filter_none p q [] gone = refl
 filter_none p q (x ∷ xs) gone = split (q x) refl (filter_none p q xs gone)
@@ -202,7 +202,7 @@ pub count_none : {X : Type 0} (p : X → Bool) (xs : List X) → Each (λ x. p x
 count_none p [] none = refl
 count_none p (x ∷ xs) none = count_past p x xs none.0 ∙ count_none p xs none.1
 
--- a count of what is left isn't above the count
+-- a count of the remaining rows is at most the count of all
 pub count_left : {X : Type 0} (p q : X → Bool) (xs : List X) → count_by p (filter q xs) ≤ count_by p xs
 count_left p q [] = omega arith
 count_left p q (x ∷ xs) = split (q x) refl (count_left p q xs)
@@ -211,7 +211,7 @@ count_left p q (x ∷ xs) = split (q x) refl (count_left p q xs)
     split true is rest = subst (λ b. count_by p (if b then x ∷ filter q xs else filter q xs) ≤ count_by p (x ∷ xs)) (sym is) (let a = count_by-cons p x (filter q xs) in let b = count_by-cons p x xs in omega (arith, a, b, rest))
     split false is rest = subst (λ b. count_by p (if b then x ∷ filter q xs else filter q xs) ≤ count_by p (x ∷ xs)) (sym is) (let b = count_by-cons p x xs in omega (arith, b, rest))
 
--- fewer, where one that counts is taken out
+-- the count is lower if a row that counts is removed
 pub count_fewer : {X : Type 0} (p out : X → Bool) (xs : List X) → list_any out xs ≡ true → ((x : X) → out x ≡ true → p x ≡ true) → 1 + count_by p (filter (λ x. not (out x)) xs) ≤ count_by p xs
 count_fewer p out [] some counts = absurd (false≢true some)
 count_fewer {X = X} p out (x ∷ xs) some counts = split (out x) refl (count_fewer p out xs)
@@ -223,7 +223,7 @@ count_fewer {X = X} p out (x ∷ xs) some counts = split (out x) refl (count_few
     split false is rest = subst (λ b. 1 + count_by p (if not b then x ∷ filter (λ y. not (out y)) xs else filter (λ y. not (out y)) xs) ≤ count_by p (x ∷ xs)) (sym is)
         (let later = rest (sym (ap (λ b. b || list_any out xs) is) ∙ some) counts in let a = count_by-cons p x (filter (λ y. not (out y)) xs) in let b = count_by-cons p x xs in omega (arith, later, a, b))
 
--- as many, where none that counts is taken out
+-- the count is the same if no row that counts is removed
 pub count_kept : {X : Type 0} (p q : X → Bool) (xs : List X) → ((x : X) → p x ≡ true → q x ≡ true) → count_by p (filter q xs) ≡ count_by p xs
 count_kept p q [] stays = refl
 count_kept p q (x ∷ xs) stays = split (q x) refl (count_kept p q xs stays)
@@ -235,7 +235,7 @@ count_kept p q (x ∷ xs) stays = split (q x) refl (count_kept p q xs stays)
 pub at_most : (a b limit : ℕ) → a ≤ b → b ≤ limit → a ≤ limit
 at_most a b limit h k = omega arith
 
--- a look-up that a test passes has found a row
+-- a look-up whose result passes a test has found a row
 pub found_passing : {X : Type 0} (test : X → Bool) (o : Option X) → option_map_or test o false ≡ true → (x : X) × (o ≡ Some x) × (test x ≡ true)
 found_passing test None h = absurd (never false h refl)
 found_passing test (Some x) h = (x, refl, h)

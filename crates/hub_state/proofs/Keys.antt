@@ -1,4 +1,4 @@
--- Only rows of one key tie.
+-- Only rows with equal keys compare as equal.
 use Rattle.std.proofs.Common.{◌≡◌, ◌≢◌, ℕ, ◌==◌, ◌&&◌, Bool, true, false, Some, refl, sym, ap, ◌∙◌, arith}
 use Rattle.std.specs.Ordering.{is_eq, nat_cmp, ordering_then}
 use Rattle.std.specs.declared.cmp.Ordering.{Ordering}
@@ -26,7 +26,7 @@ one_path p q h = let same : Some p ≡ Some q = sym (pointer_tokens-pointer_text
 path_of_text : (p q : Tokens) → bytes_eq (pointer_text q) (pointer_text p) ≡ true → same_path q p ≡ true
 path_of_text p q h = ap (same_path q) (sym (one_path q p (bytes_eq-true (pointer_text q) (pointer_text p) h))) ∙ same_path-refl q
 
--- ---- rows of different keys don't tie
+-- ---- rows with different keys don't compare as equal
 
 tie : (i j : ℕ) (o : Ordering) (same : Bool) → is_eq o ≡ same → (j == i && same) ≡ false → ordering_then (nat_cmp i j) o ≢ Equal
 tie i j Less same is h = grind (arith, nat_tests)

@@ -8,7 +8,7 @@ use Rattle.hub_state.specs.inner.Changes.{directory_edits, row_edits}
 use Rattle.hub_state.specs.declared.edit.Edit.{Edit}
 use Rattle.hub_state.specs.declared.edit.Edit.TheVariants as edit
 
--- edits of other rows don't ask which directory there is
+-- edits of the other rows don't depend on the directory
 beside : (edits : List Edit) (s : State) (d e : Directory) → (let t : State = with_edits (row_edits edits) (record s { directory = d }) in record t { directory = e }) ≡ (let t : State = with_edits (row_edits edits) s in record t { directory = e })
 beside [] s d e = refl
 beside (edit.Directory row ∷ edits) s d e = beside edits s d e

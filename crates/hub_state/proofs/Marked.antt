@@ -35,7 +35,7 @@ marked s n ls sound is = by_case (incident_of n s) (marked_found s n sound) is
         let same : i.document ≡ ls = cc in
         ap (λ d. first_bad_marking (located d)) (sym same) ∙ accepted
 
--- so it meets a want where its lines do
+-- so it meets a want exactly if its lines do
 pub met_found : (n : ℕ) (c : Case) (st : Standing) (w : Want) (s : State) → IsSound s → met_by_incident n c st w s ≡ option_map_or (λ (i : Incident). meets w i.document c st) (incident_of n s) false
 met_found n c st w s sound = by_case (incident_of n s) (marked_found s n sound)
   where

@@ -1,4 +1,4 @@
--- Rows in order: where one goes, and how those that belong together are found.
+-- Rows in order: at which place one goes, and how the rows of one owner are found.
 use Rattle.std.proofs.Common.{◌≡◌, ℕ, zero, suc, ◌+◌, ◌-◌, ◌≤◌, ◌<◌, ◌==◌, Bool, true, false, not, List, [], ◌∷◌, ◌++◌, filter, take, drop, length, get_or, if◌then◌else◌, refl, sym, ap, ◌∙◌, subst, arith, true≢false}
 use Rattle.std.specs.Prelude.{nat_lt}
 use Rattle.std.specs.declared.cmp.Ordering.{Ordering}
@@ -30,7 +30,7 @@ pairs_at R (x ∷ xs) all i zero d h k = absurd (omega arith)
 pairs_at R (x ∷ xs) all zero (suc j) d h k = each_at (R x) xs all.0 j d (omega arith)
 pairs_at R (x ∷ xs) all (suc i) (suc j) d h k = pairs_at R xs all.1 i j d (omega arith) (omega arith)
 
--- a test that holds of what stands before, where it holds
+-- a test that holds of each row before one of which it holds
 pub partitioned : {X : Type 0} (R : X → X → Type 0) (p : X → Bool) (xs : List X) → ((a b : X) → R a b → p b ≡ true → p a ≡ true) → Pairwise R xs → IsPartitionedBy p xs
 partitioned R p xs back all i j d h k here = split (i == j) refl
   where
@@ -63,7 +63,7 @@ put_in_order cmp x (y ∷ ys) total all = split (cmp x y) refl (put_in_order cmp
     split Equal is rest = subst (λ o. IsInOrder cmp (if is_lt o then x ∷ y ∷ ys else y ∷ put_by cmp x ys)) (sym is) (each_put (λ z. is_lt (cmp z y) ≡ false) cmp x ys (ap is_lt is) all.0, rest)
     split Greater is rest = subst (λ o. IsInOrder cmp (if is_lt o then x ∷ y ∷ ys else y ∷ put_by cmp x ys)) (sym is) (each_put (λ z. is_lt (cmp z y) ≡ false) cmp x ys (ap is_lt is) all.0, rest)
 
--- ---- rows that stand together
+-- ---- rows next to each other
 
 kept_all : {X : Type 0} (q : X → Bool) (xs : List X) → AllWithin (λ y. q y ≡ false) xs 0 (length xs) → filter (λ y. not (q y)) xs ≡ xs
 kept_all q [] all = refl
@@ -165,7 +165,7 @@ above_back cmp total x a b ab xb = split (cmp x a) refl (cmp a b) refl
     split Equal is u ab_is = ap (λ o. not (is_lt o)) is
     split Greater is u ab_is = ap (λ o. not (is_lt o)) is
 
--- ---- the stretches that two searches find
+-- ---- the ranges that two searches find
 
 owner_back : (a b n : ℕ) → a ≤ b → nat_lt b n ≡ true → nat_lt a n ≡ true
 owner_back a b n h k = grind (arith, nat_tests)

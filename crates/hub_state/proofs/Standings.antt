@@ -1,4 +1,4 @@
--- How a standing is made of what is looked up.
+-- How a standing is made of the results of look-ups.
 use Rattle.std.proofs.Common.{◌≡◌, ℕ, List, ◌==◌, ◌||◌, Bool, filter, Option, ap, ◌∙◌}
 use Rattle.std.specs.Prelude.{ℤ, option_map}
 use Rattle.std.specs.List.{list_any}
@@ -21,7 +21,7 @@ use Rattle.hub_state.specs.declared.state.Incident.{Incident}
 use Rattle.hub_state.proofs.Counted.{any_same, target_among}
 use Rattle.hub_state.proofs.Keeping.{any_map}
 
--- one of those that an organisation is a client of is the source, or addressed
+-- an organisation whose client it is is the source or a recipient
 client_is : (s : State) (i : Incident) (org : ℕ) →
     list_any (λ o. o == i.naming.source || is_target_among (target.Org o) (its_recipients i.naming.number s.recipients)) (orgs_whose_client org s.directory) ≡ is_client_for s i org
 client_is s i org =
@@ -29,7 +29,7 @@ client_is s i org =
     ∙ (any_map (λ o. o == i.naming.source || has_recipient i.naming.number (target.Org o) s) (λ (c : Client). c.org) (filter (λ (c : Client). c.client == org) s.directory.clients)
     ∙ any_having (λ (c : Client). c.client == org) (λ (c : Client). c.org == i.naming.source || has_recipient i.naming.number (target.Org c.org) s) s.directory.clients)
 
--- the standing of what is looked up, where these four are told of it
+-- the standing made of the results of look-ups and of these four values
 abbrev made_with : ℤ → Reader → Shared → Ties → Bool → Bool → Bool → Option Handling → Standing
 made_with now r k t person addressed client arrangement = record {
   source = r.person.org == k.naming.source;
@@ -66,7 +66,7 @@ made_is s now r k t p i reader shared ties =
     ∙ (ap (λ b. record (standing_for s now p i) { addressed = b; client = client }) (target_among i.naming.number (target.Org p.org) s)
     ∙ ap (λ b. record (standing_for s now p i) { client = b }) (client_is s i p.org)))))
 
--- the standing that is made is that of the person to the incident of which all this was looked up
+-- the standing that is made is the person's to the incident, if the look-ups returned theirs
 pub made_for : (s : State) (now : ℤ) (r : Reader) (k : Shared) (t : Ties) (p : Person) (i : Incident) (targets : List Target) (served : List ℕ) (person addressed client : Bool) (arrangement : Option Handling) →
     r ≡ reader_with s p → k ≡ shared_as s i.naming → t ≡ ties_of p.org i.naming.source i.naming.community s →
     targets ≡ k.recipients → served ≡ r.served →

@@ -1,4 +1,4 @@
--- What a request leaves of the rows that are counted for it.
+-- The rows that a request leaves, of those that are counted for it.
 use Rattle.std.proofs.Common.{◌≡◌, ℕ, ◌+◌, ◌==◌, ◌&&◌, Bool, true, false, not, List, [], ◌∷◌, ◌++◌, filter, if◌then◌else◌, Option, Some, None, refl, ap, ◌∙◌}
 use Rattle.std.specs.Prelude.{count_by, option_map}
 use Rattle.std.specs.List.{flat_map}
@@ -47,7 +47,7 @@ pub after_append : (xs ys : List Edit) (s : State) → with_edits (xs ++ ys) s �
 after_append [] ys s = refl
 after_append (x ∷ xs) ys s = after_append xs ys (with_edits (x ∷ []) s)
 
--- an edit at the path of a text, or none, leaves what it leaves at each path
+-- if an edit at each path leaves this part as it is, so does one at a text's path or none
 pub along_path : {X : Type 0} (get : State → X) (f : Tokens → List Edit) (path : Bytes) (s : State) → ((p : Tokens) → get (with_edits (f p) s) ≡ get s) → get (with_edits (made_at f path) s) ≡ get s
 along_path get f path s same = split (pointer_tokens path)
   where
@@ -55,7 +55,7 @@ along_path get f path s same = split (pointer_tokens path)
     split None = refl
     split (Some p) = same p
 
--- gates that are put
+-- putting gates leaves this part as it is
 gates_leave : {X : Type 0} (get : State → X) → ((g : Gate) (s : State) → get (edited (edit.PutGate g) s) ≡ get s) → (n : ℕ) (gates : List WantedGate) (s : State) →
     get (with_edits (flat_map (λ (g : WantedGate). made_at (put_gate n g.level g.group) g.path) gates) s) ≡ get s
 gates_leave get same n [] s = refl
@@ -64,7 +64,7 @@ gates_leave get same n (g ∷ gates) s =
     ∙ (gates_leave get same n gates (with_edits (made_at (put_gate n g.level g.group) g.path) s)
     ∙ along_path get (put_gate n g.level g.group) g.path s (λ p. same (record { incident = n; gate = record { path = p; level = g.level; group = g.group } }) s))
 
--- an incident that is exchanged
+-- exchanging an incident leaves this part as it is
 next_leaves : {X : Type 0} (get : State → X) → ((n : ℕ) (s : State) → get (edited (edit.TakeIncident n) s) ≡ get s) → ((i : Incident) (s : State) → get (edited (edit.PutIncident i) s) ≡ get s) →
     (n : ℕ) (k : Option IncidentFacts) (community : Option ℕ) (docs : List Lines) (s : State) → get (with_edits (put_next n k community docs) s) ≡ get s
 next_leaves get taken put n None community docs s = refl
@@ -104,7 +104,7 @@ none_left n xs = count_filter (λ (x : Permission). x.incident == n) (λ (x : Pe
 
 -- ---- counts
 
--- where the incident is there, what is counted is what would stand
+-- if the incident is there, the counts are those after the change
 pub counts_are : (k : Counts) (b : Bool) (gates recipients permissions : ℕ) → b ≡ true → k.gates ≡ gates → k.recipients ≡ recipients → k.permissions ≡ permissions →
     k ≡ record { gates = if b then gates else 0; recipients = if b then recipients else 0; permissions = if b then permissions else 0 }
 counts_are k false gates recipients permissions there e f h = cc

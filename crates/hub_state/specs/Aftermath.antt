@@ -1,4 +1,4 @@
--- What a request changes, where nothing refuses it.
+-- What a request changes if nothing refuses it.
 use Rattle.std.specs.Prelude.{ℕ, ℤ, ◌+◌, List, [], ◌∷◌, ◌++◌, map, Option, Some, None}
 use Rattle.std.specs.List.{flat_map}
 use Rattle.std.specs.Option.{option_map_or}
@@ -25,40 +25,41 @@ use Rattle.hub_state.specs.declared.request.Request.TheVariants as ask
 abbrev pub next_incident : State → ℕ
 next_incident s = greatest (map incident_number s.incidents) + 1
 
+-- the edit that puts one gate: its incident, level, group or none, and path
 abbrev pub put_gate : ℕ → ℕ → Option ℕ → Tokens → List Edit
 put_gate n level group p = PutGate (record { incident = n; gate = record { path = p; level = level; group = group } }) ∷ []
 
--- the gate at the root of an incident, and those asked for
+-- the edits that put the gate at the root of an incident and the gates of the distribution at its classes
 abbrev pub put_gates : ℕ → Distribution → List Edit
 put_gates n d = put_gate n d.level d.group []
     ++ flat_map (λ (g : WantedGate). made_at (put_gate n g.level g.group) g.path) d.gates
 
--- an incident in its first revision, with the community that it names and its gates
+-- the edits that put a new incident in revision 1, with the community that it names, and its gates
 abbrev pub put_incident : ℕ → ℕ → Distribution → Lines → List Edit
 put_incident source n d doc =
     PutIncident (record { naming = record { number = n; source = source; ident = ident_of doc; revision = 1; community = d.community }; document = doc })
     ∷ put_gates n d
 
--- one incident after another, in the order of the body, from number n on
+-- the same for each document of a body, in order; the incidents are numbered from n on
 abbrev pub put_incidents : ℕ → ℕ → Distribution → List Lines → List Edit
 put_incidents source n d [] = []
 put_incidents source n d (doc ∷ docs) = put_incident source n d doc ++ put_incidents source (n + 1) d docs
 
 -- ---- by the rows of a state
 
--- the row of an incident in its next revision, with this document and community
+-- the row of an incident in its next revision, with this document and this community or none
 abbrev pub revised : Option ℕ → Lines → Incident → Incident
 revised community doc i = record {
   naming = record i.naming { revision = i.naming.revision + 1; community = community };
   document = doc;
 }
 
--- it takes the place of the row that stands, with the first of these documents
+-- takes the row out and puts it back in its next revision, with the first of these documents
 abbrev pub put_revised : Option ℕ → List Lines → Incident → List Edit
 put_revised community [] i = []
 put_revised community (doc ∷ docs) i = TakeIncident i.naming.number ∷ PutIncident (revised community doc i) ∷ []
 
--- what the actor's request changes
+-- the edits of a person's request, by the rows of the state; none if the request only reads
 abbrev pub edits_of : State → Person → Request → List Edit
 edits_of s a (ask.Circle command) = map Directory (rows_of (circle.edit_of (circle.next_in s.directory command) a command))
 edits_of s a (ask.Post r) = put_incidents a.org (next_incident s) r.distribution (documents_in r.document)
@@ -75,31 +76,32 @@ edits_of s a (ask.Withdraw r) =
     made_at (λ p. TakePermission (record { incident = r.incident; path = p; grantee = r.grantee }) ∷ []) r.path
 edits_of s a _ = []
 
--- the state where nothing refuses the request
+-- the state after these edits, if nothing refuses the request
 abbrev pub changed : State → Person → Request → State
 changed s actor request = with_edits (edits_of s actor request) s
 
 -- ---- by the facts
 
--- the row of an incident that names this community, or none, with this document, in its next revision
+-- the row of an incident in its next revision, with this document and this community or none, made of its facts
 abbrev pub next_row : ℕ → IncidentFacts → Option ℕ → Lines → Incident
 next_row n k community doc = record { naming = record { number = n; source = k.source; ident = k.ident; revision = k.revision + 1; community = community }; document = doc }
 
--- the incident with the first of these documents, in its next revision
+-- exchanges the row of an incident for its next revision, with the first of these documents
 abbrev pub put_revision : ℕ → IncidentFacts → Option ℕ → List Lines → List Edit
 put_revision n k community [] = []
 put_revision n k community (doc ∷ docs) = TakeIncident n ∷ PutIncident (next_row n k community doc) ∷ []
 
--- where it is known, in its next revision
+-- the same if the incident is there, and no edit if it is missing
 abbrev pub put_next : ℕ → Option IncidentFacts → Option ℕ → List Lines → List Edit
 put_next n None community docs = []
 put_next n (Some k) community docs = put_revision n k community docs
 
--- the permission of this key with this end, in place of one with another end
+-- takes out the permission of this key, whatever its end, and puts the one with this end
 abbrev pub put_permission : PermissionKey → Option ℤ → List Edit
 put_permission k until = TakePermission k ∷ PutPermission (permission_with k until) ∷ []
 
--- what the actor's request changes, by the number of the next row of its kind and by what is known of the incident named
+-- the edits of a person's request, by the number of the next row of its kind and the facts of the incident that it
+-- names
 abbrev pub edits_from : ℕ → Option IncidentFacts → Person → Request → List Edit
 edits_from next known a (ask.Circle command) = map Directory (rows_of (circle.edit_of next a command))
 edits_from next known a (ask.Post r) = put_incidents a.org next r.distribution (documents_in r.document)
@@ -116,6 +118,6 @@ edits_from next known a (ask.Withdraw r) =
     made_at (λ p. TakePermission (record { incident = r.incident; path = p; grantee = r.grantee }) ∷ []) r.path
 edits_from next known a _ = []
 
--- by the facts
+-- the edits of a person's request, by its facts: what `judge` returns
 abbrev pub edits_by : Facts → Person → Request → List Edit
 edits_by f a request = edits_from (f.circle.count + 1) f.incident a request

@@ -10,6 +10,7 @@ use Rattle.hub_state.specs.declared.state.Permission.{Permission}
 use Rattle.hub_state.specs.declared.edit.Edit.{Edit}
 use Rattle.hub_state.specs.declared.edit.Edit.TheVariants.{Directory, PutIncident, TakeIncident, TakePolicy, PutGate, TakeGate, PutRecipient, TakeRecipient, PutPermission, TakePermission}
 
+-- the state after one edit; a put inserts the row before the first one above it and replaces none
 abbrev pub edited : Edit → State → State
 edited (Directory edit) s = record s { directory = edited_row edit s.directory }
 edited (PutIncident incident) s = record s { incidents = put_by (by_number incident_number) incident s.incidents }
@@ -25,7 +26,7 @@ edited (TakeRecipient recipient) s = record s { recipients = filter (λ (r : Rec
 edited (PutPermission permission) s = record s { permissions = put_by permission_cmp permission s.permissions }
 edited (TakePermission key) s = record s { permissions = filter (λ (x : Permission). not (is_permission_being key x)) s.permissions }
 
--- the edits one after another
+-- the state after the edits, one after another
 abbrev pub with_edits : List Edit → State → State
 with_edits [] s = s
 with_edits (edit ∷ edits) s = with_edits edits (edited edit s)

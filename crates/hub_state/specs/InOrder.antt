@@ -1,4 +1,4 @@
--- Lists in the order of their rows, of which several may be alike.
+-- Lists in the order of a key, which several rows may share.
 use Rattle.std.specs.Prelude.{◌≡◌, ◌≤◌, ℕ, Bool, false, not, List, length, filter, slice_range}
 use Rattle.std.specs.List.{remove_range}
 use Rattle.std.specs.declared.cmp.Ordering.{Ordering}
@@ -9,11 +9,11 @@ use Rattle.circle.specs.Sound.{Pairwise}
 abbrev pub IsInOrder : {X : Type 0} → (X → X → Ordering) → List X → Type 0
 IsInOrder cmp = Pairwise (λ a b. is_lt (cmp b a) ≡ false)
 
--- neither is below the other
+-- neither row is below the other
 abbrev pub is_alike : {X : Type 0} → (X → X → Ordering) → X → X → Bool
 is_alike cmp a b = is_eq (cmp a b)
 
--- from one place up to another stand the rows that pass a test, and none else does
+-- the rows from one place up to another are those that pass a test
 pub record IsStretch {X : Type 0} (test : X → Bool) (rows : List X) (from to : ℕ) : Type 0 where
   pub rising : from ≤ to
   pub within : to ≤ length rows

@@ -1,4 +1,4 @@
--- What the lists in memory are: the rows of a state but those of the directory, with an index.
+-- The lists in memory: the rows of a state without its directory, and an index.
 use Rattle.std.specs.Prelude.{◌≡◌, ℕ, ◌+◌, ◌≤◌, Bool, List, vec_len, vec_capacity}
 use Rattle.std.specs.List.{list_any}
 use Rattle.circle.specs.Directory.{Directory}
@@ -11,7 +11,7 @@ use Rattle.hub_state.specs.declared.edit.Edit.{Edit}
 use Rattle.hub_state.specs.declared.rows.Named.{Named}
 use Rattle.hub_state.specs.declared.lists.Lists.{Lists}
 
--- the rows beside a directory
+-- the state that these lists are beside a directory
 abbrev pub with_directory : Directory → Lists → State
 with_directory d l = record {
   directory = d;
@@ -21,10 +21,11 @@ with_directory d l = record {
   permissions = l.permissions.items;
 }
 
--- a test passes one of the names where it passes that of an incident
+-- a test passes some name exactly if it passes the name of some incident
 abbrev pub IsIndexOf : List Incident → List Named → Type 0
 IsIndexOf incidents names = (test : Named → Bool) → list_any (λ i. test (named i)) incidents ≡ list_any test names
 
+-- each list is in the order of its key, and the names are an index of the incidents
 pub record AreInOrder (l : Lists) : Type 0 where
   pub incidents : IsInOrder incident_cmp l.incidents.items
   pub names : IsInOrder named_cmp l.names.items
@@ -33,7 +34,7 @@ pub record AreInOrder (l : Lists) : Type 0 where
   pub permissions : IsInOrder permission_cmp l.permissions.items
   pub indexed : IsIndexOf l.incidents.items l.names.items
 
--- each list has memory for so many rows more
+-- each list has room for n more rows
 pub record HasRoom (n : ℕ) (l : Lists) : Type 0 where
   pub incidents : vec_len l.incidents + n ≤ vec_capacity l.incidents
   pub names : vec_len l.names + n ≤ vec_capacity l.names
@@ -41,7 +42,7 @@ pub record HasRoom (n : ℕ) (l : Lists) : Type 0 where
   pub recipients : vec_len l.recipients + n ≤ vec_capacity l.recipients
   pub permissions : vec_len l.permissions + n ≤ vec_capacity l.permissions
 
--- the edit is made, and takes the room of one row at most
+-- the lists after the edit are the state's after it; it uses the room of at most one row
 pub record IsMade (edit : Edit) (old new : Lists) : Type 0 where
   pub made : (d : Directory) → with_directory d new ≡ edited edit (with_directory d old)
   pub in_order : AreInOrder new

@@ -1,4 +1,4 @@
--- What a shelf tells, as functions of the state.
+-- What a shelf reads, as functions of the state.
 use Rattle.std.specs.Prelude.{ℕ, ℤ, Bool, false, ◌&&◌, ◌||◌, ◌==◌, nat_lt, List, map, filter, take, Option, is_none, option_map, option_and_then}
 use Rattle.std.specs.List.{list_any, filter_map}
 use Rattle.std.specs.Option.{option_map_or}
@@ -36,30 +36,32 @@ use Rattle.hub_state.specs.declared.look_ups.Shared.{Shared}
 use Rattle.hub_state.specs.declared.reply.Entry.{Entry}
 use Rattle.hub_state.specs.declared.reply.JoinedGroup.{JoinedGroup}
 
--- the person with this key, active or not
+-- the person with this key, active or suspended
 abbrev pub person_by_key : Bytes → State → Option Person
 person_by_key key s = person_of_key key s.directory
 
--- what the source arranged with the organisation, under the name of the labels
+-- the handling that the source arranged with the organisation, under the name of the labels
 abbrev pub arranged : ℕ → ℕ → Directory → Option Handling
 arranged source org d = option_map handling_in (arranged_with source org d)
 
 -- ---- standing
 
+-- the organisation is a recipient of the incident
 abbrev pub is_org_addressed : State → Incident → ℕ → Bool
 is_org_addressed s i org = has_recipient i.naming.number (target.Org org) s
 
--- a client of the source or of an organisation that is addressed
+-- the organisation is a client of the source or of an organisation that is a recipient
 abbrev pub is_client_for : State → Incident → ℕ → Bool
 is_client_for s i org =
     list_any (λ (c : Client). c.client == org && (c.org == i.naming.source || is_org_addressed s i c.org))
     s.directory.clients
 
--- The organisation is a member of the community that an incident of this source names; where it names none, they share one.
+-- The organisation is in the community that the incident names. If it names none, the organisation shares one with the
+-- source.
 abbrev pub is_peer : ℕ → ℕ → Option ℕ → Directory → Bool
 is_peer org source community d = option_map_or (λ c. has_membership c org d) community (share_community org source d)
 
--- at a moment, in seconds since the beginning of 1970
+-- how a person stands to an incident at a moment, in seconds since the beginning of 1970 (UTC)
 abbrev pub standing_for : State → ℤ → Person → Incident → Standing
 standing_for s now p i = record {
   source = p.org == i.naming.source;
@@ -79,13 +81,13 @@ standing_for s now p i = record {
   now = now;
 }
 
--- how a person stands to an incident at a moment; none where either is missing
+-- how a person stands to an incident at a moment; none if either is missing
 abbrev pub standing_of : ℕ → ℕ → ℤ → State → Option Standing
 standing_of person n now s =
     option_and_then (λ (p : Person). option_map (standing_for s now p) (incident_of n s))
     (person_of person s.directory)
 
--- what a reader has of its own, whatever the incident
+-- the part of a standing that doesn't depend on the incident
 abbrev pub reader_with : State → Person → Reader
 reader_with s p = record {
   person = p;
@@ -95,11 +97,11 @@ reader_with s p = record {
   communities = communities_of p.org s.directory;
 }
 
--- none where the person is missing
+-- the same for the person of a number; none if the person is missing
 abbrev pub reader_of : ℕ → State → Option Reader
 reader_of n s = option_map (reader_with s) (person_of n s.directory)
 
--- how an organisation stands to a source and to the community that is named
+-- how an organisation stands to a source and to the community that an incident names
 abbrev pub ties_of : ℕ → ℕ → Option ℕ → State → Ties
 ties_of org source named s = record {
   community = share_community org source s.directory;
@@ -110,30 +112,32 @@ ties_of org source named s = record {
 
 -- ---- incidents
 
--- what an incident is known by, beside its document
+-- the naming of the incident of this number: all that it is known by, without its document
 abbrev pub naming_of : ℕ → State → Option Naming
 naming_of n s = option_map (λ (i : Incident). i.naming) (incident_of n s)
 
--- the gates of the incident of this number, its recipients and its permissions
+-- the gates of the incident of this number, in the order of their paths
 abbrev pub its_gates : ℕ → List Gate → List CaseGate
 its_gates n gates = map (λ (g : Gate). g.gate) (filter (λ (g : Gate). g.incident == n) gates)
 
+-- the recipients of the incident of this number, in their order
 abbrev pub its_recipients : ℕ → List Recipient → List Target
 its_recipients n recipients = map (λ (r : Recipient). r.target) (filter (λ (r : Recipient). r.incident == n) recipients)
 
+-- the permissions of the incident of this number, in their order
 abbrev pub its_permissions : ℕ → List Permission → List CasePermission
 its_permissions n permissions =
     map (λ (x : Permission). x.permission) (filter (λ (x : Permission). x.incident == n) permissions)
 
--- how an incident is shared, beside its gates and permissions
+-- how an incident is shared: its naming and its recipients
 abbrev pub shared_as : State → Naming → Shared
 shared_as s k = record { naming = k; recipients = its_recipients k.number s.recipients }
 
--- none where the incident is missing
+-- the same for the incident of a number; none if it is missing
 abbrev pub sharing_of : ℕ → State → Option Shared
 sharing_of n s = option_map (shared_as s) (naming_of n s)
 
--- what an incident is judged by, beside its document
+-- what an incident is judged by: its source, the community that it names, its gates and its permissions
 abbrev pub case_for : State → Incident → Case
 case_for s i = record {
   source = i.naming.source;
@@ -142,41 +146,46 @@ case_for s i = record {
   permissions = its_permissions i.naming.number s.permissions;
 }
 
+-- the case of the incident of this number; none if it is missing
 abbrev pub case_of : ℕ → State → Option Case
 case_of n s = option_map (case_for s) (incident_of n s)
 
+-- the document of the incident of this number; none if it is missing
 abbrev pub document_of : ℕ → State → Option Lines
 document_of n s = option_map (λ (i : Incident). i.document) (incident_of n s)
 
--- What a reader of this standing is served of the incident where it is judged by this case; none where it is missing.
+-- What a reader of this standing may see of the incident if it is judged by this case; none if it is missing.
 abbrev pub served_of_incident : ℕ → Case → Standing → State → Option Told
 served_of_incident n c s st = option_and_then (λ (ls : Lines). served_of ls c s) (document_of n st)
 
--- the lines meet the want, and their markings are accepted
+-- the lines meet the want for this reader, and their markings are accepted
 abbrev pub meets_marked : Want → Lines → Case → Standing → Bool
 meets_marked w ls c s = is_none (first_bad_marking (located ls)) && meets w ls c s
 
--- Whether the incident meets the want for a reader of this standing where it is judged by this case; not where it is missing.
+-- Whether the incident meets the want for a reader of this standing if it is judged by this case; false if it is
+-- missing.
 abbrev pub met_by_incident : ℕ → Case → Standing → Want → State → Bool
 met_by_incident n c s w st = option_map_or (λ (ls : Lines). meets_marked w ls c s) (document_of n st) false
 
+-- how an incident is listed: number, revision and source
 abbrev pub entry_of : Incident → Entry
 entry_of i = record { number = i.naming.number; revision = i.naming.revision; source = i.naming.source }
 
--- the incidents above a number
+-- the incidents with a number above this one
 abbrev pub incidents_above : ℕ → State → List Incident
 incidents_above n s = filter (λ (i : Incident). nat_lt n i.naming.number) s.incidents
 
--- the first so many of them
+-- the first `most` of these, as they are listed
 abbrev pub entries_after : ℕ → ℕ → State → List Entry
 entries_after n most s = take most (map entry_of (incidents_above n s))
 
 -- ---- groups
 
+-- a group as it is listed for one of its members, with the member's right to extend it
 abbrev pub joined : GroupMember → Group → JoinedGroup
 joined m g = record { number = g.number; owner = g.owner; name = g.name; releasability = g.releasability; active = g.active; extend = m.extend }
 
--- the groups of which the person's organisation is a member, by number
+-- the groups of which the person's organisation is a member, in the order of their numbers
 abbrev pub groups_of : Person → State → List JoinedGroup
 groups_of p s =
     filter_map (λ (m : GroupMember). option_map (joined m) (group_of m.group s.directory))

@@ -1,4 +1,4 @@
-//! Edits for which memory is taken already.
+//! Edits whose memory was taken before.
 ghost use Rattle.std.specs.Prelude.{◌≡◌, IfOk, map};
 ghost use Rattle.hub_state.specs.inner.Changes.{edit_in, row_edit, directory_edits, row_edits};
 
@@ -9,7 +9,7 @@ use crate::state::{Gate, GateKey, Incident, Permission, PermissionKey, Recipient
 use circle::command::RowEdit;
 use std::alloc::{AllocError, Global};
 
-/// An edit for which memory is taken already.
+/// An edit whose memory was taken before.
 #[derive(Drop)]
 pub(crate) enum Change {
     Directory(RowEdit),
@@ -37,7 +37,7 @@ pub(crate) struct Changes {
     pub(crate) rows: Vec<RowChange>,
 }
 
-/// Takes the memory for all edits.
+/// Copies all edits. Fails if the memory doesn't suffice.
 pub(crate) fn changes_of(alloc: Global, edits: &[Edit]) -> Result<Changes, AllocError>
     ensures directory { IfOk result (λ v. v.directory.items ≡ directory_edits edits.now) }
     ensures rows { IfOk result (λ v. map row_edit v.rows.items ≡ row_edits edits.now) }

@@ -1,4 +1,4 @@
-//! How many class gates, recipients and permissions of an incident would stand after a request.
+//! How many class gates, recipients and permissions an incident would have after a request.
 ghost use Rattle.std.specs.Prelude.{◌≡◌, ◌∷◌, [], true, false, ℕ, is_some};
 ghost use Rattle.circle.specs.declared.directory.Person.{Person as ThePerson};
 ghost use Rattle.iodef_tree.specs.Pointer.{pointer_tokens};
@@ -21,7 +21,7 @@ use crate::small_counts::capped;
 use iodef_tree::Path;
 use policy::{Gate, Permission};
 
-/// How many of an incident's rows would stand.
+/// How many of an incident's rows there would be.
 #[derive(Drop)]
 pub(crate) struct Counts {
     pub(crate) gates: u32,
@@ -29,7 +29,7 @@ pub(crate) struct Counts {
     pub(crate) permissions: u32,
 }
 
-/// How many class gates there would be with the gate asked for, if its text is the pointer of a path.
+/// How many class gates there would be with the one asked for. A text that is no pointer adds none.
 fn gates_with(path: &Option<Path>, asked: &Redistribute, gates: &[Gate]) -> u32
     requires { path.now ≡ pointer_tokens asked.now.path }
     ensures { (s : State) → IsSound s → gates.now ≡ its_gates asked.now.incident s.gates →
@@ -49,7 +49,7 @@ fn gates_with(path: &Option<Path>, asked: &Redistribute, gates: &[Gate]) -> u32
     }
 }
 
-/// How many permissions there would be with the one asked for, if its text is the pointer of a path.
+/// How many permissions there would be with the one asked for. A text that is no pointer adds none.
 fn permissions_with(path: &Option<Path>, asked: &Grant, permissions: &[Permission]) -> u32
     requires { path.now ≡ pointer_tokens asked.now.path }
     ensures { (s : State) → IsSound s →
@@ -73,7 +73,7 @@ fn permissions_with(path: &Option<Path>, asked: &Grant, permissions: &[Permissio
     }
 }
 
-/// How many permissions there would be without the one named.
+/// How many permissions there would be without the one named. A text that is no pointer names none.
 fn permissions_without(path: &Option<Path>, asked: &Withdraw, permissions: &[Permission]) -> u32
     requires { path.now ≡ pointer_tokens asked.now.path }
     ensures { (s : State) → IsSound s →
@@ -97,7 +97,7 @@ fn permissions_without(path: &Option<Path>, asked: &Withdraw, permissions: &[Per
     }
 }
 
-/// How many stand.
+/// How many rows there are.
 fn standing_counts(sharing: &Sharing) -> Counts
     ensures { (s : State) → (n : ℕ) → IsSound s → sharing.now ≡ sharing_named n s →
         result ≡ counts_of n s }
@@ -109,7 +109,7 @@ fn standing_counts(sharing: &Sharing) -> Counts
     }
 }
 
-/// How many would stand of the incident that the request names, which is there.
+/// How many rows the incident that the request names would have. It is there.
 fn counts_there(path: &Option<Path>, request: &Request, sharing: &Sharing) -> Counts
     requires { path.now ≡ path_asked request.now }
     ensures { (s : State) → IsSound s → sharing.now ≡ sharing_asked (incident_asked request.now) s →
@@ -122,7 +122,7 @@ fn counts_there(path: &Option<Path>, request: &Request, sharing: &Sharing) -> Co
     match request {
         Request::Replace(asked) => Counts {
             gates: capped(asked.distribution.gates.as_slice().len()),
-            // an exchanged document ends them
+            // an exchange of the document takes all permissions out
             permissions: 0,
             ..counts
         },
@@ -150,8 +150,8 @@ fn counts_there(path: &Option<Path>, request: &Request, sharing: &Sharing) -> Co
     }
 }
 
-/// How many would stand where no incident that is there is named: each incident of a Post would have as many class gates
-/// as are asked for.
+/// How many rows there would be if the request names no incident that is there. Each incident of a Post would have as
+/// many class gates as the request asks for.
 fn counts_apart(request: &Request) -> Counts
     ensures { (s : State) → (actor : ThePerson) →
         is_some (looked_up s (incident_asked request.now)) ≡ false →
@@ -168,8 +168,8 @@ fn counts_apart(request: &Request) -> Counts
     }
 }
 
-/// How many would stand after a request, which names this path if any, by how the incident that it names is shared; whether
-/// that is there is known.
+/// How many rows there would be after a request at this path, if at any. `sharing` is that of the incident that the
+/// request names, and `is_there` says whether there is one.
 pub(crate) fn counts_then(
     path: &Option<Path>,
     request: &Request,

@@ -1,4 +1,4 @@
-//! What there is to know about a request, made of what a shelf looks up.
+//! The facts of a request, made of a shelf's look-ups.
 ghost use Rattle.std.specs.Prelude.{◌≡◌, IfOk, option_map};
 ghost use Rattle.hub_state.specs.Facts.{plain_facts, exists_in, stands_in, count_in, circle_facts_of, facts_of};
 ghost use Rattle.hub_state.specs.Requests.{incident_facts, looked_up};
@@ -26,7 +26,7 @@ use circle::directory::Person;
 use iodef_tree::{Document, Path};
 use std::alloc::Global;
 
-/// The incident that a request names.
+/// The number of the incident that a request names.
 fn incident_asked(request: &Request) -> Option<u32>
     ensures { result ≡ spec.incident_asked request.now }
 {
@@ -77,7 +77,7 @@ fn find_exists<L: LookUps>(
     }
 }
 
-/// How many incidents there are, where more are to be posted.
+/// How many incidents there are, for a Post; 0 for all other requests.
 fn find_count<L: LookUps>(shelf: &mut L, request: &Request) -> Result<u32, ShelfFault>
     ensures { Finds L.has L.doubts L.failed L.may_remain shelf.old shelf.new result (λ s.
         IfOk result (λ n. n ≡ count_in s request.now)) }
@@ -88,7 +88,7 @@ fn find_count<L: LookUps>(shelf: &mut L, request: &Request) -> Result<u32, Shelf
     }
 }
 
-/// The facts that the directory has of a request that isn't its own.
+/// The directory's facts of a request that isn't one of its commands.
 fn find_plain_facts<L: LookUps>(
     shelf: &mut L,
     actor: &Person,
@@ -109,7 +109,7 @@ fn find_plain_facts<L: LookUps>(
     Ok(plain_facts(exists, stands, count))
 }
 
-/// The facts that the directory has of a request.
+/// The directory's facts of a request.
 fn find_circle_facts<L: LookUps>(
     shelf: &mut L,
     actor: &Person,
@@ -169,7 +169,7 @@ fn document_asked<L: LookUps>(
     }
 }
 
-/// What there is to know about a request, by how the incident that it names is shared.
+/// The facts of a request, made of the sharing of the incident that it names.
 fn find_facts<L: LookUps>(
     shelf: &mut L,
     alloc: Global,
@@ -212,7 +212,8 @@ fn find_facts_asked<L: LookUps>(
     find_facts(shelf, alloc, actor, request, &sharing)
 }
 
-/// What there is to know about a person's request, by a shelf's look-ups.
+/// The facts of a person's request, made of a shelf's look-ups. Fails with `NoMemory` if the memory doesn't suffice,
+/// and with `Failed` if a look-up does or if the count of failures is at its last value.
 pub fn facts_by<L: LookUps>(
     shelf: &mut L,
     alloc: Global,
@@ -222,6 +223,7 @@ pub fn facts_by<L: LookUps>(
     ensures { Reads L.has L.doubts L.failed L.may_remain shelf.old shelf.new (λ s facts. facts ≡
         facts_of s actor.now request.now) result }
 {
+    // at the last value of the count every call fails, and some requests look nothing up
     if shelf.has_ended() {
         return Err(ShelfFault::Failed);
     }

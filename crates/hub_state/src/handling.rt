@@ -1,11 +1,11 @@
-//! The directory's handlings as those of labels.
+//! The directory's handlings as the handlings of labels.
 ghost use Rattle.std.specs.Prelude.{◌≡◌};
 ghost use Rattle.hub_state.specs.Handlings as spec;
 
 use circle::directory::Handling as Arranged;
 use marking::Handling;
 
-/// The handling that an arrangement names.
+/// Returns the handling of labels with the same name.
 pub fn handling_in(arranged: Arranged) -> Handling
     ensures { result ≡ spec.handling_in arranged }
 {

@@ -1,24 +1,24 @@
-//! What the hub keeps, what is asked of it and answered, and the shelf that keeps it.
+//! What the hub keeps, which requests and replies there are, and the shelf that keeps it.
 //!
-//! To read first, in `specs/`: `State`, the thirteen sets; `Aftermath`, what an accepted request changes; `Reads`, what is
-//! read of a state; `Sound`, what is always so of it. Then the trait [`Shelf`].
+//! To read first, in `specs/`: `State`, the thirteen sets; `Aftermath`, what an accepted request changes; `Reads`, what
+//! is read of a state; `Sound`, what holds of every state that the hub has. Then the trait [`Shelf`].
 //!
-//! The rooms, in the way of a request:
+//! The modules, in the order in which a request meets them:
 //!
-//! - `request` and `reply`: what is asked, and what is answered; `bytes`, `handling`: small types of theirs;
+//! - `request` and `reply`: the requests and the replies; `bytes`, `handling`: small types of theirs;
 //! - `state`: the rows of incidents, gates, recipients and permissions, and the keys of gates and permissions;
-//!   `row_keys`: by what targets, grantees, groups and ends are told apart; `edit`: the changes of single rows; `copies`: copies
-//!   of policy's gates and permissions; `recipients`: the list of those addressed; `small_counts`: counts as numbers of
-//!   32 bits;
+//!   `row_keys`: how targets, grantees, groups and ends are compared; `edit`: the changes of single rows; `copies`:
+//!   copies of policy's gates and permissions; `recipients`: the recipients of an incident; `small_counts`: counts as
+//!   numbers of 32 bits;
 //! - `shelf`: [`Shelf`], what every shelf promises; `look_ups`: [`LookUps`], what it looks up in its rows; `questions`:
-//!   what is asked of an incident's gates, recipients and permissions;
+//!   tests and counts on an incident's gates, recipients and permissions;
 //! - made of look-ups, once for every shelf: `standing`, how a person stands to an incident, of three ([`Reader`],
-//!   [`Shared`], [`Ties`]); `facts_made`, the `facts` of a request, by what it names (`named_there`), how its incident
-//!   is shared (`sharing`), what was posted before (`posted_earlier`) and how many rows there would be (`counts_then`);
-//! - `list_shelf`: [`ListShelf`], the shelf in memory, by `list_reads` and `list_look_ups`; `lists`, its lists, what
-//!   they tell (`of_incident`) and how they change (`change`); `rows`, their rows, and `sorted_rows`, how rows in
-//!   order are found, put in and taken out;
-//! - [`laws`]: what each limit is worth.
+//!   [`Shared`], [`Ties`]); `facts_made`, the `facts` of a request, by what it names (`named_there`), how its incident is
+//!   shared (`sharing`), what was posted before (`posted_earlier`) and how many rows there would be (`counts_then`);
+//! - `list_shelf`: [`ListShelf`], the shelf in memory, by `list_reads` and `list_look_ups`; `lists`, its lists, how
+//!   they are read (`of_incident`) and changed (`change`); `rows`, their rows, and `sorted_rows`, how rows in order are
+//!   found, put and taken;
+//! - [`laws`]: the value of each limit.
 #![tactic(auto)]
 
 mod bytes;
@@ -76,7 +76,7 @@ pub const INCIDENT_LIMIT: u32 = 1_000_000;
 /// How many revisions an incident may have.
 pub const REVISION_LIMIT: u32 = 1_000_000;
 
-/// How many gates an incident may have at its classes, beside the one at its root.
+/// How many gates an incident may have at its classes, without the one at its root.
 pub const GATE_LIMIT: u32 = 16;
 
 /// How many recipients an incident may have.
@@ -85,5 +85,5 @@ pub const RECIPIENT_LIMIT: u32 = 64;
 /// How many permissions an incident may have.
 pub const PERMISSION_LIMIT: u32 = 64;
 
-/// How many bytes a needle, or the name of a class to search in, may have.
+/// How many bytes a word to search for, or the name of a class to search in, may have.
 pub const WORD_LIMIT: usize = 256;

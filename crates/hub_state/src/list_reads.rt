@@ -1,4 +1,4 @@
-//! What the shelf in memory tells.
+//! The reads of the shelf in memory.
 ghost use Rattle.std.specs.Prelude.{◌≡◌, option_map, IfOk};
 ghost use Rattle.std.specs.Option.{option_copied};
 ghost use Rattle.circle.specs.Reads.{person_of};
@@ -118,7 +118,7 @@ impl ListShelf {
         }
     }
 
-    /// Of the document where it lies: nothing of it is copied but what is served.
+    /// Reads the document in place; it copies only what is served.
     pub(crate) fn find_excerpt(
         &self,
         incident: u32,
@@ -135,7 +135,7 @@ impl ListShelf {
         }
     }
 
-    /// Of the document where it lies: nothing of it is copied.
+    /// Reads the document in place, and copies nothing of it.
     #[tactic(auto, using(crate::proofs::Marked::met_found))]
     pub(crate) fn find_met(
         &self,

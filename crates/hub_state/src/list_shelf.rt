@@ -28,7 +28,8 @@ use redact::{Excerpt, Want};
 use std::alloc::{AllocError, Global};
 use std::marker::Model;
 
-/// A shelf that keeps the state in memory, in sorted vectors. It never fails.
+/// A shelf that keeps the state in memory, in sorted vectors. No call returns `Failed`. That the vectors are in
+/// order is an invariant of the type; that the state is sound is part of what the shelf has.
 #[derive(Drop)]
 pub struct ListShelf {
     alloc: Global,
@@ -48,7 +49,7 @@ impl Model for ListShelf {
 }
 
 impl ListShelf {
-    /// The shelf with thirteen empty sets; takes no memory.
+    /// Returns a shelf with thirteen empty sets. Takes no memory.
     pub fn new(alloc: Global) -> ListShelf
         ensures { result ≡ empty }
     {
@@ -75,7 +76,7 @@ impl ListShelf {
         self.lists.incident(number)
     }
 
-    /// How many incidents there are, as far as a u32 counts.
+    /// How many incidents there are, at most the greatest u32.
     pub(crate) fn incident_count(&self) -> u32
         ensures { result ≡ min (length self.now.incidents) 4294967295 }
     {
@@ -115,11 +116,12 @@ impl ListShelf {
         self.lists.entries_after(self.alloc, number, most)
     }
 
-    /// Makes all edits, or, where the memory doesn't suffice, none.
+    /// Makes all edits. Fails with no edit made if the memory doesn't suffice.
     pub(crate) fn make(&mut self, edits: &[Edit]) -> Result<(), AllocError>
         ensures made { OnOk result (self.new ≡ spec.with_edits edits.now self.old) }
         ensures none { OnErr result (self.new ≡ self.old) }
     {
+        // the copies and the room are taken first, so that nothing can fail once an edit is made
         let changes = changes_of(self.alloc, edits)?;
         self.lists.reserve(changes.rows.len())?;
         self.directory.apply(changes.directory)?;
@@ -208,7 +210,8 @@ impl Shelf for ListShelf {
         facts_by(self, alloc, actor, request)
     }
 
-    /// Makes all edits, or, where the memory doesn't suffice, none: whether or not the state with the edits made is sound.
+    /// Makes all edits, also those that lead to a state that isn't sound. Fails with no edit made if the memory doesn't
+    /// suffice.
     fn apply(&mut self, edits: &[Edit]) -> Result<(), ShelfFault>
         ensures made { OnOk result (self.new ≡ spec.with_edits edits.now self.old) }
         ensures none { OnErr result (self.new ≡ self.old) }

@@ -1,4 +1,4 @@
-//! The incidents, their gates, recipients and permissions in memory, each list in the order of its rows.
+//! The incidents, their gates, recipients and permissions in memory, each list in the order of its keys.
 ghost use Rattle.std.specs.Prelude.{◌≡◌, length, map, OnOk};
 ghost use Rattle.circle.specs.Directory.{Directory};
 ghost use Rattle.hub_state.specs.State.{empty};
@@ -14,7 +14,8 @@ use crate::sorted_rows::{put, take, take_all};
 use crate::state::{GateKey, Incident, PermissionKey, Recipient};
 use std::alloc::{AllocError, Global};
 
-/// The rows but those of the directory, with an index of the incidents by source and ident.
+/// The rows but those of the directory. The names are an index of the incidents by source and ident, by which a Post
+/// asks.
 #[derive(Drop)]
 pub(crate) struct Lists {
     pub(crate) incidents: Vec<Incident>,
@@ -25,7 +26,7 @@ pub(crate) struct Lists {
 }
 
 impl Lists {
-    /// Takes no memory.
+    /// Returns empty lists. Takes no memory.
     pub(crate) fn new(alloc: Global) -> Lists
         ensures rows { (d : Directory) → with_directory d result ≡ record empty { directory = d } }
         ensures in_order { AreInOrder result }
@@ -39,7 +40,7 @@ impl Lists {
         }
     }
 
-    /// Takes the memory for so many rows more in each list.
+    /// Takes the memory for `more` rows in each list.
     pub(crate) fn reserve(&mut self, more: usize) -> Result<(), AllocError>
         ensures same { (d : Directory) → with_directory d self.new ≡ with_directory d self.old }
         ensures in_order { AreInOrder self.old → AreInOrder self.new }
@@ -99,6 +100,7 @@ impl Lists {
         ensures { IsMade (edit.TakeIncident number) self.old self.new }
     {
         take_all(&mut self.incidents, number);
+        // A scan over all names: a binary search would need the incident's ident first.
         self.names.retain(|name| name.number != number);
     }
 
@@ -118,7 +120,7 @@ impl Lists {
         put(&mut self.gates, gate);
     }
 
-    // Takes out the gate that the key names. One pass: closing the gap moves as many rows.
+    // Takes out the gate of the key in one pass, as closing the gap moves as many rows.
     fn take_gate(&mut self, key: &GateKey)
         requires { AreInOrder self.old }
         ensures { IsMade (edit.TakeGate key.now) self.old self.new }
@@ -149,7 +151,7 @@ impl Lists {
         put(&mut self.permissions, permission);
     }
 
-    // Takes out the permission that the key names, likewise.
+    // Takes out the permission of the key, in one pass too.
     fn take_permission(&mut self, key: &PermissionKey)
         requires { AreInOrder self.old }
         ensures { IsMade (edit.TakePermission key.now) self.old self.new }

@@ -17,7 +17,7 @@ use circle::text::Text;
 use iodef_tree::Document;
 use policy::{Gates, Numbers, Permissions};
 
-/// What a reader has of its own, whatever the incident.
+/// The part of a standing that doesn't depend on the incident; a shelf may keep it for the next one.
 #[derive(Drop)]
 pub struct Reader {
     pub person: Person,
@@ -31,20 +31,20 @@ pub struct Reader {
     pub communities: Numbers,
 }
 
-/// How an organisation stands to a source and to the community that is named.
+/// How an organisation stands to a source and to the community that an incident names.
 #[derive(Drop)]
 pub struct Ties {
     /// The organisation and the source are in one community.
     pub community: bool,
-    /// The organisation is a member of the community that is named; where none is named, as `community`.
+    /// The organisation is a member of the community that is named. If none is named, as `community`.
     pub peer: bool,
     /// The organisation is in a community that is connected to one of the source's.
     pub connected: bool,
-    /// What the source arranged with the organisation.
+    /// The handling that the source arranged with the organisation.
     pub arrangement: Option<Handling>,
 }
 
-/// How an incident is shared, beside its gates and permissions.
+/// How an incident is shared, without its gates and permissions.
 #[derive(Drop)]
 pub struct Shared {
     pub naming: Naming,
@@ -52,9 +52,10 @@ pub struct Shared {
 }
 
 /// What a shelf looks up in its rows. Standings and facts are made of these, in the same way over each shelf. Each
-/// look-up answers its function of the content, and leaves it.
+/// look-up returns its function of the content and changes nothing. It fails with `NoMemory` if the memory doesn't
+/// suffice, and with `Failed` if the store failed.
 pub trait LookUps {
-    // the four members of a shelf, of the same meaning
+    // the four members of a shelf, with the same meaning
     ghost has: { Self → State → Type 0 };
 
     ghost doubts: { Self → ℕ };
@@ -63,11 +64,11 @@ pub trait LookUps {
 
     ghost may_remain: { Self → Option State → Type 0 };
 
-    /// Whether the count of failures has come to its last value. Each look-up fails from then on.
+    /// Whether the count of failures is at its last value. Each look-up fails from then on.
     fn has_ended(&self) -> bool
         ensures { result ≡ (failed self.now == last_count) };
 
-    /// What the directory knows of a command of its own.
+    /// The directory's facts of one of its commands.
     fn circle_facts(
         &mut self,
         actor: &Person,
@@ -106,7 +107,7 @@ pub trait LookUps {
         ensures { Reads has doubts failed may_remain self.old self.new (λ s found. found ≡
             is_group_member group org s.directory) result };
 
-    /// The person with this number, active or not, with what it has of its own.
+    /// The person with this number, active or suspended, with its part of a standing. None if it is missing.
     fn reader_of(&mut self, person: u32) -> Result<Option<Reader>, ShelfFault>
         ensures { Reads has doubts failed may_remain self.old self.new (λ s found. found ≡
             reader_of person s) result };
@@ -116,7 +117,7 @@ pub trait LookUps {
         ensures { Reads has doubts failed may_remain self.old self.new (λ s found. found ≡
             ties_of org source named s) result };
 
-    /// What an incident is known by, and to whom it is addressed.
+    /// The naming and the recipients of an incident. None if it is missing.
     fn sharing_of(&mut self, incident: u32) -> Result<Option<Shared>, ShelfFault>
         ensures { Reads has doubts failed may_remain self.old self.new (λ s found. found ≡
             sharing_of incident s) result };
@@ -126,12 +127,12 @@ pub trait LookUps {
         ensures { Reads has doubts failed may_remain self.old self.new (λ s found. found ≡
             length s.incidents) result };
 
-    /// What an incident is known by, beside its document.
+    /// The naming of an incident: all that it is known by, without its document. None if it is missing.
     fn naming(&mut self, incident: u32) -> Result<Option<Naming>, ShelfFault>
         ensures { Reads has doubts failed may_remain self.old self.new (λ s found. found ≡
             naming_of incident s) result };
 
-    /// The document of an incident.
+    /// The document of an incident. None if it is missing.
     fn stored_document(&mut self, incident: u32) -> Result<Option<Document>, ShelfFault>
         ensures { Reads has doubts failed may_remain self.old self.new (λ s found. found ≡
             document_of incident s) result };
@@ -146,7 +147,7 @@ pub trait LookUps {
         ensures { Reads has doubts failed may_remain self.old self.new (λ s found. found ≡
             its_gates incident s.gates) result };
 
-    /// To whom an incident is addressed.
+    /// The recipients of an incident.
     fn recipients_of(&mut self, incident: u32) -> Result<Recipients, ShelfFault>
         ensures { Reads has doubts failed may_remain self.old self.new (λ s found. found ≡
             its_recipients incident s.recipients) result };
@@ -156,6 +157,6 @@ pub trait LookUps {
         ensures { Reads has doubts failed may_remain self.old self.new (λ s found. found ≡
             its_permissions incident s.permissions) result };
 
-    // what a shelf has is sound
+    // What a shelf has is sound, so the counts of an incident's rows fit their types.
     ghost sound: { (self : Self) (s : State) → has self s → IsSound s };
 }

@@ -16,7 +16,7 @@ use iodef_tree::{Path, PathFault};
 use policy::Grantee;
 use std::alloc::{AllocError, Global};
 
-/// The path that the text is the pointer of.
+/// The path that the text is the JSON pointer of (RFC 6901); none if it is no pointer.
 fn path_of(alloc: Global, text: &Text) -> Result<Option<Path>, AllocError>
     ensures { IfOk result (λ path. path ≡ pointer_tokens text.now) }
 {
@@ -27,7 +27,7 @@ fn path_of(alloc: Global, text: &Text) -> Result<Option<Path>, AllocError>
     }
 }
 
-/// The path of what a request would put or take, if its text is the pointer of one.
+/// The path of the row that a request would put or take; none if its text is no pointer.
 pub(crate) fn path_asked(alloc: Global, request: &Request) -> Result<Option<Path>, AllocError>
     ensures { IfOk result (λ path. path ≡ path_asked request.now) }
 {
@@ -98,7 +98,7 @@ fn are_own_groups<L: LookUps>(
     }
 }
 
-/// Whether the actor's organisation is a member of the community that is named, and of all groups.
+/// Whether the actor's organisation is a member of the community that is named, and of each group.
 pub(crate) fn has_joined_all<L: LookUps>(
     shelf: &mut L,
     actor: &Person,
@@ -140,7 +140,7 @@ pub(crate) fn is_grantee<L: LookUps>(
     }
 }
 
-/// Whether the person is there, and active.
+/// Whether the person is there and active.
 pub(crate) fn is_active<L: LookUps>(shelf: &mut L, person: u32) -> Result<bool, ShelfFault>
     ensures { Finds L.has L.doubts L.failed L.may_remain shelf.old shelf.new result (λ s.
         IfOk result (λ b. b ≡ is_active s.directory person)) }

@@ -1,5 +1,5 @@
-//! What the lists tell of an incident: its row by its number or its name, and its gates, recipients and permissions,
-//! which stand together; and the entries of incidents above a number.
+//! Reads of the lists: an incident by its number or its name, its gates, recipients and permissions, and the entries of
+//! the incidents above a number. Rows are found by binary search, as those of one incident are next to each other.
 ghost use Rattle.std.specs.Prelude.{◌≡◌, ℕ, List, ◌==◌, filter, map, take, option_map, option_copied, IfOk};
 ghost use Rattle.circle.specs.Directory.{Directory};
 ghost use Rattle.hub_state.specs.Lists.{AreInOrder, with_directory};
@@ -50,8 +50,8 @@ impl Lists {
         rows_of(&self.permissions, incident)
     }
 
-    /// The number of the incident that a source has posted under an ident; which one, where it has posted several, isn't
-    /// said.
+    /// The number of the incident that a source has posted under an ident. If the source has posted several, the
+    /// contract doesn't say which.
     pub(crate) fn number_of(&self, name: &Named) -> Option<u32>
         requires { AreInOrder self.now }
         ensures { (d : Directory) →
@@ -66,7 +66,7 @@ impl Lists {
         }
     }
 
-    /// The gates of an incident as it is judged by them.
+    /// The gates of an incident, as policy has them.
     pub(crate) fn case_gates(&self, alloc: Global, incident: u32) -> Result<Gates, AllocError>
         requires { AreInOrder self.now }
         ensures { IfOk result (λ v. v ≡ its_gates incident self.now.gates.items) }
@@ -74,7 +74,7 @@ impl Lists {
         copy_gates(alloc, self.gates_of(incident))
     }
 
-    /// To whom an incident is addressed.
+    /// The recipients of an incident.
     pub(crate) fn copied_recipients(
         &self,
         alloc: Global,
@@ -86,7 +86,7 @@ impl Lists {
         copy_targets(alloc, self.recipients_of(incident))
     }
 
-    /// The permissions of an incident as it is judged by them.
+    /// The permissions of an incident, as policy has them.
     pub(crate) fn case_permissions(
         &self,
         alloc: Global,
@@ -98,7 +98,7 @@ impl Lists {
         copy_permissions(alloc, self.permissions_of(incident))
     }
 
-    /// The incidents above a number, by number.
+    /// The incidents above a number, in the order of their numbers.
     fn incidents_above(&self, number: u32) -> &[Incident]
         requires { AreInOrder self.now }
         ensures { (d : Directory) →
@@ -111,7 +111,7 @@ impl Lists {
         above
     }
 
-    /// The first so many incidents above a number, by number.
+    /// The first `most` incidents above a number, as they are listed.
     pub(crate) fn entries_after(
         &self,
         alloc: Global,
@@ -126,7 +126,7 @@ impl Lists {
     }
 }
 
-/// The first so many, or all where there are fewer.
+/// The first `most`, or all if there are fewer.
 fn first_of(incidents: &[Incident], most: u32) -> &[Incident]
     ensures { result.now ≡ take most incidents.now }
 {

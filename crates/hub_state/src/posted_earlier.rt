@@ -1,4 +1,4 @@
-//! What a body's source has posted before, by a shelf's look-ups.
+//! What the source of a body has posted before, by a shelf's look-ups.
 ghost use Rattle.std.specs.Prelude.{◌≡◌, IfOk, option_map};
 ghost use Rattle.hub_state.specs.Documents.{documents_in, ident_of};
 ghost use Rattle.hub_state.specs.Facts.{posted_of, posted_in};

@@ -1,4 +1,4 @@
-//! What is asked of the gates, recipients and permissions of one incident.
+//! Tests and counts on the gates, recipients and permissions of one incident.
 ghost use Rattle.std.specs.Prelude.{◌≡◌, ◌≤◌, ◌&&◌, not, length, count_by};
 ghost use Rattle.iodef_tree.specs.Text.{is_root, same_path};
 ghost use Rattle.hub_state.specs.inner.Questions as spec;
@@ -57,7 +57,7 @@ fn is_at_class(gate: &Gate) -> bool
     !gate.path.tokens().is_empty()
 }
 
-/// How many of the gates stand at a class.
+/// How many of the gates are at a class.
 pub(crate) fn count_class_gates(gates: &[Gate]) -> usize
     ensures { result ≡ spec.class_gates_among gates.now }
 {
@@ -81,7 +81,7 @@ fn count_class_gates_beside(gates: &[Gate], path: &Path) -> usize
         .count()
 }
 
-/// How many would stand at a class with a gate of this path in the place of the one that stands there.
+/// How many gates at a class there would be with one at this path, in place of the one there.
 pub(crate) fn count_class_gates_with(gates: &[Gate], path: &Path) -> usize
     ensures { result ≡ spec.class_gates_with path.now gates.now }
 {
@@ -93,14 +93,14 @@ pub(crate) fn count_class_gates_with(gates: &[Gate], path: &Path) -> usize
     }
 }
 
-/// How many there are beside this one.
+/// How many recipients there are without this one.
 pub(crate) fn count_targets_beside(targets: &[Target], target: Target) -> usize
     ensures { result ≡ spec.targets_beside target targets.now }
 {
     targets.iter().filter(|other| **other != target).count()
 }
 
-/// How many there are beside the one of this path and grantee.
+/// How many permissions there are without the one at this path for this grantee.
 pub(crate) fn count_permissions_beside(
     permissions: &[Permission],
     path: &Path,

@@ -1,10 +1,10 @@
-//! To whom an incident is addressed, as a list.
+//! The recipients of an incident, as a list.
 ghost use Rattle.std.specs.Prelude.{◌≡◌};
 
 use crate::request::Target;
 use std::marker::Model;
 
-/// The recipients of an incident, which contracts see as a list.
+/// The recipients of an incident. Contracts see them as a list.
 #[derive(Drop)]
 pub struct Recipients {
     targets: Vec<Target>,
@@ -20,14 +20,14 @@ impl Model for Recipients {
 }
 
 impl Recipients {
-    /// Takes no memory.
+    /// Makes it of a vector. Takes no memory.
     pub fn new(targets: Vec<Target>) -> Recipients
         ensures { result ≡ targets.items }
     {
         Recipients { targets }
     }
 
-    /// The recipients in their order.
+    /// Returns the recipients in their order.
     pub fn as_slice(&self) -> &[Target]
         ensures { result.now ≡ self.now }
     {

@@ -1,4 +1,4 @@
-//! What is answered.
+//! The replies.
 ghost use Rattle.std.specs.Prelude.{◌≡◌};
 
 use circle::directory::Person;
@@ -19,7 +19,7 @@ pub struct Entry {
     pub source: u32,
 }
 
-/// Incidents as they are listed, by number; contracts see a list.
+/// Incidents as they are listed, in the order of their numbers. Contracts see a list.
 #[derive(Drop)]
 pub struct Entries {
     entries: Vec<Entry>,
@@ -35,7 +35,7 @@ impl Model for Entries {
 }
 
 impl Entries {
-    /// Takes no memory.
+    /// Makes it of a vector. Takes no memory.
     pub fn new(entries: Vec<Entry>) -> Entries
         ensures { result ≡ entries.items }
     {
@@ -61,7 +61,7 @@ pub struct JoinedGroup {
     pub extend: bool,
 }
 
-/// Groups of which an organisation is a member, by number; contracts see a list.
+/// Groups of which an organisation is a member, in the order of their numbers. Contracts see a list.
 #[derive(Drop)]
 pub struct JoinedGroups {
     groups: Vec<JoinedGroup>,
@@ -77,7 +77,7 @@ impl Model for JoinedGroups {
 }
 
 impl JoinedGroups {
-    /// Takes no memory.
+    /// Makes it of a vector. Takes no memory.
     pub fn new(groups: Vec<JoinedGroup>) -> JoinedGroups
         ensures { result ≡ groups.items }
     {
@@ -91,7 +91,7 @@ impl JoinedGroups {
     }
 }
 
-/// At which place of an excerpt something is withheld, and by which rule; contracts see a list.
+/// At which places of an excerpt something is withheld, and by which rule. Contracts see a list.
 #[derive(Drop)]
 pub struct Withheld {
     pairs: Vec<(Path, Rule)>,
@@ -107,7 +107,7 @@ impl Model for Withheld {
 }
 
 impl Withheld {
-    /// Takes no memory.
+    /// Makes it of a vector. Takes no memory.
     pub fn new(pairs: Vec<(Path, Rule)>) -> Withheld
         ensures { result ≡ pairs.items }
     {
@@ -131,18 +131,18 @@ pub struct View {
     /// How many classes are visible.
     pub classes: u32,
     pub document: Document,
-    /// By the bytes of the place and then of the rule, none twice.
+    /// In the byte order of the place's pointer, then of the rule; no pair is there twice.
     pub withheld: Withheld,
 }
 
-/// What is answered.
+/// A reply.
 #[derive(Drop)]
 pub enum Reply {
-    /// The change is made.
+    /// The change was made.
     Done,
-    /// The change is made; the new rows have these numbers.
+    /// The change was made; the new rows have these numbers.
     Numbers(Numbers),
-    /// The document is exchanged; the incident has this revision.
+    /// The document was exchanged; the incident has this revision.
     Revision(u32),
     View(View),
     Incidents(Entries),

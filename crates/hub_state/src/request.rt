@@ -1,4 +1,5 @@
-//! What is asked. Pointers are texts and documents are bytes, as they came: whether they can be read is part of the answer.
+//! The requests. Pointers are texts and documents are bytes, as they came: judging them finds out whether they can be
+//! read.
 ghost use Rattle.std.specs.Prelude.{◌≡◌};
 
 use crate::bytes::Bytes;
@@ -7,7 +8,7 @@ use circle::text::Text;
 use policy::Grantee;
 use std::marker::Model;
 
-/// A gate as it is asked for.
+/// A gate as a request asks for it.
 #[derive(Drop)]
 pub struct WantedGate {
     pub level: u32,
@@ -16,7 +17,7 @@ pub struct WantedGate {
     pub path: Text,
 }
 
-/// Gates as they are asked for, which contracts see as a list.
+/// Gates as a request asks for them. Contracts see a list.
 #[derive(Drop)]
 pub struct WantedGates {
     gates: Vec<WantedGate>,
@@ -32,7 +33,7 @@ impl Model for WantedGates {
 }
 
 impl WantedGates {
-    /// Takes no memory.
+    /// Makes it of a vector. Takes no memory.
     pub fn new(gates: Vec<WantedGate>) -> WantedGates
         ensures { result ≡ gates.items }
     {
@@ -46,7 +47,7 @@ impl WantedGates {
     }
 }
 
-/// Who may be addressed, by number.
+/// A recipient: a person or an organisation, by number.
 #[derive(Clone, Copy, Debug, PartialEq, Eq)]
 pub enum Target {
     Person(u32),
@@ -56,7 +57,7 @@ pub enum Target {
 /// How far an incident reaches: the community that it names, the gate at its root, and the gates at its classes.
 #[derive(Drop)]
 pub struct Distribution {
-    /// The community for which TLP:GREEN is, if one is named; else that is for all communities of the source.
+    /// The community that TLP:GREEN means. If none is named, it means all communities of the source.
     pub community: Option<u32>,
     pub level: u32,
     /// The group of level 4.
@@ -71,7 +72,7 @@ pub struct Post {
     pub document: Bytes,
 }
 
-/// Another document for an incident, with another distribution; its permissions are taken out.
+/// Exchanges the document of an incident, with another distribution; takes its permissions out.
 #[derive(Drop)]
 pub struct Replace {
     pub incident: u32,
@@ -80,7 +81,7 @@ pub struct Replace {
     pub document: Bytes,
 }
 
-/// Another gate at the root or at a class.
+/// Puts a gate at the root or at a class.
 #[derive(Drop)]
 pub struct Redistribute {
     pub incident: u32,
@@ -91,32 +92,32 @@ pub struct Redistribute {
     pub group: Option<u32>,
 }
 
-/// A recipient more.
+/// Puts a recipient.
 #[derive(Drop)]
 pub struct Address {
     pub incident: u32,
     pub target: Target,
 }
 
-/// A recipient less.
+/// Takes a recipient out.
 #[derive(Drop)]
 pub struct Unaddress {
     pub incident: u32,
     pub target: Target,
 }
 
-/// A permission at a class, in place of one for the same grantee with another end.
+/// Puts a permission at a class, in place of one for the same grantee with another end.
 #[derive(Drop)]
 pub struct Grant {
     pub incident: u32,
     pub revision: u32,
     pub path: Text,
     pub grantee: Grantee,
-    /// When it ends, in seconds since the beginning of 1970 (UTC); it may be past. None: it has no end.
+    /// When it ends, in seconds since the beginning of 1970 (UTC); it may be past. None if it never ends.
     pub until: Option<i64>,
 }
 
-/// A permission taken back, ended or not.
+/// Takes a permission out, ended or not.
 #[derive(Drop)]
 pub struct Withdraw {
     pub incident: u32,
@@ -124,7 +125,7 @@ pub struct Withdraw {
     pub grantee: Grantee,
 }
 
-/// Why a person sees a class of an incident, or doesn't: an administrator's question.
+/// An administrator asks why a person sees a class of an incident, or doesn't.
 #[derive(Drop)]
 pub struct Explain {
     pub person: u32,
@@ -132,7 +133,7 @@ pub struct Explain {
     pub path: Text,
 }
 
-/// The incidents above a number in which a text stands, in classes of one name where that is given.
+/// Lists the incidents above a number in which a text is found, in classes of one name if that is given.
 #[derive(Drop)]
 pub struct Search {
     pub needle: Text,
@@ -140,7 +141,7 @@ pub struct Search {
     pub after: u32,
 }
 
-/// What the caller asks.
+/// What a caller may ask of the hub.
 #[derive(Drop)]
 pub enum Request {
     /// A change of the directory, by an administrator or a coordinator.

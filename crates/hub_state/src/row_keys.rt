@@ -1,4 +1,4 @@
-//! By what rows are told apart: the keys of targets and grantees, and which gate or permission a key names.
+//! How rows are compared: the keys of targets and grantees, and whether a gate or permission is that of a key.
 ghost use Rattle.std.specs.Prelude.{◌≡◌};
 ghost use Rattle.hub_state.specs.State as spec;
 
@@ -6,7 +6,7 @@ use crate::request::Target;
 use crate::state::{Gate, GateKey, Permission, PermissionKey};
 use policy::Grantee;
 
-/// Kind and number.
+/// Returns the kind (0 for a person, 1 for an organisation) and the number.
 pub fn target_key(target: Target) -> (u32, u32)
     ensures { result ≡ spec.target_key target }
 {
@@ -16,7 +16,7 @@ pub fn target_key(target: Target) -> (u32, u32)
     }
 }
 
-/// Kind and number.
+/// Returns the kind (0 to 3 for a person, an organisation, a community, a group) and the number.
 pub fn grantee_key(grantee: Grantee) -> (u32, u32)
     ensures { result ≡ spec.grantee_key grantee }
 {
@@ -28,7 +28,7 @@ pub fn grantee_key(grantee: Grantee) -> (u32, u32)
     }
 }
 
-/// Whether the gate stands where the key says.
+/// Whether the gate is at the place of the key.
 pub(crate) fn is_gate_at(gate: &Gate, key: &GateKey) -> bool
     ensures { result ≡ spec.is_gate_at key.now gate.now }
 {

@@ -1,4 +1,4 @@
-//! The rows as they stand in memory: a row with a path has its pointer beside it, by whose bytes it is ordered.
+//! The rows in memory: a row with a path has its JSON pointer beside it, by whose bytes rows are ordered.
 ghost use Rattle.std.specs.Prelude.{◌≡◌, IfOk, string_bytes};
 ghost use Rattle.iodef_tree.specs.Pointer.{pointer_text};
 ghost use Rattle.circle.specs.Ordered.{pair_cmp};
@@ -224,7 +224,7 @@ impl Row for Incident {
     }
 }
 
-/// Which incident a source has posted under an ident.
+/// The name of an incident: its source, its ident and its number.
 #[derive(Drop)]
 pub(crate) struct Named {
     pub(crate) source: u32,

@@ -1,4 +1,4 @@
-//! How an incident is shared, as a shelf looks it up, and whether what a request would put or take stands there.
+//! How an incident is shared, as a shelf looks it up, and whether the row that a request would put or take is there.
 ghost use Rattle.std.specs.Prelude.{◌≡◌, [], IfOk};
 ghost use Rattle.iodef_tree.specs.Pointer.{pointer_tokens};
 ghost use Rattle.hub_state.specs.Documents.{at_pointer};
@@ -52,7 +52,7 @@ fn find_sharing_named<L: LookUps>(shelf: &mut L, incident: u32) -> Result<Sharin
     })
 }
 
-/// How the incident asked of is shared; not at all, where none is named.
+/// The sharing of the incident that a request names; empty if it names none.
 pub(crate) fn find_sharing<L: LookUps>(
     shelf: &mut L,
     alloc: Global,
@@ -79,7 +79,7 @@ fn stands_gate(path: &Option<Path>, asked: &Redistribute, gates: &[Gate]) -> boo
     }
 }
 
-/// Whether the permission asked for stands with the end asked for.
+/// Whether the permission asked for is there with the end asked for.
 fn stands_granted(path: &Option<Path>, asked: &Grant, permissions: &[Permission]) -> bool
     requires { path.now ≡ pointer_tokens asked.now.path }
     ensures { result ≡
@@ -93,7 +93,7 @@ fn stands_granted(path: &Option<Path>, asked: &Grant, permissions: &[Permission]
     }
 }
 
-/// Whether the permission named stands, ended or not.
+/// Whether the permission named is there, ended or not.
 fn stands_permission(path: &Option<Path>, asked: &Withdraw, permissions: &[Permission]) -> bool
     requires { path.now ≡ pointer_tokens asked.now.path }
     ensures { result ≡
@@ -106,7 +106,8 @@ fn stands_permission(path: &Option<Path>, asked: &Withdraw, permissions: &[Permi
     }
 }
 
-/// Whether what a request would put or take, at this path if at any, stands in the sharing of the incident that it names.
+/// Whether the row that a request would put or take, at this path if at any, is among those of the incident that it
+/// names.
 pub(crate) fn stands(path: &Option<Path>, request: &Request, sharing: &Sharing) -> bool
     requires { path.now ≡ path_asked request.now }
     ensures { (s : State) → sharing.now ≡ sharing_asked (incident_asked request.now) s →

@@ -19,7 +19,7 @@ use policy::{Case, Standing};
 use redact::{Excerpt, Want};
 use thiserror::Error;
 
-/// Why a shelf gave no answer. The content is as it was.
+/// Why a shelf returned nothing. The content is as it was.
 #[derive(Clone, Copy, Debug, PartialEq, Eq, Error)]
 pub enum ShelfFault {
     #[error("no memory")]
@@ -29,12 +29,13 @@ pub enum ShelfFault {
     Failed,
 }
 
-/// What keeps the hub's state. Each read answers its function of the state, and leaves it.
+/// What keeps the hub's state. Each read returns its function of the state and changes nothing. Every call fails with
+/// `NoMemory` if the memory doesn't suffice, and with `Failed` if the store failed.
 pub trait Shelf {
-    // The content is this state. A store that an earlier failure has shut is not held to any.
+    // The content is this state. A store that an earlier failure has shut has any state, so a read of it can only fail.
     ghost has: { Self → State → Type 0 };
 
-    // 0 as long as the store has returned what was written
+    // 0 as long as the store has returned what was written to it
     ghost doubts: { Self → ℕ };
 
     // how often the store has failed
@@ -47,12 +48,12 @@ pub trait Shelf {
     fn failures(&self) -> u64
         ensures { result ≡ failed self.now };
 
-    /// The person with this key (its SHA-256), active or not.
+    /// The person with this key (its SHA-256), active or suspended. None if there is none.
     fn person_by_key(&mut self, key: &[u8; 32]) -> Result<Option<Person>, ShelfFault>
         ensures { Reads has doubts failed may_remain self.old self.new (λ s found. found ≡
             spec.person_by_key key.now s) result };
 
-    /// How a person stands to an incident at a moment, in seconds since the beginning of 1970 (UTC); none where either is
+    /// How a person stands to an incident at a moment, in seconds since the beginning of 1970 (UTC). None if either is
     /// missing.
     fn standing(
         &mut self,
@@ -63,18 +64,18 @@ pub trait Shelf {
         ensures { Reads has doubts failed may_remain self.old self.new (λ s found. found ≡
             standing_of person incident now s) result };
 
-    /// What an incident is judged by, beside its document; none where it is missing.
+    /// The case of an incident: what it is judged by, without its document. None if it is missing.
     fn case(&mut self, incident: u32) -> Result<Option<Case>, ShelfFault>
         ensures { Reads has doubts failed may_remain self.old self.new (λ s found. found ≡
             case_of incident s) result };
 
-    /// The document of an incident; none where it is missing.
+    /// The document of an incident. None if it is missing.
     fn document(&mut self, incident: u32) -> Result<Option<Document>, ShelfFault>
         ensures { Reads has doubts failed may_remain self.old self.new (λ s found. found ≡
             document_of incident s) result };
 
-    /// What a reader of this standing is served of an incident that is judged by this case; none where it is missing, where
-    /// no class of it is visible, and of a document whose markings aren't accepted.
+    /// What a reader of this standing may see of an incident that is judged by this case. None if the incident is
+    /// missing, if no class of it is visible, or if its markings aren't accepted.
     fn excerpt(
         &mut self,
         incident: u32,
@@ -84,8 +85,8 @@ pub trait Shelf {
         ensures { Reads has doubts failed may_remain self.old self.new (λ s found.
             option_map told_by found ≡ served_of_incident incident case standing s) result };
 
-    /// Whether an incident that is judged by this case meets a want, for a reader of this standing. Not where it is missing, nor
-    /// where its markings aren't accepted.
+    /// Whether an incident that is judged by this case meets a want, for a reader of this standing. False if it is
+    /// missing, or if its markings aren't accepted.
     fn meets(
         &mut self,
         incident: u32,
@@ -96,24 +97,23 @@ pub trait Shelf {
         ensures { Reads has doubts failed may_remain self.old self.new (λ s met. met ≡
             met_by_incident incident case standing want s) result };
 
-    /// The first so many incidents above a number, by number.
+    /// The first `most` incidents above a number, in the order of their numbers.
     fn incidents_after(&mut self, number: u32, most: u32) -> Result<Vec<Entry>, ShelfFault>
         ensures { Reads has doubts failed may_remain self.old self.new (λ s found.
             found.items ≡ entries_after number most s) result };
 
-    /// The groups of which the person's organisation is a member, by number.
+    /// The groups of which the person's organisation is a member, in the order of their numbers.
     fn groups_of(&mut self, person: &Person) -> Result<Vec<JoinedGroup>, ShelfFault>
         ensures { Reads has doubts failed may_remain self.old self.new (λ s found.
             found.items ≡ spec.groups_of person.now s) result };
 
-    /// What there is to know about a person's request.
+    /// The facts of a person's request.
     fn facts(&mut self, actor: &Person, request: &Request) -> Result<Facts, ShelfFault>
         ensures { Reads has doubts failed may_remain self.old self.new (λ s facts. facts ≡
             facts_of s actor.now request.now) result };
 
-    /// Makes all edits, or none. What is promised after Ok, and of a crash, is promised where the state with the edits
-    /// made is sound; of edits that would lead elsewhere it is promised that without Ok the content is as it was, and how
-    /// failures and doubts are counted.
+    /// Makes all edits, or none. What is promised after Ok, and of a crash, holds if the edits lead to a sound state.
+    /// For other edits only this is promised: without Ok the content is as it was, and failures and doubts are counted.
     fn apply(&mut self, edits: &[Edit]) -> Result<(), ShelfFault>
         ensures made { doubts self.new ≡ 0 → (s : State) → has self.old s →
             IsSound (state_with_edits edits.now s) →
@@ -121,8 +121,8 @@ pub trait Shelf {
         ensures none { OnErr result (KeepsContent has doubts failed may_remain self.old self.new) }
         ensures cause { HasCause (failed self.old) (failed self.new) result }
         ensures doubt { doubts self.old ≤ doubts self.new }
-        // After Ok a crash may leave the content after the edits, and nothing else; otherwise what it could have left before, or
-        // that content.
+        // After Ok a crash may leave only the content after the edits. Without Ok it may leave what it could have left
+        // before, or that content.
         ensures durable { doubts self.new ≡ 0 → (s : State) → has self.old s →
             IsSound (state_with_edits edits.now s) →
             OnOk result ((left : Option State) →

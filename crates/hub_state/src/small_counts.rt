@@ -1,7 +1,7 @@
 //! Counts as numbers of 32 bits.
 ghost use Rattle.std.specs.Prelude.{◌≡◌, min};
 
-/// The count, as far as a u32 counts.
+/// Returns the count, at most the greatest u32: a request's list can be longer than a u32 counts.
 pub fn capped(count: usize) -> u32
     ensures { result ≡ min count 4294967295 }
 {

@@ -1,4 +1,4 @@
-//! Lists of rows in the order of their keys: the rows of an incident stand together.
+//! Lists of rows in the order of their keys: the rows of one owner are next to each other.
 ghost use Rattle.std.specs.Prelude.{◌≡◌, ◌≤◌, ◌<◌, ◌+◌, ◌==◌, ℕ, not, filter, vec_len, vec_capacity};
 ghost use Rattle.circle.specs.Ordered.{put_by};
 ghost use Rattle.hub_state.specs.InOrder.{IsInOrder, IsStretch, is_alike};
@@ -12,10 +12,10 @@ pub(crate) trait Row: Drop {
     ghost use Rattle.std.specs.Ordering.{is_lt};
     ghost use Rattle.std.specs.Cmp.{IsTotalOrder};
 
-    // by what the rows are ordered
+    // the order of the rows
     ghost order: { Self → Self → Ordering };
 
-    // the number of what the row belongs to
+    // the number of the owner: the incident that the row belongs to
     ghost owner: { Self → ℕ };
 
     fn compare(&self, other: &Self) -> Ordering
@@ -29,7 +29,7 @@ pub(crate) trait Row: Drop {
     ghost together: { (a b : Self) → is_lt (order b a) ≡ false → owner a ≤ owner b };
 }
 
-/// From where to where the rows stand that belong to this number.
+/// Returns the range (from, to) of the rows that belong to this number.
 fn stretch_of<T: Row>(rows: &[T], number: u32) -> (usize, usize)
     requires { IsInOrder T.order rows.now }
     ensures { IsStretch (λ r. T.owner r == number) rows.now result.0 result.1 }
@@ -40,7 +40,7 @@ fn stretch_of<T: Row>(rows: &[T], number: u32) -> (usize, usize)
     (from, from + count)
 }
 
-/// From where to where the rows stand that are alike to this one.
+/// Returns the range (from, to) of the rows that compare as equal to this one.
 fn stretch_alike<T: Row>(rows: &[T], row: &T) -> (usize, usize)
     requires { IsInOrder T.order rows.now }
     ensures { IsStretch (λ r. is_alike T.order r row.now) rows.now result.0 result.1 }
@@ -60,7 +60,7 @@ pub(crate) fn rows_of<T: Row>(rows: &[T], number: u32) -> &[T]
     &rows[from..to]
 }
 
-/// The rows that are alike to this one.
+/// The rows that compare as equal to this one.
 pub(crate) fn rows_alike<'a, T: Row>(rows: &'a [T], row: &T) -> &'a [T]
     requires { IsInOrder T.order rows.now }
     ensures { result.now ≡ filter (λ r. is_alike T.order r row.now) rows.now }
@@ -69,7 +69,7 @@ pub(crate) fn rows_alike<'a, T: Row>(rows: &'a [T], row: &T) -> &'a [T]
     &rows[from..to]
 }
 
-/// Puts a row before the first that is above it. There has to be room for it.
+/// Puts a row before the first one above it. The list must have room for it.
 pub(crate) fn put<T: Row>(rows: &mut Vec<T>, row: T)
     requires in_order { IsInOrder T.order rows.old.items }
     requires room { vec_len rows.old < vec_capacity rows.old }
@@ -96,7 +96,7 @@ pub(crate) fn take_all<T: Row>(rows: &mut Vec<T>, number: u32)
     rows.drain(from..to);
 }
 
-/// Takes out the rows that are alike to this one.
+/// Takes out the rows that compare as equal to this one.
 pub(crate) fn take<T: Row>(rows: &mut Vec<T>, row: &T)
     requires { IsInOrder T.order rows.old.items }
     ensures taken { rows.new.items ≡ filter (λ r. not (is_alike T.order r row.now)) rows.old.items }

@@ -1,4 +1,4 @@
-//! How a person stands to an incident, made of what a shelf looks up.
+//! How a person stands to an incident, made of a shelf's look-ups.
 ghost use Rattle.std.specs.Prelude.{◌≡◌, ◌==◌, ◌||◌, IfOk, option_map};
 ghost use Rattle.std.specs.List.{list_any};
 ghost use Rattle.circle.specs.declared.directory.Person.{Person};
@@ -28,14 +28,14 @@ fn arrangement_in(arranged: Option<Arranged>) -> Option<Handling>
     }
 }
 
-/// Whether an organisation is the source, or among the recipients.
+/// Whether an organisation is the source or a recipient.
 fn is_reached(org: u32, source: u32, recipients: &[Target]) -> bool
     ensures { result ≡ (org == source || spec.is_target_among (target.Org org) recipients.now) }
 {
     org == source || is_target_among(recipients, Target::Org(org))
 }
 
-/// Whether one of the organisations is the source, or among the recipients.
+/// Whether one of the organisations is the source or a recipient.
 fn is_client(served: &[u32], source: u32, recipients: &[Target]) -> bool
     ensures { result ≡ list_any (λ org.
         org == source || spec.is_target_among (target.Org org) recipients.now) served.now }
@@ -45,7 +45,7 @@ fn is_client(served: &[u32], source: u32, recipients: &[Target]) -> bool
         .any(|org| is_reached(*org, source, recipients))
 }
 
-/// How a reader with these ties stands to an incident that is shared so, at a moment.
+/// How a reader with these ties stands to an incident with this sharing, at a moment.
 fn standing_in(reader: Reader, shared: &Shared, ties: Ties, now: i64) -> Standing
     ensures { (s : State) → (p : Person) → (i : Incident) → reader ≡ reader_with s p →
         shared.now ≡ shared_as s i.naming →
@@ -74,7 +74,7 @@ fn standing_in(reader: Reader, shared: &Shared, ties: Ties, now: i64) -> Standin
     }
 }
 
-/// How a person stands to an incident at a moment; none where either is missing.
+/// How a person stands to an incident at a moment. None if either is missing.
 fn find_standing<L: LookUps>(
     shelf: &mut L,
     person: u32,
@@ -95,8 +95,9 @@ fn find_standing<L: LookUps>(
     Ok(Some(standing_in(reader, &shared, ties, now)))
 }
 
-/// How a person stands to an incident at a moment, in seconds since the beginning of 1970 (UTC), by a shelf's look-ups;
-/// none where either is missing.
+/// How a person stands to an incident at a moment, in seconds since the beginning of 1970 (UTC), made of a shelf's
+/// look-ups. None if either is missing. Fails with `NoMemory` if the memory doesn't suffice, and with `Failed` if a
+/// look-up does or if the count of failures is at its last value.
 pub fn standing_by<L: LookUps>(
     shelf: &mut L,
     person: u32,
@@ -106,6 +107,7 @@ pub fn standing_by<L: LookUps>(
     ensures { Reads L.has L.doubts L.failed L.may_remain shelf.old shelf.new (λ s found. found ≡
         standing_of person incident now s) result }
 {
+    // at the last value of the count every call fails
     if shelf.has_ended() {
         return Err(ShelfFault::Failed);
     }

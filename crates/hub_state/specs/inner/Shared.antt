@@ -1,4 +1,4 @@
--- How an incident is shared, and how many rows of it would stand after a request.
+-- How an incident is shared, and how many rows of it there would be after a request.
 use Rattle.std.specs.Prelude.{ℕ, [], Option, Some, None}
 use Rattle.iodef_tree.specs.Text.{Tokens}
 use Rattle.iodef_tree.specs.Pointer.{pointer_tokens}
@@ -15,12 +15,12 @@ use Rattle.hub_state.specs.declared.sharing.Sharing.{Sharing}
 abbrev pub sharing_named : ℕ → State → Sharing
 sharing_named n s = record { gates = its_gates n s.gates; recipients = its_recipients n s.recipients; permissions = its_permissions n s.permissions }
 
--- without a number there is nothing
+-- the same for an optional number; nothing if there is none
 abbrev pub sharing_asked : Option ℕ → State → Sharing
 sharing_asked None s = record { gates = []; recipients = []; permissions = [] }
 sharing_asked (Some n) s = sharing_named n s
 
--- the path of what the request would put or take, if its text is the pointer of one
+-- the path of the gate or permission that the request would put or take out, if its text is a pointer
 abbrev pub path_asked : Request → Option Tokens
 path_asked (ask.Redistribute r) = pointer_tokens r.path
 path_asked (ask.Grant r) = pointer_tokens r.path
@@ -29,10 +29,10 @@ path_asked _ = None
 
 -- ---- counts
 
--- how many class gates, recipients and permissions of an incident stand
+-- how many class gates, recipients and permissions an incident has
 abbrev pub counts_of : ℕ → State → Counts
 counts_of n s = record { gates = class_gates n s.gates; recipients = recipients_of n s.recipients; permissions = permissions_of n s.permissions }
 
--- how many would stand
+-- how many of each there would be after the request
 abbrev pub counts_in : State → Person → Request → Counts
 counts_in s a r = record { gates = gates_then s a r; recipients = recipients_then s a r; permissions = permissions_then s a r }
