@@ -1,4 +1,4 @@
--- A recipient more or less leaves a sound state.
+-- Putting or taking a recipient leaves a sound state.
 use Rattle.std.proofs.Common.{◌≡◌, ◌≤◌, ◌==◌, not, List, None, filter, subst, ◌∙◌}
 use Rattle.std.proofs.lemmas.Bool.{ltb-false, not-false}
 use Rattle.circle.specs.Ordered.{put_by}

@@ -1,4 +1,4 @@
--- What the grounds say of a body and of the gates asked for, where none holds.
+-- What is known of a body and of the gates asked for if no ground holds.
 use Rattle.std.proofs.Common.{◌≡◌, ℕ, suc, ◌≤◌, ◌==◌, ◌&&◌, ◌||◌, Bool, true, false, if◌then◌else◌, List, [], ◌∷◌, map, Option, Some, None, refl, sym, ap, ◌∙◌, arith}
 use Rattle.std.proofs.lemmas.Bool.{or_parts}
 use Rattle.std.specs.Prelude.{is_some, find, option_map, unwrap_or, Result, Ok, Err, Contains, decimal}
@@ -54,7 +54,7 @@ named_is (Some x) h = refl
 classes_are : (wanted : List WantedGate) (docs : List Lines) → stand_at_classes wanted docs ≡ true → Each (StandAtClasses wanted) docs
 classes_are wanted docs h = each_weaker _ _ docs (λ doc e. all_each (λ (w : WantedGate). at_pointer (is_class_in doc) w.path) wanted e) (all_each (λ (doc : Lines). list_all (λ (w : WantedGate). at_pointer (is_class_in doc) w.path) wanted) docs h)
 
--- each document of a body without a fault and without a bad marking
+-- each document of a body without a fault and without a bad marking is accepted
 pub fit : (body : Bytes) (docs : List Lines) (wanted : List WantedGate) → reading body ≡ Ok docs → is_some (bad_marking docs) ≡ false → stand_at_classes wanted docs ≡ true → Each (IsFit wanted) docs
 fit body docs wanted read marked classes = go docs (recursion_from_All (Contains docs) docs (All-contains_itself docs)) (well_marked 0 docs marked) (reported body docs read).identified (classes_are wanted docs classes)
   where

@@ -1,4 +1,4 @@
--- The grounds by the facts of a state are those by its rows.
+-- The grounds by the facts of a state are the grounds by its rows.
 use Rattle.std.proofs.Common.{◌≡◌, ℕ, ◌+◌, ◌<◌, ◌==◌, ◌&&◌, ◌||◌, Bool, true, false, not, if◌then◌else◌, List, [], ◌∷◌, ◌++◌, map, length, filter, Option, Some, None, refl, sym, ap, ◌∙◌, arith}
 use Rattle.std.proofs.Math.Bool.{and-true}
 use Rattle.std.proofs.lemmas.Bool.{true≢false, eq-eqb, eqb-true}
@@ -61,7 +61,7 @@ pub use Rattle.hub_state.proofs.Then.{replace_edits}
 
 -- ---- grounds one by one
 
--- the same grounds, as far as none holds
+-- the same grounds, up to the first that holds
 abbrev Alike : List Ground → List Ground → Type 0
 Alike [] [] = Unit {0}
 Alike (g ∷ gs) (k ∷ ks) = (g ≡ k) × (k.holds ≡ false → Alike gs ks)
@@ -86,7 +86,7 @@ there_by test (Some i) h = refl
 ours : (s : State) (a : Person) (n : ℕ) → unless_own (option_map incident_facts (incident_of n s)) a ≡ unless_ours s a n
 ours s a n = ap (λ b. not_for_you (not b)) (map_or_map (λ (k : IncidentFacts). k.source == a.org) incident_facts (incident_of n s) false)
 
--- where own incident is asked before, it is there
+-- the incident is there if it was asked before whether it is the actor's own
 there : (s : State) (a : Person) (n : ℕ) → not (holds_of n (λ (i : Incident). i.naming.source == a.org) s) ≡ false → is_some (incident_of n s) ≡ true
 there s a n h = there_by (λ (i : Incident). i.naming.source == a.org) (row_of n s) h
 
@@ -158,7 +158,7 @@ active_there s n = map_or_map (λ (p : Person). p.active) person_in (find (λ (x
 
 -- ---- what was posted before
 
--- the first of those that pass, before the first of the rest
+-- the first element that passes is the first among these, or else the first of the rest
 first_passing : (test : Incident → Bool) (xs more : List Incident) (numbers : List ℕ) → first_number more ≡ first_of numbers →
     first_number (cons_option (find test xs) more) ≡ first_of (map (λ (i : Incident). i.naming.number) (filter test xs) ++ numbers)
 first_passing test [] more numbers h = h
@@ -180,14 +180,14 @@ posted_before s a docs = ap (λ o. because S1 (option_map decimal o)) (posted_sa
 
 -- ---- how many would stand
 
--- a count that a u32 holds is over a low limit where the count is
+-- a count as a u32 is over a limit exactly if the count is
 capped : (limit n : ℕ) → limit < 4294967295 → nat_lt limit (min n 4294967295) ≡ nat_lt limit n
 capped limit n low = grind (arith, nat_tests)
 
 gates_given : (gates : List WantedGate) → over GATE_LIMIT (number_of gates) ≡ over GATE_LIMIT (length gates)
 gates_given gates = ap (refuse L1) (capped GATE_LIMIT (length gates) (omega arith))
 
--- of an incident that is there
+-- the incident is there
 counted_there : (s : State) (n : ℕ) (count : ℕ → ℕ) → is_some (incident_of n s) ≡ true → counted s (Some n) count ≡ count n
 counted_there s n count h = ap (λ b. if b then count n else 0) h
 
@@ -197,7 +197,7 @@ commute true false = refl
 commute false true = refl
 commute false false = refl
 
--- a row put in place of some
+-- a row put in place of others
 count_in_place : {X : Type 0} (test being : X → Bool) (cmp : X → X → Ordering) (row : X) (xs : List X) →
     count_by test (put_by cmp row (filter (λ x. not (being x)) xs)) ≡ (if test row then 1 else 0) + length (filter (λ x. test x && not (being x)) xs)
 count_in_place test being cmp row xs =
@@ -208,7 +208,7 @@ count_in_place test being cmp row xs =
     ∙ (count_agree (λ x. not (being x) && test x) (λ x. test x && not (being x)) xs (λ x. commute (being x) (test x))
     ∙ sym (length-filter (λ x. test x && not (being x)) xs))))
 
--- what is of the incident, of a class and at another path
+-- a row is of the incident, at a class and at another path
 elsewhere : (a b c : Bool) → ((a && b) && not (a && c)) ≡ (a && (b && not c))
 elsewhere true b c = refl
 elsewhere false b c = refl

@@ -1,4 +1,4 @@
--- The rows of a directory's change make the change.
+-- The rows of a directory's change make that change.
 use Rattle.std.proofs.Common.{◌≡◌, map, refl}
 use Rattle.circle.specs.Aftermath.{rows_of, edited}
 use Rattle.circle.specs.declared.command.Edit.{Edit as Change}

@@ -1,4 +1,4 @@
--- What the examples compute with, bodies read from their bytes among it.
+-- The lemmas that the examples compute with; some read bodies from their bytes.
 use Rattle.std.specs.Fmt.{digits}
 use Rattle.std.specs.Str.{chars, is_utf8}
 use Rattle.serde_json.proofs.OnLiterals.{serde_json_on_literals}

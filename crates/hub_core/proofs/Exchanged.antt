@@ -1,4 +1,4 @@
--- Another document for an incident, with other gates, leaves a sound state.
+-- A Replace leaves a sound state.
 use Rattle.std.proofs.Common.{◌≡◌, ℕ, ◌+◌, ◌≤◌, ◌<◌, ◌==◌, ◌&&◌, ◌||◌, Bool, true, false, not, if◌then◌else◌, List, [], ◌∷◌, map, filter, Option, Some, None, refl, sym, ap, ◌∙◌, subst, arith}
 use Rattle.std.proofs.lemmas.Bool.{and_parts, eq-eqb, eqb-true, not-true, not_from_false}
 use Rattle.std.specs.Prelude.{count_by, find}
@@ -26,7 +26,7 @@ use Rattle.hub_core.proofs.Gated.{IsBeside, put_all, given}
 use Rattle.hub_core.proofs.Posted.{Wishes, StandAtClasses, wanted_at}
 use Rattle.hub_state.proofs.Keeping.{never, numbers_above, not_both, turned, found_each, find_put, find_new, find_left, each_passed, each_passes, count_kept, count_left, at_most}
 
--- ---- a row taken out and put in again is one exchanged
+-- ---- a row taken out and put back is exchanged
 
 abbrev others : ℕ → List Incident → List Incident
 others n = filter (λ (i : Incident). not (i.naming.number == n))
@@ -89,7 +89,7 @@ put_back n k f (x ∷ xs) i same counts found is = split (x.naming.number == n) 
         ∙ (ap (λ ys. x ∷ ys) (rest later is)
         ∙ ap (λ b. (if b then f x else x) ∷ exchange n f xs) (sym here)))
 
--- no other row has its number
+-- no other row has this number
 only_one : (n k : ℕ) (xs : List Incident) (i : Incident) → CountsFrom incident_number k xs → find (λ (x : Incident). x.naming.number == n) xs ≡ Some i → Each (λ (y : Incident). (y.naming.number == n) ≡ true → y ≡ i) xs
 only_one n k [] i counts found = tt
 only_one n k (x ∷ xs) i counts found = split (x.naming.number == n) refl (only_one n (k + 1) xs i counts.1)
@@ -103,7 +103,7 @@ only_one n k (x ∷ xs) i counts found = split (x.naming.number == n) refl (only
         ((λ e. it), each_weaker (λ (y : Incident). k + 1 < y.naming.number) (λ (y : Incident). (y.naming.number == n) ≡ true → y ≡ i) xs (λ y e at_y. never (y.naming.number == n) at_y (differs y.naming.number n (k + 1) (sym at ∙ first) e)) (numbers_above incident_number (k + 1) xs counts.1))
     split false here rest = ((λ e. never (x.naming.number == n) e here), rest (sym (ap (λ b. if b then Some x else find (λ (x : Incident). x.naming.number == n) xs) here) ∙ found))
 
--- what holds of each row and of the one exchanged
+-- what holds of each row and of the new one, holds of each after the exchange
 each_exchanged : (P : Incident → Type 0) (n : ℕ) (f : Incident → Incident) (i : Incident) (xs : List Incident) → Each (λ (y : Incident). (y.naming.number == n) ≡ true → y ≡ i) xs → P (f i) → Each P xs → Each P (exchange n f xs)
 each_exchanged P n f i [] only here all = tt
 each_exchanged P n f i (x ∷ xs) only here all = (split (x.naming.number == n) refl, each_exchanged P n f i xs only.1 here all.1)
@@ -120,7 +120,7 @@ revised community doc i = next_row i.naming.number (incident_facts i) community 
 abbrev put_revised : Option ℕ → Lines → Incident → List Incident → List Incident
 put_revised community doc i incidents = put_by (by_number incident_number) (revised community doc i) (others i.naming.number incidents)
 
--- a document that may stand in place of an incident's own
+-- a document that may replace the incident's own
 pub record MayFollow (doc : Lines) (i : Incident) : Type 0 where
   pub accepted : IsAccepted doc
   pub named : incident_id doc ≡ Some i.naming.ident
@@ -148,7 +148,7 @@ incidents_exchanged s i community doc h found there new =
     subst (SoundIncidents s.directory) (sym (is_exchange s i community doc h found))
     (exchanged_map s.directory i.naming.number community doc i s.incidents h.incidents (only_one i.naming.number 0 s.incidents i h.incidents.numbered.0 found) there new)
 
--- ---- another incident is found as before
+-- ---- the other incidents are found as before
 
 found_before : (m : ℕ) (i : Incident) (community : Option ℕ) (doc : Lines) (incidents : List Incident) → (m == i.naming.number) ≡ false → incident_in m (put_revised community doc i incidents) ≡ incident_in m incidents
 found_before m i community doc incidents other =
@@ -158,7 +158,7 @@ found_before m i community doc incidents other =
 holds_before : (test : Incident → Bool) (m : ℕ) (i : Incident) (community : Option ℕ) (doc : Lines) (incidents : List Incident) → (m == i.naming.number) ≡ false → option_map_or test (incident_in m incidents) false ≡ true → option_map_or test (incident_in m (put_revised community doc i incidents)) false ≡ true
 holds_before test m i community doc incidents other h = ap (λ o. option_map_or test o false) (found_before m i community doc incidents other) ∙ h
 
--- ---- what is left of the gates and the permissions
+-- ---- the gates and permissions that remain
 
 abbrev gates_beside : ℕ → List Gate → List Gate
 gates_beside n = filter (λ (g : Gate). not (g.incident == n))
@@ -166,7 +166,7 @@ gates_beside n = filter (λ (g : Gate). not (g.incident == n))
 abbrev permissions_beside : ℕ → List Permission → List Permission
 permissions_beside n = filter (λ (x : Permission). not (x.incident == n))
 
--- those of another incident all stay
+-- all of another incident's stay
 count_beside : (test : Tokens → Bool) (m n : ℕ) (gates : List Gate) → (n == m) ≡ false → count_by (λ (g : Gate). g.incident == m && test g.gate.path) (gates_beside n gates) ≡ count_by (λ (g : Gate). g.incident == m && test g.gate.path) gates
 count_beside test m n gates other = count_kept (λ (g : Gate). g.incident == m && test g.gate.path) (λ (g : Gate). not (g.incident == n)) gates
     (λ g h. not_from_false (g.incident == n) (not_both g.incident m n (turned n m other) (and_parts (g.incident == m) (test g.gate.path) h).0))

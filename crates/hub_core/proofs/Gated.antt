@@ -1,4 +1,4 @@
--- The gates that an incident is given: at its root, and those asked for.
+-- The gates of a new or exchanged incident: the one at its root, and those of the request.
 use Rattle.std.proofs.Common.{◌≡◌, ℕ, ◌+◌, ◌≤◌, ◌==◌, ◌&&◌, ◌||◌, Bool, true, false, not, List, [], ◌∷◌, ◌++◌, length, map, Option, Some, None, refl, sym, ap, ◌∙◌, subst, arith}
 use Rattle.std.proofs.lemmas.Bool.{and_from, and_left, and_right, eqb-true, or_parts, or_right}
 use Rattle.std.specs.List.{list_any, flat_map}
@@ -29,7 +29,7 @@ use Rattle.hub_state.proofs.Keys.{apart_gate, apart_text}
 use Rattle.hub_state.proofs.Keeping.{never, count_more, count_same, count_none, count_next, each_both}
 pub use Rattle.hub_state.proofs.Then.{after_append}
 
--- ---- what the edits make of the gates
+-- ---- the gates after the edits
 
 abbrev pub put_wanted : ℕ → List WantedGate → List Gate → List Gate
 put_wanted n [] gates = gates
@@ -53,9 +53,9 @@ after_wanted n (w ∷ ws) s =
 pub after_gates : (n : ℕ) (d : Distribution) (s : State) → with_edits (put_gates n d) s ≡ record s { gates = put_all n d s.gates }
 after_gates n d s = after_wanted n d.gates (with_edits (put_gate n d.level d.group []) s)
 
--- ---- the gates asked for, one after another
+-- ---- the gates of the request, one after another
 
--- a gate that is asked for stands at a class of the incident, and its group is there
+-- a gate of the request is at a class of the incident, and its group is there
 pub record IsWanted (groups : List Group) (incidents : List Incident) (n : ℕ) (w : WantedGate) : Type 0 where
   pub group : IsGroupIfAny groups w.group
   pub place : at_pointer (is_class_of incidents n) w.path ≡ true
@@ -64,14 +64,14 @@ pub record IsWanted (groups : List Group) (incidents : List Incident) (n : ℕ) 
 abbrev is_at : ℕ → Bytes → Gate → Bool
 is_at n text g = g.incident == n && bytes_eq (pointer_text g.gate.path) text
 
--- none of the gates stands where another is asked for
+-- no gate is at the place of another one of the request
 record Ready (groups : List Group) (incidents : List Incident) (n : ℕ) (wanted : List WantedGate) (gates : List Gate) : Type 0 where
   rising : Pairwise (λ a b. gate_cmp a b ≡ Less) gates
   places : Each (λ (g : Gate). is_place_of incidents g.incident g.gate.path ≡ true) gates
   ends : Each (λ (g : Gate). IsGroupIfAny groups g.gate.group) gates
   fresh : Each (λ (w : WantedGate). Each (λ (g : Gate). is_at n w.path g ≡ false) gates) wanted
 
--- the same rows with at most so many more gates of classes of the incident
+-- the same rows, with at most so many gates at the incident's classes added
 record Gains (groups : List Group) (incidents : List Incident) (n : ℕ) (most : ℕ) (before gates : List Gate) : Type 0 where
   rising : Pairwise (λ a b. gate_cmp a b ≡ Less) gates
   places : Each (λ (g : Gate). is_place_of incidents g.incident g.gate.path ≡ true) gates
@@ -122,7 +122,7 @@ wanted_put groups incidents n (w ∷ ws) gates fit once h =
 
 -- ---- all gates of an incident that had none
 
--- what stands beside the incident
+-- the other rows of the state
 pub record IsBeside (groups : List Group) (incidents : List Incident) (n : ℕ) (gates : List Gate) : Type 0 where
   pub rising : Pairwise (λ a b. gate_cmp a b ≡ Less) gates
   pub places : Each (λ (g : Gate). is_place_of incidents g.incident g.gate.path ≡ true) gates

@@ -1,4 +1,4 @@
--- A permission more or less leaves a sound state.
+-- Putting or taking a permission leaves a sound state.
 use Rattle.std.proofs.Common.{◌≡◌, ℕ, ◌≤◌, ◌==◌, Bool, not, List, [], ◌∷◌, filter, Option, Some, None, true, false, subst, sym, ◌∙◌}
 use Rattle.hub_state.specs.declared.state.Incident.{Incident}
 use Rattle.std.specs.Prelude.{ℤ, option_map}
@@ -40,7 +40,7 @@ with_permissions s rows h new = record { directory = h.directory; incidents = h.
 abbrev other : PermissionKey → Permission → Bool
 other key x = not (is_permission_being key x)
 
--- without those of a key no incident has more than it had
+-- removing the permissions of a key raises no count
 still_few : (s : State) (key : PermissionKey) → IsSound s → Each (λ (i : Incident). permissions_of i.naming.number (filter (other key) s.permissions) ≤ PERMISSION_LIMIT) s.incidents
 still_few s key h = each_weaker _ _ s.incidents (λ i e. at_most _ _ PERMISSION_LIMIT (count_left (λ (x : Permission). x.incident == i.naming.number) (other key) s.permissions) e) h.permissions.limit
 

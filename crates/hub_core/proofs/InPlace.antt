@@ -1,4 +1,4 @@
--- A permission that takes the place of another meets no limit.
+-- A permission that replaces another meets no limit.
 use Rattle.std.proofs.Common.{◌≡◌, ℕ, ◌≤◌, ◌==◌, Bool, true, false, not, List, [], filter, Option, Some, None, if◌then◌else◌, refl, arith}
 use Rattle.std.proofs.lemmas.Bool.{and_parts, eq-eqb, false≢true}
 use Rattle.std.specs.Prelude.{ℤ, is_some}

@@ -21,7 +21,7 @@ use Rattle.hub_core.proofs.Agrees.{agrees, makes}
 
 -- ---- by the grounds of a request
 
--- the request, under the name of its kind; its refusal by the facts is that of its grounds
+-- the refusal by the facts, for a request of one kind, is the answer of its grounds
 pub record IsNamed (a : Person) (r named : Request) (f : Facts) : Type 0 where
   pub name : r ≡ named
   pub plain : refusal_by f a named ≡ first_answer (grounds_by f a named)

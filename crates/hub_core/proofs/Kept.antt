@@ -1,4 +1,4 @@
--- What nothing refuses leaves a sound state.
+-- A request that nothing refuses leaves a sound state.
 use Rattle.std.proofs.Common.{◌≡◌, ℕ, ◌+◌, ◌≤◌, ◌&&◌, true, false, List, [], ◌∷◌, ◌++◌, length, Option, Some, None, refl, sym, ap, ◌∙◌, subst, arith}
 use Rattle.std.proofs.lemmas.Bool.{false≢true, ltb-false, not-false, or_parts}
 use Rattle.std.specs.Prelude.{suc, nat_lt, Ok, option_map}
@@ -68,7 +68,7 @@ one_of (doc ∷ other ∷ docs) h k = absurd (false≢true (sym h ∙ two (lengt
     two : (n : ℕ) → nat_lt 1 (suc (suc n)) ≡ true
     two n = grind (arith, nat_tests)
 
--- what the edits of the incident, of its gates and of its permissions make
+-- the state after the edits of the incident, of its gates and of its permissions
 after_replace : (s : State) (i : Incident) (n : ℕ) (d : Distribution) (docs : List Lines) (doc : Lines) → i.naming.number ≡ n → incident_of n s ≡ Some i → docs ≡ doc ∷ [] →
     with_edits (put_next n (option_map incident_facts (incident_of n s)) d.community docs ++ TakePolicy n ∷ put_gates n d) s ≡ with_document s i d doc
 after_replace s i n d docs doc same found one =

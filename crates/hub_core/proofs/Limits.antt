@@ -1,4 +1,4 @@
--- How many rows of each incident there are, with one more.
+-- How many rows each incident has after a put.
 use Rattle.std.proofs.Common.{◌≡◌, ℕ, ◌≤◌, ◌==◌, Bool, true, false, List, refl, sym, subst}
 use Rattle.std.proofs.lemmas.Bool.{eqb-true}
 use Rattle.std.specs.Prelude.{count_by}
@@ -17,7 +17,7 @@ still_within number cmp limit x xs n here there = split (number x == n) refl
     split true is = subst (λ m. count_by (λ y. number y == m) (put_by cmp x xs) ≤ limit) (eqb-true (number x) n is) here
     split false is = subst (λ m. m ≤ limit) (sym (count_same (λ y. number y == n) cmp x xs is)) there
 
--- those of each incident stay within the limit, if those of the row's own do
+-- each incident's rows keep the limit, if those of the new row's incident do
 pub limit_put : {X : Type 0} (number : X → ℕ) (cmp : X → X → Ordering) (limit : ℕ) (x : X) (xs : List X) (incidents : List Incident) →
     count_by (λ y. number y == number x) (put_by cmp x xs) ≤ limit →
     Each (λ (i : Incident). count_by (λ y. number y == i.naming.number) xs ≤ limit) incidents →

@@ -1,4 +1,4 @@
--- What the grounds say of what is named, where none holds.
+-- What is known of the names in a request if no ground holds.
 use Rattle.std.proofs.Common.{◌≡◌, ℕ, ◌==◌, Bool, true, false, not, if◌then◌else◌, Option, Some, None, refl, sym, ap, ◌∙◌, subst}
 use Rattle.std.proofs.lemmas.Bool.{and_parts, eqb-true, not-false}
 use Rattle.std.specs.Prelude.{is_some, option_map}
@@ -33,14 +33,14 @@ pub map_or_map : {X Y Z : Type 0} (f : Y → Z) (g : X → Y) (o : Option X) (z 
 map_or_map f g None z = refl
 map_or_map f g (Some x) z = refl
 
--- a test of the document is one of the incident
+-- a test of the incident's document is a test of the incident
 pub of_document : (test : Lines → Tokens → Bool) (o : Option Incident) (path : Bytes) →
     at_pointer (λ p. option_map_or (λ (doc : Lines). test doc p) (option_map (λ (i : Incident). i.document) o) false) path
     ≡ at_pointer (λ p. option_map_or (λ (i : Incident). test i.document p) o false) path
 of_document test None path = refl
 of_document test (Some i) path = refl
 
--- the incident that the source named
+-- the incident that the source's request names
 pub record Own (s : State) (a : Person) (n : ℕ) : Type 0 where
   pub incident : Incident
   pub found : incident_of n s ≡ Some incident
@@ -56,7 +56,7 @@ own s a n h =
 pub is_incident : (s : State) (n : ℕ) (i : Incident) → incident_of n s ≡ Some i → IsIncident s.incidents n
 is_incident s n i h = found_any (λ (x : Incident). x.naming.number == n) s.incidents (some_is (incident_of n s) i h)
 
--- what is counted where the incident is there
+-- the count, if the incident is there
 pub counted_is : (s : State) (n : ℕ) (i : Incident) (count : ℕ → ℕ) → incident_of n s ≡ Some i → counted s (Some n) count ≡ count n
 counted_is s n i count h = ap (λ b. if b then count n else 0) (some_is (incident_of n s) i h)
 

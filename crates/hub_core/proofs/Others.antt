@@ -46,7 +46,7 @@ use Rattle.hub_state.proofs.Keeping.{not_both, turned, find_put, find_left, filt
 
 -- ---- one edit
 
--- the edit is of another incident, or of the directory
+-- the edit is of another incident or of the directory
 abbrev Spares : ℕ → Edit → Type 0
 Spares n (Directory edit) = Unit {0}
 Spares n (PutIncident i) = (i.naming.number == n) ≡ false
@@ -59,7 +59,7 @@ Spares n (TakeRecipient r) = (r.incident == n) ≡ false
 Spares n (PutPermission x) = (x.incident == n) ≡ false
 Spares n (TakePermission key) = (key.incident == n) ≡ false
 
--- a row of the one isn't a row of the other
+-- a row of one incident isn't a row of another
 is_other : (m n k : ℕ) → (m == n) ≡ false → (k == n) ≡ true → not (k == m) ≡ true
 is_other m n k h e = not_from_false (k == m) (not_both k n m (turned m n h) e)
 
@@ -102,7 +102,7 @@ module _ (P : Edit → Type 0) where
   each_made make None h = tt
   each_made make (Some p) h = h p
 
-  -- the gates asked for
+  -- the gates of the request
   each_wanted : (m : ℕ) (gates : List WantedGate) → ((g : WantedGate) (p : Tokens) → Each P (put_gate m g.level g.group p)) → Each P (flat_map (λ (g : WantedGate). made_at (put_gate m g.level g.group) g.path) gates)
   each_wanted m [] h = tt
   each_wanted m (g ∷ gs) h =
@@ -117,7 +117,7 @@ next_spares n m None community docs h = tt
 next_spares n m (Some k) community [] h = tt
 next_spares n m (Some k) community (doc ∷ docs) h = (h, (h, tt))
 
--- numbers from one on that is above it
+-- the numbers from n on are above the number
 incidents_spare : (n source m : ℕ) (d : Distribution) (docs : List Lines) → n + 1 ≤ m → Each (Spares n) (put_incidents source m d docs)
 incidents_spare n source m d [] h = tt
 incidents_spare n source m d (doc ∷ docs) h =
@@ -133,7 +133,7 @@ rows_spare n (row ∷ rows) = (tt, rows_spare n rows)
 one_row : (x y : Incident) → Some x ≡ Some y → x ≡ y
 one_row x y e = cc
 
--- whose incident it is isn't another's
+-- an incident of the actor's organisation isn't another organisation's
 not_theirs : (s : State) (a : Person) (n : ℕ) (i : Incident) → incident_of i.naming.number s ≡ Some i → i.naming.source ≢ a.org → not (is_own (option_map incident_facts (incident_of n s)) a) ≡ false → (n == i.naming.number) ≡ false
 not_theirs s a n i found other h =
     let it = own s a n h in

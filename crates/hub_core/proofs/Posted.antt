@@ -1,4 +1,4 @@
--- One incident more, with its gates, leaves a sound state.
+-- Posting an incident with its gates leaves a sound state.
 use Rattle.std.proofs.Common.{◌≡◌, ℕ, ◌+◌, ◌≤◌, ◌<◌, ◌==◌, ◌&&◌, ◌||◌, Bool, true, false, List, [], ◌∷◌, length, map, Option, Some, None, refl, sym, ap, ◌∙◌, subst, arith}
 use Rattle.std.proofs.lemmas.Bool.{and_right, eq-eqb, ne_eqb, or_parts}
 use Rattle.std.specs.List.{list_any}
@@ -27,7 +27,7 @@ use Rattle.hub_core.proofs.Gated.{IsWanted, IsBeside, put_all, after_append, aft
 use Rattle.hub_core.proofs.Named.{AreThere, some_is}
 use Rattle.hub_state.proofs.Keeping.{never, turned, found_any, found_passing, find_put, find_new, count_none}
 
--- ---- what is asked for every incident alike
+-- ---- what the request says for each of its incidents
 
 pub record Wishes (directory : Directory) (d : Distribution) : Type 0 where
   pub there : AreThere directory d
@@ -48,7 +48,7 @@ class_at : (o : Option Incident) (i : Incident) (p : Option Tokens) → o ≡ So
 class_at o i None h k = k
 class_at o i (Some p) h k = ap (λ o. option_map_or (λ (x : Incident). is_class_in x.document p) o false) h ∙ k
 
--- they stand at classes of the incident that has the document
+-- the gates are at classes of the incident with this document
 pub wanted_at : (directory : Directory) (incidents : List Incident) (n : ℕ) (d : Distribution) (i : Incident) → incident_in n incidents ≡ Some i → Wishes directory d → StandAtClasses d.gates i.document →
     Each (IsWanted directory.groups incidents n) d.gates
 wanted_at directory incidents n d i found wishes classes = go d.gates wishes.there.groups wishes.below classes
@@ -72,13 +72,13 @@ above m n l h is = ne_eqb m n (λ e. absurd (omega arith))
 pub not_new : (s : State) (n m : ℕ) → IsSound s → n ≡ length s.incidents + 1 → IsIncident s.incidents m → (m == n) ≡ false
 not_new s n m h next there = above m n (length s.incidents) (names_within incident_number 0 m s.incidents h.incidents.numbered.0 there) next
 
--- so has one of which something holds
+-- so has an incident that passes a test
 not_new_of : (s : State) (n m : ℕ) (test : Incident → Bool) → IsSound s → n ≡ length s.incidents + 1 → option_map_or test (incident_in m s.incidents) false ≡ true → (m == n) ≡ false
 not_new_of s n m test h next there =
     let f = found_passing test (incident_in m s.incidents) there in
     not_new s n m h next (found_any (λ (i : Incident). i.naming.number == m) s.incidents (some_is (incident_in m s.incidents) f.0 f.1))
 
--- what holds of another incident still does
+-- what holds of another incident holds afterwards
 stays : (test : Incident → Bool) (m : ℕ) (x : Incident) (xs : List Incident) → (m == x.naming.number) ≡ false → option_map_or test (incident_in m xs) false ≡ true → option_map_or test (incident_in m (put_by (by_number incident_number) x xs)) false ≡ true
 stays test m x xs other h = ap (λ o. option_map_or test o false) (find_put (λ (i : Incident). i.naming.number == m) (by_number incident_number) x xs (turned m x.naming.number other)) ∙ h
 
@@ -151,7 +151,7 @@ permissions_put s source n community doc h next =
 no_number : (s : State) (n : ℕ) → IsSound s → n ≡ length s.incidents + 1 → Each (λ (i : Incident). (i.naming.number == n) ≡ false) s.incidents
 no_number s n h next = each_weaker (λ (i : Incident). i.naming.number ≤ 0 + length s.incidents) (λ (i : Incident). (i.naming.number == n) ≡ false) s.incidents (λ i e. above i.naming.number n (length s.incidents) e next) (numbers_low 0 s.incidents h.incidents.numbered.0)
 
--- what the edits of one document make
+-- the state after the edits of one document
 abbrev with_one : ℕ → ℕ → Distribution → Lines → State → State
 with_one source n d doc s = record s { incidents = put_row source n d.community doc s.incidents; gates = put_all n d s.gates }
 
@@ -174,7 +174,7 @@ posted_one s source n d doc h next room known fit new wishes =
 
 -- ---- one document after another
 
--- a document behind one of another ident is new there too
+-- a document with another ident than the one before is new in the state after that
 still_new : (source n : ℕ) (community : Option ℕ) (doc : Lines) (incidents : List Incident) (docs : List Lines) → list_any (bytes_eq (ident_of doc)) (map ident_of docs) ≡ false → Each (IsNew source incidents) docs → Each (IsNew source (put_row source n community doc incidents)) docs
 still_new source n community doc incidents [] differ new = tt
 still_new source n community doc incidents (d ∷ ds) differ new =

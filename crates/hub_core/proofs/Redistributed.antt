@@ -1,4 +1,4 @@
--- Another gate at a place leaves a sound state.
+-- A Redistribute leaves a sound state.
 use Rattle.std.proofs.Common.{◌≡◌, ℕ, ◌+◌, ◌≤◌, ◌==◌, ◌&&◌, Bool, true, false, not, List, [], ◌∷◌, filter, Option, Some, None, refl, sym, ap, ◌∙◌, subst, ◌||◌}
 use Rattle.hub_state.specs.declared.state.Incident.{Incident}
 use Rattle.std.proofs.lemmas.Bool.{and_parts, eq-eqb, eqb-true, false_from_ne_true, ltb-false, not-false, not-true, not_from_false}
@@ -36,7 +36,7 @@ root_is : (p : Tokens) → is_root p ≡ true → p ≡ []
 root_is [] h = refl
 root_is (x ∷ p) h = cc
 
--- ---- a test of where a gate stands, with the gate at one place exchanged
+-- ---- counts by a test of the gate's place, after an exchange of the gate at one place
 
 at_place : (key : GateKey) (g : Gate) → is_gate_at key g ≡ true → (g.incident ≡ key.incident) × (g.gate.path ≡ key.path)
 at_place key g h = let parts = and_parts (g.incident == key.incident) (same_path g.gate.path key.path) h in (eqb-true g.incident key.incident parts.0, same_path-true g.gate.path key.path parts.1)
@@ -44,7 +44,7 @@ at_place key g h = let parts = and_parts (g.incident == key.incident) (same_path
 abbrev other : GateKey → Gate → Bool
 other key g = not (is_gate_at key g)
 
--- it counts as many, where the place doesn't count
+-- the count is the same if the place doesn't pass
 count_elsewhere : (test : ℕ → Tokens → Bool) (row : Gate) (gates : List Gate) → test row.incident row.gate.path ≡ false →
     count_by (λ (g : Gate). test g.incident g.gate.path) (put_by gate_cmp row (filter (other (gate_key row)) gates)) ≡ count_by (λ (g : Gate). test g.incident g.gate.path) gates
 count_elsewhere test row gates out =
@@ -80,7 +80,7 @@ one_root row gates m was = split (root_test m row.incident row.gate.path) refl
 abbrev class_test : ℕ → ℕ → Tokens → Bool
 class_test m n p = n == m && not (is_root p)
 
--- no incident has more gates of classes than it may
+-- no incident has more gates at classes than the limit
 still_few : (row : Gate) (gates : List Gate) (m : ℕ) → class_gates row.incident (put_by gate_cmp row (filter (other (gate_key row)) gates)) ≤ GATE_LIMIT → class_gates m gates ≤ GATE_LIMIT → class_gates m (put_by gate_cmp row (filter (other (gate_key row)) gates)) ≤ GATE_LIMIT
 still_few row gates m here there = split (row.incident == m) refl
   where

@@ -1,4 +1,4 @@
--- What is asked of the gates of a request, and what is put of them, is told by their paths.
+-- What is asked of the gates of a request depends only on their paths, and so do the edits.
 use Rattle.std.proofs.Common.{◌≡◌, ℕ, List, [], ◌∷◌, ◌++◌, Bool, ◌&&◌, map, Option, None, append_assoc, refl, ap, ◌∙◌}
 use Rattle.std.specs.List.{list_all, flat_map}
 use Rattle.iodef_tree.proofs.Inverse.{pointer_tokens-pointer_text}
@@ -22,12 +22,12 @@ stand_in_each : (gates : List Gate) (docs : List Lines) → list_all (λ (doc : 
 stand_in_each gates [] = refl
 stand_in_each gates (doc ∷ docs) = rw (stand_in doc gates) (ap (λ b. list_all (λ (g : WantedGate). at_pointer (is_class_in doc) g.path) (map asked_as gates) && b) (stand_in_each gates docs))
 
--- the test of gates that are seen as these
+-- a test of the gates that are seen as these
 pub stand_seen : (gates inner : List Gate) (wanted : List WantedGate) (docs : List Lines) (b : Bool) → gates ≡ inner → map asked_as inner ≡ wanted →
     b ≡ list_all (λ (doc : Lines). list_all (λ (g : Gate). is_class_in doc g.path) gates) docs → b ≡ stand_at_classes wanted docs
 stand_seen gates inner wanted docs b same seen is = is ∙ stand_in_each gates docs ∙ ap (λ (ws : List WantedGate). stand_at_classes ws docs) (ap (map asked_as) same ∙ seen)
 
--- what is put of gates that are seen as these, behind the gate at the root
+-- the edits of the gates that are seen as these, after the gate at the root
 pub put_seen : (n level : ℕ) (group : Option ℕ) (gates inner : List Gate) (wanted : List WantedGate) (before rooted after : List Edit) → gates ≡ inner → map asked_as inner ≡ wanted →
     rooted ≡ before ++ put_gate n level group [] → after ≡ rooted ++ map (put_at n) gates → after ≡ before ++ put_gates n (record { community = None; level = level; group = group; gates = wanted })
 put_seen n level group gates inner wanted before rooted after same seen root put =

@@ -1,4 +1,4 @@
--- A small circle by hand, and what is answered in it: to be computed by the definitions alone.
+-- A small circle written by hand, and the answers in it: the definitions alone compute them.
 use Rattle.std.specs.Prelude.{◌≡◌, ℕ, ℤ, pos, List, [], ◌∷◌, map, Bool, true, false, Option, Some, None, codes}
 use Rattle.iodef_tree.specs.Text.{Bytes, Tokens}
 use Rattle.marking.specs.Examples.{class_line, text_line, value_line}
@@ -31,27 +31,28 @@ use Rattle.hub_state.specs.declared.state.Permission.{Permission}
 
 -- ---- who is in it
 
+-- an active person by its number, organisation, role and nomination
 abbrev pub person : ℕ → ℕ → Role → Bool → Person
 person n org role nominated = record { number = n; org = org; name = codes "n"; role = role; active = true; nominated = nominated }
 
--- a coordinator of the bank, organisation 1
+-- a coordinator of the bank (organisation 1)
 abbrev pub banker : Person
 banker = person 1 1 Coordinator false
 
--- a reader of the insurer, organisation 2
+-- a reader of the insurer (organisation 2)
 abbrev pub clerk : Person
 clerk = person 2 2 Reader false
 
--- a poster of the university, organisation 3, who is nominated
+-- a poster of the university (organisation 3), nominated
 abbrev pub professor : Person
 professor = person 3 3 Poster true
 
--- no key is asked for here
+-- the person with an empty key, as no key is looked up here
 abbrev pub account : Person → Account
 account p = record { person = p; key = [] }
 
--- The bank and the insurer are in one community, and the university is in another one, which is linked to theirs. It is the
--- bank's client, and the bank arranged AMBER with it. The bank owns a group, in which the insurer is.
+-- The bank and the insurer are in one community. The university is in another one, which is connected to theirs. It is
+-- the bank's client, and the bank arranged AMBER with it. The bank owns a group, of which the insurer is a member.
 abbrev pub circle : Directory
 circle = record {
   orgs = record { number = 1; name = codes "bank" } ∷ record { number = 2; name = codes "insurer" } ∷ record { number = 3; name = codes "university" } ∷ [];
@@ -67,11 +68,11 @@ circle = record {
 
 -- ---- what is posted
 
--- a report of one EventData, as it is sent
+-- a report with one EventData, as a request has it
 abbrev pub body : Bytes
 body = codes "{\"Incident\":[{\"Contact\":[],\"EventData\":[{}],\"GenerationTime\":\"g\",\"IncidentID\":\"7\",\"purpose\":\"p\"}]}"
 
--- the same as it is kept
+-- the lines of that report
 abbrev pub lines : Lines
 lines =
     class_line 1 (codes "Incident") true
@@ -82,35 +83,39 @@ lines =
     ∷ text_line 2 (codes "purpose") false (codes "p")
     ∷ []
 
--- a report without a Contact, and one in which a label is spelled wrong
+-- a report without a Contact
 abbrev pub without_contact : Bytes
 without_contact = codes "{\"Incident\":[{\"GenerationTime\":\"g\",\"IncidentID\":\"8\",\"purpose\":\"p\"}]}"
 
+-- a report with a label that is no label
 abbrev pub misspelled : Bytes
 misspelled = codes "{\"Incident\":[{\"Contact\":[],\"GenerationTime\":\"g\",\"IncidentID\":\"8\",\"purpose\":\"p\",\"restriction\":\"secret\"}]}"
 
+-- the pointer of the report's EventData
 abbrev pub event_pointer : Bytes
 event_pointer = codes "/Incident/0/EventData/0"
 
--- the circle before anything is posted
+-- the circle without any incident
 abbrev pub at_first : State
 at_first = record { directory = circle; incidents = []; gates = []; recipients = []; permissions = [] }
 
+-- an incident with the lines above, by its number, source, revision and ident; it names no community
 abbrev pub incident : ℕ → ℕ → ℕ → Bytes → Incident
 incident n source revision ident = record { naming = record { number = n; source = source; ident = ident; revision = revision; community = None }; document = lines }
 
+-- a gate of an incident, by path, level and group
 abbrev pub gate : ℕ → Tokens → ℕ → Option ℕ → Gate
 gate n path level group = record { incident = n; gate = record { path = path; level = level; group = group } }
 
--- the beginning of June 2024
+-- 1 June 2024 (UTC), in seconds since the beginning of 1970
 abbrev pub june : ℤ
 june = pos 1717200000
 
--- a permission at the EventData of the bank's incident, for the university
+-- a permission at the EventData of the bank's incident, for the university, with this end
 abbrev pub permission : Option ℤ → Permission
 permission until = permission_with (record { incident = 1; path = event_path; grantee = grantee.Org 3 }) until
 
--- The bank posted one incident and the university one. The bank's is addressed to the insurer, and the university has a
+-- The bank posted one incident and the university one. The bank's is addressed to the insurer. The university has a
 -- permission that ends in June.
 abbrev pub posted : State
 posted = record {
@@ -121,7 +126,7 @@ posted = record {
   permissions = permission (Some june) ∷ [];
 }
 
--- the same, where the bank's incident names this community, or none
+-- the same state, with the bank's incident naming this community or none
 abbrev pub posted_in : Option ℕ → State
 posted_in community =
     let bank = incident 1 1 1 (codes "\"7\"") in
@@ -129,41 +134,49 @@ posted_in community =
 
 -- ---- requests
 
+-- a distribution of this level without a group, a community or gates at classes
 abbrev pub at_level : ℕ → Distribution
 at_level level = record { community = None; level = level; group = None; gates = [] }
 
+-- a Post of a body at level 3
 abbrev pub post : Bytes → Request
 post document = ask.Post (record { distribution = at_level 3; document = document })
 
+-- a Post of the report at level 1, naming a community
 abbrev pub post_in : ℕ → Request
 post_in community = ask.Post (record { distribution = record (at_level 1) { community = Some community }; document = body })
 
+-- a Replace of an incident by the report at level 1, for a revision
 abbrev pub replace : ℕ → ℕ → Request
 replace n revision = ask.Replace (record { incident = n; revision = revision; distribution = at_level 1; document = body })
 
+-- a Redistribute of an incident, for revision 1
 abbrev pub redistribute : ℕ → Bytes → ℕ → Option ℕ → Request
 redistribute n path level group = ask.Redistribute (record { incident = n; revision = 1; path = path; level = level; group = group })
 
+-- a Grant at the bank's incident, for a revision
 abbrev pub grant : ℕ → Bytes → Grantee → Option ℤ → Request
 grant revision path grantee until = ask.Grant (record { incident = 1; revision = revision; path = path; grantee = grantee; until = until })
 
+-- a Withdraw of a permission at the EventData of an incident
 abbrev pub withdraw : ℕ → Grantee → Request
 withdraw n grantee = ask.Withdraw (record { incident = n; path = event_pointer; grantee = grantee })
 
+-- the refusal with this detail
 abbrev pub told : Bytes → Refusal → Refusal
 told detail r = record r { detail = detail }
 
--- why the banker is refused each of these, where these are posted
+-- the refusals of the banker's requests in the state `posted`
 abbrev pub refusals : List Request → List (Option Refusal)
 refusals = map (refusal_of posted banker)
 
--- why the banker is refused there, if it is, and what is kept then
+-- the refusal of the banker's request in the state `posted`, if any, and the state afterwards
 abbrev pub answered : Request → Option Refusal × State
 answered r = (refusal_of posted banker r, state_after posted banker r)
 
 -- ---- what is answered
 
--- what the clerk and the professor are to the bank's incident in June; to one that isn't there nobody is anything
+-- how the clerk and the professor stand to the bank's incident in June; there is no standing to a missing incident
 abbrev pub StandingsAreFound : Type 0
 StandingsAreFound =
     standing_of 2 1 june posted ∷ standing_of 3 1 june posted ∷ standing_of 2 9 june posted ∷ []
@@ -172,27 +185,27 @@ StandingsAreFound =
     ∷ None
     ∷ []
 
--- Peers of an incident of the bank's are the bank itself and the insurer where it names no community, and the members of one
--- that it names, the bank among them or not.
+-- The peers of a bank's incident that names no community are the bank and the insurer. If it names one, its peers are
+-- the members of that, whether or not the bank is among them.
 abbrev pub PeersAreFound : Type 0
 PeersAreFound =
     map (λ community. map (λ org. is_peer org 1 community circle) (1 ∷ 2 ∷ 3 ∷ [])) (None ∷ Some 1 ∷ Some 2 ∷ Some 9 ∷ [])
     ≡ (true ∷ true ∷ false ∷ []) ∷ (true ∷ true ∷ false ∷ []) ∷ (false ∷ false ∷ true ∷ []) ∷ (false ∷ false ∷ false ∷ []) ∷ []
 
--- A reader posts nothing and grants nothing, whatever it sends.
+-- A reader may not post or grant, whatever the request.
 abbrev pub ReaderPostsNothing : Type 0
 ReaderPostsNothing = (sent : Bytes) →
     map (refusal_of at_first clerk) (post sent ∷ grant 1 sent (grantee.Org 2) None ∷ [])
     ≡ Some (bare W1) ∷ Some (bare W1) ∷ []
 
--- The first incident that is posted has number 1 and revision 1, and one gate, at its root.
+-- The first incident posted has number 1, revision 1 and one gate, which is at its root.
 abbrev pub FirstPostIsFirst : Type 0
 FirstPostIsFirst =
     state_after at_first banker (post body)
     ≡ record at_first { incidents = incident 1 1 1 (codes "\"7\"") ∷ []; gates = gate 1 [] 3 None ∷ [] }
 
--- What the bank posted before is told by its number; a body that can't be read, or that lacks a member, or in which a label is
--- spelled wrong, by what is wrong with it.
+-- An incident that the bank posted before is refused with its number. A body that can't be read, lacks a member or has
+-- a bad label is refused with that fault.
 abbrev pub PostsAreRefused : Type 0
 PostsAreRefused =
     refusals (post body ∷ post (codes "[]") ∷ post without_contact ∷ post misspelled ∷ [])
@@ -202,8 +215,8 @@ PostsAreRefused =
     ∷ Some (told (codes "BadMarking 0 /Incident/0") (bare B1))
     ∷ []
 
--- A permission that stands isn't granted again with the end that it has. None is granted where there is no class, to an
--- organisation that isn't there, or for a revision that isn't present.
+-- A Grant is refused if the same permission is there with the same end, if there is no class at the path, if the
+-- organisation is missing, or if the revision isn't the present one.
 abbrev pub GrantsAreRefused : Type 0
 GrantsAreRefused =
     refusals
@@ -215,14 +228,14 @@ GrantsAreRefused =
     ∷ [])
     ≡ Some (bare S1) ∷ Some (bare N3) ∷ Some (bare N2) ∷ Some (told (codes "1") (bare S3)) ∷ None ∷ []
 
--- With another end, to come or past, or with none, a permission takes the place of the one that stands.
+-- A Grant with another end, future or past, or with none, replaces the permission.
 abbrev pub PermissionsAreExchanged : Type 0
 PermissionsAreExchanged =
     map answered (grant 1 event_pointer (grantee.Org 3) None ∷ grant 1 event_pointer (grantee.Org 3) (Some (pos 0)) ∷ [])
     ≡ (None, record posted { permissions = permission None ∷ [] }) ∷ (None, record posted { permissions = permission (Some (pos 0)) ∷ [] }) ∷ []
 
--- Gates stand at the root and at classes. The root has no level 5, level 4 wants a group, and a gate that stands isn't put
--- again.
+-- Gates are at the root or at classes. The root has no level 5, level 4 needs a group, and the same gate can't be put
+-- twice.
 abbrev pub GatesAreRefused : Type 0
 GatesAreRefused =
     refusals
@@ -241,19 +254,19 @@ GatesAreRefused =
     ∷ None
     ∷ []
 
--- Another organisation's incident is answered as one that isn't there.
+-- Another organisation's incident is refused like a missing one.
 abbrev pub OthersAreNotThere : Type 0
 OthersAreNotThere =
     refusals (redistribute 2 [] 3 None ∷ redistribute 9 [] 3 None ∷ withdraw 2 (grantee.Org 3) ∷ withdraw 9 (grantee.Org 3) ∷ [])
     ≡ Some (bare N1) ∷ Some (bare N1) ∷ Some (bare N1) ∷ Some (bare N1) ∷ []
 
--- A permission that stands is taken back whatever its end, and no other.
+-- A Withdraw takes the permission out whatever its end, and no other.
 abbrev pub PermissionsAreWithdrawn : Type 0
 PermissionsAreWithdrawn =
     map answered (withdraw 1 (grantee.Org 3) ∷ withdraw 1 (grantee.Org 2) ∷ [])
     ≡ (None, record posted { permissions = [] }) ∷ (Some (bare S2), posted) ∷ []
 
--- the bank's incident with its document exchanged: with the gate that was asked for, and the recipient that it had
+-- the state after the bank's Replace: the gate of the request, no permission, and the same recipient
 abbrev pub exchanged : State
 exchanged = record posted {
   incidents = incident 1 1 2 (codes "\"7\"") ∷ incident 2 3 1 (codes "\"7\"") ∷ [];
@@ -261,27 +274,26 @@ exchanged = record posted {
   permissions = [];
 }
 
--- A document is exchanged in an own incident and for the revision that is present, which is told where another is named. The
--- incident is in its next revision then: its gates are those asked for, its permissions are taken out, and its recipients stay.
+-- A Replace needs an own incident and the present revision, and is refused with that otherwise. Afterwards the incident
+-- is in its next revision, with the request's gates, without permissions and with its recipients.
 abbrev pub ReplaceTakesPermissionsOut : Type 0
 ReplaceTakesPermissionsOut =
     map answered (replace 2 1 ∷ replace 1 2 ∷ replace 1 1 ∷ [])
     ≡ (Some (bare N1), posted) ∷ (Some (told (codes "1") (bare S3)), posted) ∷ (None, exchanged) ∷ []
 
--- why the banker is refused there, if it is, and which communities the incidents name then
+-- the refusal of the banker's request, if any, and the communities that the incidents name afterwards
 abbrev pub named_after : State → Request → Option Refusal × List (Option ℕ)
 named_after s r =
     let left : State = state_after s banker r in
     (refusal_of s banker r, map (λ (i : Incident). i.naming.community) left.incidents)
 
--- An incident names a community of the organisation that posts it, and no other, there or not. Where its document is exchanged it
--- is named anew, and with none it names none.
+-- An incident may only name a community of the organisation that posts it. Each Replace names it anew, or none.
 abbrev pub CommunitiesAreNamed : Type 0
 CommunitiesAreNamed =
     named_after at_first (post_in 1) ∷ named_after at_first (post_in 2) ∷ named_after at_first (post_in 9) ∷ named_after (posted_in (Some 1)) (replace 1 1) ∷ []
     ≡ (None, Some 1 ∷ []) ∷ (Some (bare N2), []) ∷ (Some (bare N2), []) ∷ (None, None ∷ None ∷ []) ∷ []
 
--- Coordinators nominate their own, and what is arranged with an organisation is cancelled before it is arranged anew.
+-- Coordinators nominate only their own persons. An arrangement must be cancelled before another is made.
 abbrev pub CoordinatorsKeepToTheirs : Type 0
 CoordinatorsKeepToTheirs =
     refusals (ask.Circle (Nominate 3) ∷ ask.Circle (Nominate 9) ∷ ask.Circle (Nominate 1) ∷ ask.Circle (Arrange 3 arranged.Green) ∷ ask.Circle (Arrange 2 arranged.Green) ∷ [])

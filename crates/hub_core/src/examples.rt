@@ -1,5 +1,5 @@
-//! The definitions computed on a small circle and what is asked in it, which stand in `specs/Examples.antt`: a wrong definition would show
-//! here, with no program between. Each is the contract of a function that does nothing.
+//! The definitions computed on a small circle and on requests in it, which `specs/Examples.antt` has. A wrong
+//! definition would show here without a program between. Each is the contract of a function that does nothing.
 #![tactic(auto, unfolding(crate::proofs::Computed::computed))]
 
 ghost use Rattle.hub_core.specs.Examples.{StandingsAreFound, PeersAreFound, ReaderPostsNothing, FirstPostIsFirst, PostsAreRefused, GrantsAreRefused, PermissionsAreExchanged, GatesAreRefused, OthersAreNotThere, PermissionsAreWithdrawn, ReplaceTakesPermissionsOut, CommunitiesAreNamed, CoordinatorsKeepToTheirs};
@@ -9,7 +9,7 @@ pub fn standings_are_found()
     ensures { StandingsAreFound }
 {}
 
-/// Who is in the community that an incident names, or shares one with its source.
+/// Who is a peer of an incident: a member of the community that it names, or of one that its source is in.
 pub fn peers_are_found()
     ensures { PeersAreFound }
 {}
@@ -19,17 +19,17 @@ pub fn reader_posts_nothing()
     ensures { ReaderPostsNothing }
 {}
 
-/// The first incident that is posted, read from its bytes.
+/// The incident that the first Post puts, read from its bytes.
 pub fn first_post_is_first()
     ensures { FirstPostIsFirst }
 {}
 
-/// Why a post is refused, by what its body says.
+/// The refusal of a Post, by the fault of its body.
 pub fn posts_are_refused()
     ensures { PostsAreRefused }
 {}
 
-/// Why a grant is refused, and one that is not.
+/// The refusals of Grants, and one that is accepted.
 pub fn grants_are_refused()
     ensures { GrantsAreRefused }
 {}
@@ -39,32 +39,32 @@ pub fn permissions_are_exchanged()
     ensures { PermissionsAreExchanged }
 {}
 
-/// Why a gate is refused, and one that is not.
+/// The refusals of Redistributes, and one that is accepted.
 pub fn gates_are_refused()
     ensures { GatesAreRefused }
 {}
 
-/// Another organisation's incident is answered as one that isn't there.
+/// Another organisation's incident is refused like a missing one.
 pub fn others_are_not_there()
     ensures { OthersAreNotThere }
 {}
 
-/// A permission that stands is taken back whatever its end, and no other.
+/// A Withdraw takes the permission out whatever its end, and no other.
 pub fn permissions_are_withdrawn()
     ensures { PermissionsAreWithdrawn }
 {}
 
-/// An exchange of a document, and why one is refused.
+/// A Replace that is accepted, and those that are refused.
 pub fn replace_takes_permissions_out()
     ensures { ReplaceTakesPermissionsOut }
 {}
 
-/// A community is named by its members, and anew with each document.
+/// Only members name a community, and each Replace names it anew.
 pub fn communities_are_named()
     ensures { CommunitiesAreNamed }
 {}
 
-/// Coordinators nominate their own, and arrange once.
+/// Coordinators nominate their own persons, and arrange once.
 pub fn coordinators_keep_to_theirs()
     ensures { CoordinatorsKeepToTheirs }
 {}

@@ -1,4 +1,4 @@
-//! Why a request is refused, or what it changes: by the facts alone.
+//! Judging a request by its facts alone: its refusal, or its edits.
 ghost use Rattle.std.specs.Prelude.{◌≡◌, List, IfErr, IfOk, None, OnOk};
 ghost use Rattle.circle.specs.Outcomes.{RefusedAs};
 ghost use Rattle.circle.specs.Refusals.{Ground, first_answer};
@@ -37,10 +37,10 @@ use search::search;
 use std::alloc::Global;
 use stop::Stop;
 
-/// The refusal of the actor's request, or the edits that make its whole change: by the facts handed in, whatever they are;
-/// for each state of which these are the facts, and where a number is given for each sound one. A request that reads and
-/// isn't refused changes nothing; whether a person may see an incident isn't asked here. Want of memory is `F2`, which may
-/// stand in place of any answer.
+/// Returns the edits that make the whole change of the actor's request, or fails with its refusal. Both follow from the
+/// facts, whatever they are. For each state with these facts they are the state's refusal, and for each sound one the
+/// edits lead to the state after the request. A request that only reads has no edits; whether the person may see an
+/// incident isn't judged here. If the memory doesn't suffice it fails with `F2`, whatever the refusal would be.
 pub fn judge(
     alloc: Global,
     actor: &Person,
@@ -61,7 +61,7 @@ pub fn judge(
     judge_by_facts(alloc, actor, facts, request)
 }
 
-/// The refusal, or the edits, by the facts alone, whatever the state.
+/// The same by the facts alone, whatever the state.
 fn judge_by_facts(
     alloc: Global,
     actor: &Person,
@@ -91,7 +91,7 @@ fn judge_by_facts(
     }
 }
 
-/// Want of memory as a refusal.
+/// The refusal `F2` if the memory didn't suffice.
 fn stop_as_refusal(alloc: Global, judged: Result<Vec<Edit>, Stop>) -> Result<Vec<Edit>, Refusal>
     ensures refused { (grounds : List Ground) → Asks grounds judged →
         IfErr result (RefusedAs (first_answer grounds)) }

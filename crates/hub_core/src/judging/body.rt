@@ -1,4 +1,4 @@
-//! The documents of a body, and what is told of one that isn't accepted.
+//! The documents of a body, and the refusal of one that isn't accepted.
 ghost use Rattle.std.specs.Prelude.{◌≡◌, [], ◌∷◌, map, IfOk, codes, string_bytes};
 ghost use Rattle.std.specs.List.{list_any};
 ghost use Rattle.std.specs.Str.{bytes_eq};
@@ -16,7 +16,7 @@ use iodef_tree::{Document, Path, ReadFault};
 use marking::{MarkingFault, check};
 use std::alloc::{AllocError, Global};
 
-/// The documents of a body, one for each Incident.
+/// Reads the documents of a body, one for each Incident. Refuses a body that can't be read with `B1`.
 pub fn documents(alloc: Global, body: &[u8]) -> Result<Vec<Posted>, Stop>
     ensures asked { Asks (because B1 (fault_in body.now) ∷ []) result }
     ensures read { IfOk result (λ docs. docs.items ≡ documents_in body.now) }
@@ -38,7 +38,7 @@ fn with_idents(alloc: Global, documents: Vec<Document>) -> Result<Vec<Posted>, A
     Ok(all)
 }
 
-/// Whether two have the same ident.
+/// Whether two documents have the same ident.
 pub fn have_twins(documents: &[Posted]) -> bool
     ensures { result ≡ stands_twice (map ident_of documents.now) }
 {
@@ -65,7 +65,7 @@ fn bad_because(told: String) -> Stop
     })
 }
 
-/// The fault's name, with the pointer that it names and the member that is missing.
+/// The fault's name, then the pointer and the missing member if the fault has them.
 fn fault_text(alloc: Global, fault: &ReadFault) -> Result<String, AllocError>
     ensures { IfOk result (λ s. string_bytes s ≡ fault_told fault.now) }
 {
@@ -83,7 +83,7 @@ fn fault_text(alloc: Global, fault: &ReadFault) -> Result<String, AllocError>
     }
 }
 
-/// Refuses the first document with a bad marking, by its place in the body and the path of the class.
+/// Refuses the first document with a bad marking. The detail has its place in the body and the pointer of the class.
 pub fn well_marked(alloc: Global, documents: &[Posted]) -> Result<(), Stop>
     ensures { Asks (because B1 (bad_marking documents.now) ∷ []) result }
 {

@@ -1,4 +1,4 @@
-//! Recipients, permissions and gates, one at a time.
+//! Requests that change one recipient, permission or gate.
 ghost use Rattle.std.specs.Prelude.{◌≡◌, [], ◌∷◌, IfOk};
 ghost use Rattle.hub_core.specs.Judgement.{grounds_by, is_class_at, is_place_at};
 ghost use Rattle.hub_state.specs.Aftermath.{edits_by, put_permission};
@@ -27,7 +27,7 @@ fn one(alloc: Global, edit: Edit) -> Result<Vec<Edit>, AllocFailed<Edit>>
     Ok(edits)
 }
 
-/// A person or an organisation as a recipient of an incident.
+/// Puts a recipient.
 pub fn address(
     alloc: Global,
     actor: &Person,
@@ -52,7 +52,7 @@ pub fn address(
     )?)
 }
 
-/// A recipient taken back; whom it names isn't looked up.
+/// Takes a recipient out. Whether the person or organisation is there isn't asked.
 pub fn unaddress(
     alloc: Global,
     actor: &Person,
@@ -75,7 +75,7 @@ pub fn unaddress(
     )?)
 }
 
-/// A permission at a class, for the revision that the source has seen, in place of one with another end.
+/// Puts a permission at a class, in place of one with another end, for the revision that the source has seen.
 pub fn grant(
     alloc: Global,
     actor: &Person,
@@ -101,7 +101,7 @@ pub fn grant(
     Ok(put_in_place(alloc, request, path)?)
 }
 
-/// The permission asked for at a class, and before it what takes out one with another end.
+/// The edits that put the permission.
 fn put_in_place(alloc: Global, request: &Grant, path: Path) -> Result<Vec<Edit>, AllocError>
     ensures { IfOk result (λ edits.
         edits.items ≡
@@ -114,6 +114,7 @@ fn put_in_place(alloc: Global, request: &Grant, path: Path) -> Result<Vec<Edit>,
 {
     let (incident, grantee) = (request.incident, request.grantee);
     let mut edits = Vec::with_capacity(alloc, 2)?;
+    // The key is taken out first, whether or not a permission has it, so an exchange counts once and meets no limit.
     edits.push(Edit::TakePermission(PermissionKey {
         incident,
         path: path.clone()?,
@@ -130,7 +131,7 @@ fn put_in_place(alloc: Global, request: &Grant, path: Path) -> Result<Vec<Edit>,
     Ok(edits)
 }
 
-/// A permission taken back, ended or not; whom it names isn't looked up.
+/// Takes a permission out, ended or not. Whether the grantee is there isn't asked.
 pub fn withdraw(
     alloc: Global,
     actor: &Person,
@@ -155,7 +156,7 @@ pub fn withdraw(
     )?)
 }
 
-/// Another gate at the root or at a class, in place of one at that path.
+/// Puts a gate at the root or at a class, in place of the one at that path.
 pub fn redistribute(
     alloc: Global,
     actor: &Person,
@@ -197,7 +198,7 @@ pub fn redistribute(
     Ok(edits)
 }
 
-/// Whether the incident that is asked about has a class at the path.
+/// Whether the incident that the request names has a class at the path.
 pub fn is_class(facts: &Facts, path: &Path) -> bool
     ensures { result ≡ is_class_at facts.now.document path.now }
 {
@@ -207,7 +208,7 @@ pub fn is_class(facts: &Facts, path: &Path) -> bool
     }
 }
 
-/// The root, or a class.
+/// Whether the path is the root of the incident or one of its classes.
 fn is_place(facts: &Facts, path: &Path) -> bool
     ensures { result ≡ is_place_at facts.now.document path.now }
 {

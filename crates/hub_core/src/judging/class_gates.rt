@@ -1,4 +1,4 @@
-//! The gates of classes that a posted document comes with: at which paths, and the edits that put them.
+//! The gates at classes that a posted document has: their paths, and the edits that put them.
 ghost use Rattle.std.specs.Prelude.{◌≡◌, [], ◌∷◌, ◌++◌, map, None, IfOk, OnOk, codes};
 ghost use Rattle.std.specs.List.{list_any, list_all};
 ghost use Rattle.std.specs.Str.{bytes_eq};
@@ -21,7 +21,7 @@ use policy::Gate;
 use std::alloc::{AllocError, Global};
 use std::marker::Model;
 
-/// Gates of classes, each at its path. Contracts see them as they are asked for.
+/// Gates at classes, each with its path. Contracts see them as the request asks for them.
 #[derive(Drop)]
 pub struct ClassGates {
     gates: Vec<Gate>,
@@ -38,7 +38,7 @@ impl Model for ClassGates {
 }
 
 impl ClassGates {
-    /// The gates that are asked for, where each is good and no two stand at one pointer.
+    /// Makes it of the gates of a request. Refuses them with `B1` if one is bad or two have the same pointer.
     pub fn new(alloc: Global, wanted: &[WantedGate]) -> Result<ClassGates, Stop>
         ensures asked { Asks (bad (codes "gates") (are_bad_gates wanted.now) ∷ []) result }
         ensures gates { IfOk result (λ gates. gates ≡ wanted.now) }
@@ -51,14 +51,14 @@ impl ClassGates {
         Ok(ClassGates { gates })
     }
 
-    /// Whether each gate stands at a class of each document.
+    /// Whether each gate's path is a class of each document.
     pub fn stand_at_classes(&self, documents: &[Posted]) -> bool
         ensures { result ≡ stand_at_classes self.now documents.now }
     {
         stand_in_each(&self.gates, documents)
     }
 
-    /// Puts the gate at the root of an incident, and these.
+    /// Pushes the edits that put the gate at the root of an incident, and these.
     pub fn put(
         &self,
         alloc: Global,
@@ -109,7 +109,7 @@ fn class_gate(alloc: Global, wanted: &WantedGate) -> Result<Gate, Stop>
     })
 }
 
-/// Whether two have the same pointer.
+/// Whether two gates have the same pointer.
 fn have_twins(wanted: &[WantedGate]) -> bool
     ensures { result ≡ stands_twice (map (λ (g : WantedGate). g.path) wanted.now) }
 {

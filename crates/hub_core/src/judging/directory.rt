@@ -1,4 +1,4 @@
-//! Commands of the directory: circle judges them.
+//! The directory's commands, which circle judges.
 ghost use Rattle.std.specs.Prelude.{◌≡◌, ◌+◌, IfErr, IfOk, None, OnOk, map};
 ghost use Rattle.circle.specs.Outcomes.{RefusedAs};
 ghost use Rattle.circle.specs.Aftermath.{edit_of, rows_of};
@@ -12,7 +12,7 @@ use circle::refusal::{Code, Refusal};
 use hub_state::Edit;
 use std::alloc::{AllocFailed, Global};
 
-/// The refusal of circle, or the rows that it changes.
+/// Returns one edit for each row that circle changes, or fails with its refusal.
 pub fn judge_command(
     alloc: Global,
     actor: &Person,
@@ -32,7 +32,7 @@ pub fn judge_command(
     }
 }
 
-/// One edit for each row. A founded group is two: the group, and its owner as a member that may extend it.
+/// One edit for each row. A new group has two: the group, and its owner as a member that may extend it.
 fn rows(alloc: Global, change: Change) -> Result<Vec<Edit>, AllocFailed<Edit>>
     ensures { IfOk result (λ edits. edits.items ≡ map edit.Directory (rows_of change)) }
 {

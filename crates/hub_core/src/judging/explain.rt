@@ -1,4 +1,4 @@
-//! What may be wrong with a question for an explanation.
+//! The grounds of an Explain.
 ghost use Rattle.std.specs.Prelude.{◌≡◌, IfOk};
 ghost use Rattle.hub_core.specs.Judgement.{grounds_by};
 ghost use Rattle.hub_state.specs.Aftermath.{edits_by};
@@ -12,7 +12,7 @@ use circle::refusal::Code;
 use hub_state::{Edit, Explain, Facts};
 use std::alloc::Global;
 
-/// An administrator asks why an active person sees a class of an incident, or doesn't.
+/// Asks the grounds of an administrator's question why an active person sees a class of an incident, or doesn't.
 pub fn explain(
     alloc: Global,
     actor: &Person,

@@ -10,21 +10,21 @@ use hub_state::Distribution;
 use iodef_tree::Path;
 use std::alloc::Global;
 
-/// Whether a path is that of the root.
+/// Whether the path is empty, which is that of the root.
 pub fn is_root(path: &Path) -> bool
     ensures { result ≡ text.is_root path.now }
 {
     path.tokens().is_empty()
 }
 
-/// Whether there is no such level; 5, as above, is for classes alone.
+/// Whether there is no such level. Level 5, as the class above, is for classes only.
 pub fn is_bad_level(at_root: bool, level: u32) -> bool
     ensures { result ≡ spec.is_bad_level at_root level }
 {
     level > if at_root { 4 } else { 5 }
 }
 
-/// Whether level 4 has no group, or another has one.
+/// Whether level 4 has no group, or another level has one.
 pub fn is_bad_group(level: u32, group: Option<u32>) -> bool
     ensures { result ≡ spec.is_bad_group level group }
 {
@@ -35,7 +35,7 @@ pub fn is_bad_group(level: u32, group: Option<u32>) -> bool
     }
 }
 
-/// The level of the gate at the root of an incident.
+/// The level of the gate at the root of an incident. Refuses a bad level or group with `B1`.
 pub fn root_level(alloc: Global, distribution: &Distribution) -> Result<u8, Stop>
     ensures asked { Asks (root_gate distribution.now) result }
     ensures level { IfOk result (λ l. l ≡ distribution.now.level) }

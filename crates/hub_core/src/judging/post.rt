@@ -18,7 +18,7 @@ use circle::refusal::Code;
 use hub_state::{Edit, Facts, Incident, Naming, Post};
 use std::alloc::{AllocError, Global};
 
-/// An incident for each Incident of the body, or a refusal and none.
+/// The edits that put an incident for each Incident of the body.
 pub fn post(alloc: Global, actor: &Person, facts: &Facts, request: &Post) -> Result<Vec<Edit>, Stop>
     ensures asked { Asks (grounds_by facts.now actor.now (ask.Post request.now)) result }
     ensures made { IfOk result (λ edits.
@@ -38,7 +38,7 @@ pub fn post(alloc: Global, actor: &Person, facts: &Facts, request: &Post) -> Res
     Ok(put_incidents(alloc, &posting, first, &gates, documents)?)
 }
 
-/// The gates and the documents. Gates are for a single document, since a path would name another class in each.
+/// Reads the gates and the documents.
 fn arguments(alloc: Global, request: &Post) -> Result<(ClassGates, Vec<Posted>), Stop>
     ensures asked { Asks (post_arguments request.now) result }
     ensures gates { IfOk result (λ both. both.0 ≡ request.now.distribution.gates) }
@@ -47,6 +47,8 @@ fn arguments(alloc: Global, request: &Post) -> Result<(ClassGates, Vec<Posted>),
     let wanted = request.distribution.gates.as_slice();
     let gates = ClassGates::new(alloc, wanted)?;
     let documents = documents(alloc, request.document.as_slice())?;
+    // A gate's path would name another class in each document. This is asked after reading, so only of a body that can
+    // be read.
     let is_ambiguous = documents.len() > 1 && !wanted.is_empty();
     bad_if(alloc, is_ambiguous, "gates")?;
     bad_if(alloc, have_twins(&documents), "IncidentID")?;
@@ -54,7 +56,7 @@ fn arguments(alloc: Global, request: &Post) -> Result<(ClassGates, Vec<Posted>),
     Ok((gates, documents))
 }
 
-/// Asks what there is: groups, classes, incidents of the same ident, room.
+/// Asks the grounds of the facts: communities and groups, classes, incidents of the same ident, limits.
 fn check_facts(
     alloc: Global,
     facts: &Facts,
@@ -73,7 +75,7 @@ fn check_facts(
     Ok(())
 }
 
-/// What the incidents of a body have in common, beside the gates of classes.
+/// What the incidents of a body have in common, without the gates at classes.
 #[derive(Drop)]
 struct Posting {
     source: u32,
@@ -82,7 +84,7 @@ struct Posting {
     group: Option<u32>,
 }
 
-/// The incidents in the order of the body, from a number on, each with its gates.
+/// The edits that put the incidents in the order of the body, numbered from `first` on, each with its gates.
 fn put_incidents(
     alloc: Global,
     posting: &Posting,

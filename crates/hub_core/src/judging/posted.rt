@@ -1,4 +1,4 @@
-//! A document of a body, with what its incident is named by.
+//! A document of a body, with its ident.
 ghost use Rattle.std.specs.Prelude.{◌≡◌, IfOk};
 ghost use Rattle.hub_state.specs.Documents.{ident_of};
 
@@ -7,7 +7,7 @@ use iodef_tree::Document;
 use std::alloc::{AllocError, Global};
 use std::marker::Model;
 
-/// A document of a body, beside the compact JSON of its `IncidentID` (RFC 7970 section 3.4). Contracts see the document.
+/// A document of a body, and the compact JSON of its `IncidentID` (RFC 7970 section 3.4). Contracts see the document.
 #[derive(Drop)]
 pub struct Posted {
     document: Document,
@@ -49,7 +49,7 @@ impl Posted {
         &self.ident
     }
 
-    /// Takes no memory.
+    /// Returns the document and its ident. Takes no memory.
     pub fn into_parts(self) -> (Document, Text)
         ensures document { result.0 ≡ self }
         ensures ident { result.1 ≡ ident_of self }

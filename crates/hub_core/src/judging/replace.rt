@@ -1,4 +1,4 @@
-//! Another document for an incident.
+//! Exchanging the document of an incident.
 ghost use Rattle.std.specs.Prelude.{◌≡◌, ◌+◌, ◌≤◌, true, Some, length, IfOk};
 ghost use Rattle.std.specs.List.{list_all};
 ghost use Rattle.std.specs.Str.{bytes_eq};
@@ -20,7 +20,8 @@ use circle::text::Text;
 use hub_state::{Edit, Facts, Incident, IncidentFacts, Naming, Replace};
 use std::alloc::{AllocError, Global};
 
-/// The incident in its next revision, with the community and the gates given; its permissions are taken out and its recipients stay.
+/// The edits that put the incident in its next revision, with the request's community and gates. They take its
+/// permissions out and keep its recipients.
 pub fn replace(
     alloc: Global,
     actor: &Person,
@@ -49,7 +50,7 @@ pub fn replace(
     Ok(edits)
 }
 
-/// The gates, and the one document.
+/// Reads the gates and the one document.
 fn arguments(alloc: Global, request: &Replace) -> Result<(ClassGates, Vec<Posted>), Stop>
     ensures asked { Asks (replace_arguments request.now) result }
     ensures gates { IfOk result (λ both. both.0 ≡ request.now.distribution.gates) }
@@ -58,12 +59,13 @@ fn arguments(alloc: Global, request: &Replace) -> Result<(ClassGates, Vec<Posted
 {
     let gates = ClassGates::new(alloc, request.distribution.gates.as_slice())?;
     let documents = documents(alloc, request.document.as_slice())?;
+    // several Incidents are refused here, so two equal IncidentIDs need no ground
     bad_if(alloc, documents.len() > 1, "document")?;
     well_marked(alloc, &documents)?;
     Ok((gates, documents))
 }
 
-/// Asks what there is: the incident as the actor's own, groups, classes, its ident, its revision, room.
+/// Asks the grounds of the facts: an own incident, communities and groups, classes, ident, revision, limits.
 fn check_facts<'a>(
     alloc: Global,
     actor: &Person,
@@ -95,7 +97,7 @@ fn have_ident(documents: &[Posted], ident: &Text) -> bool
     documents.iter().all(|document| document.ident() == ident)
 }
 
-/// The row of the incident with this document, in place of the one that stands.
+/// The edits that take the incident's row out and put it back with this document.
 fn next_revision(
     alloc: Global,
     incident: u32,
@@ -114,6 +116,7 @@ fn next_revision(
     if let Some(posted) = documents.pop() {
         let (document, ident) = posted.into_parts();
         edits.push(Edit::TakeIncident(incident))?;
+        // written out field by field, so that a new field has to be decided here
         let naming = Naming {
             number: incident,
             source: known.source,

@@ -1,4 +1,4 @@
-//! Who may ask at all.
+//! Which roles may change incidents.
 ghost use Rattle.std.specs.Prelude.{◌≡◌, true, Some};
 ghost use Rattle.circle.specs.Outcomes.{bare};
 ghost use Rattle.circle.specs.declared.refusal.Code.TheVariants.{W1};
@@ -10,8 +10,8 @@ use crate::judging::stop::may_post;
 use circle::directory::Person;
 use hub_state::Request;
 
-/// Whether the request changes an incident and the actor's role forbids that: then it is refused with `W1` in every state,
-/// so nothing needs to be read for it, neither its body nor the shelf.
+/// Whether the request changes an incident and the actor's role doesn't allow that. Such a request is refused with `W1`
+/// in every state, so neither its body nor the shelf needs to be read for it.
 pub fn lacks_role(actor: &Person, request: &Request) -> bool
     ensures value { result ≡ spec.lacks_role actor.now request.now }
     ensures refused { result ≡ true → (s : State) →

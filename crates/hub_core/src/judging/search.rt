@@ -1,4 +1,4 @@
-//! What may be wrong with a search.
+//! The grounds of a Search.
 ghost use Rattle.std.specs.Prelude.{◌≡◌, IfOk};
 ghost use Rattle.hub_core.specs.Judgement.{grounds_by};
 ghost use Rattle.hub_core.specs.Refusals as spec;
@@ -13,7 +13,7 @@ use circle::text::Text;
 use hub_state::{Edit, Facts, Search};
 use std::alloc::Global;
 
-/// A needle, or the name of a class, has 1 to [`WORD_LIMIT`] bytes.
+/// Refuses a needle, or the name of a class, that is empty or longer than [`WORD_LIMIT`] bytes.
 pub fn search(
     alloc: Global,
     actor: &Person,

@@ -1,4 +1,4 @@
-//! How the grounds of a request are asked: each is a test and the refusal that it gives.
+//! How the grounds of a request are asked: each is a test and the refusal that it leads to.
 ghost use Rattle.std.specs.Prelude.{◌≡◌, [], ◌∷◌, IfOk, option_map, decimal};
 ghost use Rattle.circle.specs.Refusals.{refuse, bad, unless_administrator};
 ghost use Rattle.iodef_tree.specs.Pointer.{pointer_tokens};
@@ -15,7 +15,7 @@ use hub_state::{Facts, IncidentFacts};
 use iodef_tree::{Path, PathFault};
 use std::alloc::{AllocError, AllocFailed, Global};
 
-/// Why there are no edits: the refusal that is due, or want of memory, which the caller answers as a refusal too.
+/// Why there are no edits: a refusal, or want of memory, which becomes a refusal too.
 #[derive(Drop)]
 pub enum Stop {
     Refused(Refusal),
@@ -38,7 +38,7 @@ impl<T: Drop> From<AllocFailed<T>> for Stop {
     }
 }
 
-/// Refuses where the ground holds.
+/// Fails with the refusal of the code if the ground holds.
 pub fn refuse_if(alloc: Global, holds: bool, code: Code) -> Result<(), Stop>
     ensures { Asks (refuse code holds ∷ []) result }
 {
@@ -48,7 +48,7 @@ pub fn refuse_if(alloc: Global, holds: bool, code: Code) -> Result<(), Stop>
     Ok(())
 }
 
-/// Refuses a bad argument by its field's name.
+/// Fails with `B1` and the name of the bad argument if the ground holds.
 pub fn bad_if(alloc: Global, holds: bool, field: &'static str) -> Result<(), Stop>
     ensures { Asks (bad field.now holds ∷ []) result }
 {
@@ -61,7 +61,7 @@ pub fn bad_if(alloc: Global, holds: bool, field: &'static str) -> Result<(), Sto
     Ok(())
 }
 
-/// Refuses where there is a number to tell.
+/// Fails with the refusal of the code and a number as its detail, if there is a number.
 pub fn refuse_with(alloc: Global, code: Code, number: Option<u32>) -> Result<(), Stop>
     ensures { Asks (because code (option_map decimal number) ∷ []) result }
 {
@@ -74,7 +74,7 @@ pub fn refuse_with(alloc: Global, code: Code, number: Option<u32>) -> Result<(),
     Ok(())
 }
 
-/// Administrators alone ask why somebody sees a class.
+/// Fails with `W1` unless the actor is an administrator.
 pub fn administrator(alloc: Global, actor: &Person) -> Result<(), Stop>
     ensures { Asks (unless_administrator actor.now ∷ []) result }
 {
@@ -82,21 +82,21 @@ pub fn administrator(alloc: Global, actor: &Person) -> Result<(), Stop>
     refuse_if(alloc, !may_ask, Code::W1)
 }
 
-/// Posters and coordinators alone post and change incidents.
+/// Whether the actor is a poster or a coordinator.
 pub fn may_post(actor: &Person) -> bool
     ensures { result ≡ spec.may_post actor.now.role }
 {
     matches!(actor.role, Role::Coordinator | Role::Poster)
 }
 
-/// Refuses who may change no incident.
+/// Fails with `W1` unless the actor may change incidents.
 pub fn poster(alloc: Global, actor: &Person) -> Result<(), Stop>
     ensures { Asks (unless_poster actor.now ∷ []) result }
 {
     refuse_if(alloc, !may_post(actor), Code::W1)
 }
 
-/// What is known of the incident, where it is there and the actor's organisation posted it.
+/// The facts of the incident. Fails with `N1` unless it is there and the actor's organisation posted it.
 pub fn own<'a>(alloc: Global, actor: &Person, facts: &'a Facts) -> Result<&'a IncidentFacts, Stop>
     ensures asked { Asks (unless_own facts.now.incident actor.now ∷ []) result }
     ensures known { IfOk result (λ k. facts.now.incident ≡ Some k.now) }
@@ -107,7 +107,7 @@ pub fn own<'a>(alloc: Global, actor: &Person, facts: &'a Facts) -> Result<&'a In
     }
 }
 
-/// The path that a text is the JSON pointer of (RFC 6901).
+/// The path that a text is the JSON pointer of (RFC 6901). Fails with `B1` if it is none.
 pub fn path_of(alloc: Global, text: &str, field: &'static str) -> Result<Path, Stop>
     ensures asked { Asks (bad field.now (is_bad_pointer text.now) ∷ []) result }
     ensures path { IfOk result (λ p. pointer_tokens text.now ≡ Some p) }
@@ -122,7 +122,7 @@ pub fn path_of(alloc: Global, text: &str, field: &'static str) -> Result<Path, S
     }
 }
 
-/// The present revision, where it isn't the one that the request names.
+/// The present revision, if it isn't the one that the request names.
 pub fn other_than(present: u32, revision: u32) -> Option<u32>
     ensures { option_map decimal result ≡ spec.other_than revision present }
 {
