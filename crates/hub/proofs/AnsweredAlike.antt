@@ -1,4 +1,4 @@
--- What is due in two worlds that are alike.
+-- The reply that is due in two worlds that are alike.
 use Rattle.std.proofs.Common.{inl, inr}
 use Rattle.std.specs.Prelude.{ℤ}
 use Rattle.circle.specs.declared.directory.Account.{Account}

@@ -1,4 +1,4 @@
--- What a change is answered, by its edits.
+-- The reply to a change, by its edits.
 use Rattle.std.proofs.Common.{◌≡◌, ℕ, ◌+◌, ◌<◌, ◌≤◌, ◌^◌, false, ◌==◌, List, [], ◌∷◌, ◌++◌, map, Option, Some, None, drop, get_or, length, refl, sym, ◌∙◌, ap, subst, arith, append_assoc}
 use Rattle.std.specs.Prelude.{ℤ, option_map}
 use Rattle.std.specs.List.{flat_map, cons_option}

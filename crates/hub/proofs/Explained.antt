@@ -1,4 +1,4 @@
--- An explanation is there wherever it isn't refused.
+-- There is an explanation exactly if the request isn't refused.
 use Rattle.std.proofs.Common.{◌≡◌, Bool, true, false, not, Option, Some, None, cond, refl, sym, ◌∙◌, ap}
 use Rattle.std.specs.Prelude.{ℤ, is_none, option_map}
 use Rattle.std.specs.Option.{option_map_or}
@@ -28,7 +28,7 @@ use Rattle.hub_core.proofs.Agrees.{agrees}
 use Rattle.hub.specs.Told.{standing_at, trace_of}
 use Rattle.hub.specs.inner.Explaining.{standing_between, text_at, text_of}
 
--- what is there is told
+-- what is looked up is there
 told_of : (b : Bool) (text : Bytes) → not b ≡ false → cond b (Some text) None ≡ Some text
 told_of true text h = refl
 told_of false text h = absurd (true≢false h)
@@ -60,7 +60,7 @@ text_there s now (Some p) (Some i) path st c ls stands judged has =
     let so : st ≡ standing_at s now p i = cc in
     ap (λ x. text_at x c st path) lines ∙ ap (λ x. text_at i.document x st path) case ∙ ap (λ x. text_at i.document (case_for s i) x path) so
 
--- the text of what is explained is that at the class
+-- the text of the explanation is that of the class
 pub text_of_explained : (ls : Lines) (c : Case) (st : Standing) (path : Tokens) (x : Explanation) → explained_at (located ls) c st path ≡ Some x → Some (trace_text x) ≡ text_at ls c st path
 text_of_explained ls c st path x h = by_case (has_class (located ls) path) h
   where

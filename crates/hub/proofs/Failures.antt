@@ -1,4 +1,4 @@
--- Failures that are told are counted.
+-- Each reply that says that the store failed was counted.
 use Rattle.std.proofs.Common.{◌≡◌, ◌≤◌, inl, inr, ℕ, ◌+◌, Bool, true, false, List, [], ◌∷◌, ◌++◌, cond, refl, sym, ◌∙◌, ap, arith}
 use Rattle.std.proofs.lemmas.Bool.{true≢false}
 use Rattle.std.proofs.lemmas.List.Sums.{sum_by_push}
@@ -12,7 +12,7 @@ use Rattle.hub.specs.Faults.{AreCounted, failures_told, tells_failure}
 use Rattle.hub.specs.Machine.{Asked, IsStep}
 use Rattle.hub.proofs.Served.{due_untold}
 
--- a reply that tells of a failure is that of a step that was given up
+-- a reply that says so is that of a step that was given up
 pub failure_alone : (s left : State) (asked : Asked) (reply : Reply) → IsStep s asked reply left → tells_failure reply ≡ true → reply ≡ Refused (bare F1)
 failure_alone s left asked reply (inl answered) h = absurd (true≢false (sym h ∙ ap tells_failure answered.due ∙ due_untold s asked.0 asked.1 asked.2))
 failure_alone s left asked reply (inr (inl is, same)) h = is

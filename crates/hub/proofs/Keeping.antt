@@ -1,4 +1,4 @@
--- Reading goes on: what several calls leave.
+-- Several reads, one after another, and what they leave.
 use Rattle.std.proofs.Common.{◌≡◌, ℕ, arith}
 use Rattle.std.specs.Prelude.{Option, Result}
 use Rattle.hub_core.specs.State.{State}
@@ -15,7 +15,7 @@ kept_on {doubts = doubts} {old = old} {mid = mid} {new = new} first then = recor
   crash = λ clean left leaves. let before : doubts mid ≡ 0 = omega (arith, then.doubt) in first.crash before left (then.crash clean left leaves);
 }
 
--- one call
+-- one call more
 pub kept_read : {D T : Type 0} {has : D → State → Type 0} {doubts failed : D → ℕ} {may_remain : D → Option State → Type 0} {old new : D} {result : Result T ShelfFault} →
     IsRead has doubts failed may_remain old new result → IsKept has doubts failed may_remain old new
 kept_read read = record { later = read.cause.later; doubt = read.doubt; content = read.content; crash = read.crash }

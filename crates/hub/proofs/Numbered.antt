@@ -1,4 +1,4 @@
--- Rows that are numbered from 1 with no gap.
+-- Rows numbered from 1 without a gap.
 use Rattle.std.proofs.Common.{◌≡◌, inl, inr, ℕ, zero, suc, ◌+◌, ◌<◌, ◌≤◌, false, ◌==◌, nat_lt, List, [], ◌∷◌, Some, take, drop, refl, sym, ◌∙◌, ap, subst, arith, filter, find, slice_get}
 use Rattle.std.specs.List.{AllByRecursion}
 use Rattle.std.proofs.lemmas.Bool.{lt-ltb, le-ltb, eq-eqb, cond-true, cond-false}
@@ -17,7 +17,7 @@ module _ {X : Type 0} (number : X → ℕ) where
       let later : m ≤ n + 1 = omega arith in
       cond-true (nat_lt m (number x)) _ _ (lt-ltb m (number x) more) ∙ ap (λ ys. x ∷ ys) (all_above m (n + 1) xs later h.1)
 
-  -- those above a number are those behind as many
+  -- the rows above a number are those after as many
   above-drop : (a n : ℕ) (xs : List X) → CountsFrom number n xs → filter (λ x. nat_lt (n + a) (number x)) xs ≡ drop a xs
   above-drop zero n xs h = all_above (n + 0) n xs (omega arith) h
   above-drop (suc a) n [] h = refl
@@ -56,7 +56,7 @@ module _ {X : Type 0} (number : X → ℕ) where
   found_behind x (y ∷ ys) all low h =
       (cond-false (number x == number y) _ _ (smaller (number x) (number y) low.0) ∙ h.0, found_behind x ys all low.1 h.1)
 
-  -- each is the one that is found under its number
+  -- each row is the one found by its number
   pub all_found : (n : ℕ) (xs : List X) → CountsFrom number n xs → AllByRecursion (λ y. find (λ z. number z == number y) xs ≡ Some y) xs
   all_found n [] h = tt
   all_found n (x ∷ xs) h = (

@@ -15,7 +15,7 @@ module _ {D : Type 0} (has : D → State → Type 0) (doubts failed : D → ℕ)
   answers_more old mid new (q ∷ others) [] asked reply all one = absurd all
   answers_more old mid new (q ∷ others) (r ∷ replies) asked reply all one = (all.0, all.1, answers_more all.0 mid new others replies asked reply all.2 one)
 
-  -- what holds after i requests, and one answer, make what holds after i + 1
+  -- what holds after i requests, with one answer more, holds after i + 1
   pub answers_on : (old before after : D) (all : List Asked) (i : ℕ) (asked : Asked) (replies : List Reply) (reply : Reply) → asked ≡ get_or all i asked → i < length all
       → AreAnswers has doubts failed may_remain old (take i all) replies before
       → IsOneAnswer has doubts failed may_remain before asked reply after

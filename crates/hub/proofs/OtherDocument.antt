@@ -1,4 +1,4 @@
--- Another document in one incident, of which a person is told the same.
+-- Another document in one incident, of which a person learns the same.
 use Rattle.std.proofs.Common.{◌≡◌, ℕ, Bool, true, false, List, [], ◌∷◌, refl, sym, ◌∙◌, ap, ◌||◌, ◌==◌, if◌then◌else◌, cond}
 use Rattle.std.specs.Prelude.{ℤ, Option, Some, None, filter, find, map, take, nat_lt, option_map}
 use Rattle.std.specs.List.{AllByRecursion}
@@ -25,7 +25,7 @@ redone doc i = record i { naming = record i.naming { ident = ident_of doc }; doc
 abbrev pub other_of : ℕ → Lines → Incident → Incident
 other_of n doc i = if i.naming.number == n then redone doc i else i
 
--- the same is told of an incident in one state and of another in another state
+-- the person learns the same of an incident in one state and of another in another state
 pub record ToldOf (now : ℤ) (p : Person) (s t : State) (i j : Incident) : Type 0 where
   pub number : i.naming.number ≡ j.naming.number
   pub entry : entry_of i ≡ entry_of j
@@ -80,7 +80,7 @@ module _ (now : ℤ) (p : Person) (s t : State) (e : Incident → Incident) (inc
   pub view-same : (q : ℕ) → viewed s now p (incident_of q s) ≡ viewed t now p (incident_of q t)
   view-same q = view-found q s.incidents each ∙ ap (λ is. viewed t now p (find (λ (i : Incident). i.naming.number == q) is)) (sym incidents)
 
--- what the redaction tells of two reports is told of two incidents that differ in document and ident alone
+-- what redaction shows of two reports, it shows of two incidents that differ only in document and ident
 pub told-by : (now : ℤ) (p : Person) (s t : State) (i : Incident) (doc : Lines) → standing_for t now p (redone doc i) ≡ standing_for s now p i →
     IsToldAlike (standing_at s now p i) (report_of s i i.document) (record { lines = doc; case = case_for t (redone doc i) }) → ToldOf now p s t i (redone doc i)
 told-by now p s t i doc stands h =

@@ -1,4 +1,4 @@
--- Other permissions that have ended, the person's own among them.
+-- Other permissions that have ended, also the person's own.
 use Rattle.std.proofs.Common.{◌≡◌, Bool, false, List, [], ◌∷◌, refl, sym, ◌∙◌, ap, subst, ◌&&◌, ◌||◌, ◌==◌, inr}
 use Rattle.std.specs.Prelude.{ℤ, None, Some, filter, map, Contains, option_map}
 use Rattle.std.specs.List.{AllByRecursion}

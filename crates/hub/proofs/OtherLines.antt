@@ -33,7 +33,7 @@ use Rattle.hub.proofs.ToldSame.{TellsSame}
 use Rattle.hub.proofs.OtherUnseen.{known}
 use Rattle.hub.proofs.OtherDocument.{other_of, redone, ToldOf, page-same, view-same, told-by}
 
--- what is read is a document
+-- what reading returns is a document
 read-document : (doc : Lines) → IsAccepted doc → IsDocument doc
 read-document doc h = subst IsDocument h.among.2 (all-at IsDocument h.docs h.among.0 doc h.among.1 (readings-are-documents h.body h.docs h.read))
 
@@ -46,7 +46,7 @@ marked-document s i sound at =
 some-same : {X : Type 0} (x y : X) → Some x ≡ Some y → x ≡ y
 some-same x y h = cc
 
--- with the same standing and case the same is told of an incident
+-- with the same standing and case, the person learns the same of an incident
 told-of-same : (now : ℤ) (p : Person) (s t : State) (i : Incident) → standing_for t now p i ≡ standing_for s now p i → case_for t i ≡ case_for s i → ToldOf now p s t i i
 told-of-same now p s t i stands cases =
     let there : standing_at s now p i ≡ standing_at t now p i = standing_at-is s now p i ∙ sym stands ∙ sym (standing_at-is t now p i) in
@@ -117,7 +117,7 @@ plain-step now a s t ss st there h = subst (λ w. TellsSame now a s w × Contain
 
 -- ---- another hidden class
 
--- those that are of the incident and not within, by which test comes first
+-- the rows of the incident that aren't within, with either test first
 of_then : (of within : Bool) → (of && not within) ≡ (not (of && within) && of)
 of_then true true = refl
 of_then true false = refl

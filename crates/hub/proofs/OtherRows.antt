@@ -72,7 +72,7 @@ module _ (now : ℤ) (a : Account) (s : State) (accounts : List Account) (arrang
   module _ (same_permissions : staying_permissions now a s ≡ staying_permissions now a w) (same_recipients : staying_recipients now a s ≡ staying_recipients now a w)
       (same_accounts : staying_accounts now a s.directory ≡ staying_accounts now a w.directory) (same_arrangements : staying_arrangements now a s.directory ≡ staying_arrangements now a w.directory)
       (same_members : staying_members now a s.directory ≡ staying_members now a w.directory) where
-    -- ---- a standing, by what may differ
+    -- ---- a standing, by the rows that may differ
     abbrev made : Incident → Bool → Bool → Bool → Option Handling → List GroupMember → Standing
     made i person org client arrangement ms = record {
       source = p.org == i.naming.source;

@@ -1,4 +1,4 @@
--- An incident of which a person sees nothing may be anything.
+-- An incident of which a person sees nothing may be any.
 use Rattle.std.proofs.Common.{◌≡◌, ◌≢◌, inl, inr, bytes_eq, ℕ, Bool, true, false, not, List, [], ◌∷◌, refl, sym, ◌∙◌, ap, subst, ◌&&◌, ◌||◌, ◌==◌, cond}
 use Rattle.std.specs.Prelude.{ℤ, Option, Some, None, filter, find, map, take, nat_lt, Contains}
 use Rattle.std.specs.List.{AllByRecursion, list_any}
@@ -41,7 +41,7 @@ use Rattle.policy.specs.declared.case.Case.{Case}
 abbrev pub other : ℕ → Incident → Bool
 other n i = not (i.naming.number == n)
 
--- a page of those above a number, of lists that agree but for an incident on which both tests fail
+-- a page above a number, of two lists that differ only in an incident that fails both tests
 page-but : (n after : ℕ) (f g : Incident → Bool) (xs ys : List Incident) → filter (other n) xs ≡ filter (other n) ys →
     ((i : Incident) → other n i ≡ true → f i ≡ g i) → AllByRecursion (λ i. other n i ≡ false → f i ≡ false) xs → AllByRecursion (λ i. other n i ≡ false → g i ≡ false) ys →
     filter f (filter (λ (i : Incident). nat_lt after i.naming.number) xs) ≡ filter g (filter (λ (i : Incident). nat_lt after i.naming.number) ys)
@@ -61,7 +61,7 @@ page-but n after f g xs ys same agree none none' =
     both : (test : Incident → Bool) (zs : List Incident) → AllByRecursion (λ i. other n i ≡ false → test i ≡ false) zs → AllByRecursion (λ i. other n i ≡ false → (nat_lt after i.naming.number && test i) ≡ false) zs
     both test zs h = each-from (λ i. other n i ≡ false → test i ≡ false) (λ i. other n i ≡ false → (nat_lt after i.naming.number && test i) ≡ false) (λ i e k. late (nat_lt after i.naming.number) (test i) (e k)) zs h
 
--- what is asked of the incident of a number is asked of each that has the number
+-- a test of the incident of a number is a test of each with that number
 none-of : (s : State) (n : ℕ) (test : Incident → Bool) → IsSound s → option_map_or test (incident_of n s) false ≡ false → AllByRecursion (λ i. other n i ≡ false → test i ≡ false) s.incidents
 none-of s n test sound h = each s.incidents (all_found incident_number 0 s.incidents sound.incidents.numbered.0)
   where
@@ -74,11 +74,12 @@ none-of s n test sound h = each s.incidents (all_found incident_number 0 s.incid
       each is f.1,
     )
 
--- how a person stands is told by the directory and by whether rows of recipients are there
+-- a standing depends on the directory and on which recipients are there
 pub record Addressed (n : ℕ) (rs rs' : List Recipient) : Type 0 where
   pub any : (x : Target) → list_any (is_recipient_being n x) rs ≡ list_any (is_recipient_being n x) rs'
 
--- a standing, by the directory and by whether recipients, the person and its organisation, and clients' organisations are there
+-- a standing, by the directory and by whether the person, its organisation and the organisations whose client it is are
+-- recipients
 abbrev made : ℤ → Directory → Person → Incident → Bool → Bool → Bool → Standing
 made now d p i person org client = record (standing_for (record { directory = d; incidents = []; gates = []; recipients = []; permissions = [] }) now p i) {
   person = person;
@@ -147,7 +148,7 @@ module _ (now : ℤ) (a : Account) (s t : State) (ss : IsSound s) (st : IsSound 
       (page-but n after (is_served s now a.person) (is_served t now a.person) s.incidents t.incidents h.others.incidents served-same
       (none-of s n (is_served s now a.person) ss h.first) (none-of t n (is_served t now a.person) st h.second))
 
--- ---- who asks
+-- ---- the caller
 
 apart-from : (b : Account) (bs : List Account) (a : Account) → AllByRecursion (λ (y : Account). b.key ≢ y.key) bs → In bs a → b.key ≢ a.key
 apart-from b [] a h k = absurd k
@@ -164,7 +165,7 @@ found-by-key (b ∷ bs) a h (inr k) = by_test (bytes_eq b.key a.key) refl (found
     by_test true e ih = absurd (apart-from b bs a h.0 k (bytes_eq-true b.key a.key e))
     by_test false e ih = ih
 
--- a person that is there is known by its key
+-- a person that is there is found by its key
 pub known : (s : State) (a : Account) → IsSound s → Contains s.directory.accounts a → caller_of s (Digest a.key) ≡ if_active (Some a.person)
 known s a sound there = ap (λ o. if_active (option_map person_in o)) (found-by-key s.directory.accounts a sound.directory.accounts.keys (in_contained s.directory.accounts a there))
 
@@ -173,7 +174,7 @@ known s a sound there = ap (λ o. if_active (option_map person_in o)) (found-by-
 view-same-by : (i : Incident) (c c' : Case) (st st' : Standing) → c ≡ c' → st ≡ st' → option_map (view_with i) (excerpt_of i.document c st) ≡ option_map (view_with i) (excerpt_of i.document c' st')
 view-same-by i c c' st st' cs ss = ap (λ x. option_map (view_with i) (excerpt_of i.document x st)) cs ∙ ap (λ x. option_map (view_with i) (excerpt_of i.document c' x)) ss
 
--- of an incident that isn't served nothing is found
+-- nothing is found in an incident of which nothing is visible
 unfound : (s : State) (now : ℤ) (p : Person) (i : Incident) (needle : Bytes) (class : Option Bytes) → is_served s now p i ≡ false → is_found s now p i needle class ≡ false
 unfound s now p i needle class h = by_test (is_found s now p i needle class) refl
   where

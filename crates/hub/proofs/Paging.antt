@@ -1,4 +1,4 @@
--- A page, from the entries above a number.
+-- A page, made of the entries above a number.
 use Rattle.std.proofs.Common.{◌≡◌, ℕ, zero, suc, ◌+◌, ◌-◌, ◌<◌, ◌≤◌, Bool, true, false, List, [], ◌∷◌, ◌++◌, cond, Option, Some, None, length, take, drop, map, refl, sym, ◌∙◌, ap, subst, arith, filter, slice_get, get_or, not, ◌&&◌, append_assoc, string_bytes}
 use Rattle.std.specs.Prelude.{option_map}
 use Rattle.std.specs.List.{AllByRecursion}
@@ -73,7 +73,7 @@ module _ (s : State) (test : Incident → Bool) where
   all_dropped P (suc n) [] h = tt
   all_dropped P (suc n) (i ∷ is) h = all_dropped P n is h.1
 
-  -- the entries of which the test holds, above a number
+  -- the entries above a number that pass the test
   abbrev pub passing_above : ℕ → List Entry
   passing_above a = map entry_of (filter test (incidents_above a s))
 
@@ -100,7 +100,7 @@ module _ (s : State) (test : Incident → Bool) where
       let there : e.number ≡ (0 + a) + length (map entry_of I) = last_of I (0 + a) e counts (subst (λ es. slice_get es (length es - 1) ≡ Some e) same at) in
       there ∙ omega arith ∙ ap (λ es. a + length es) (sym same)
 
-  -- what passes among the entries read, and then what passes above the last of them
+  -- those that pass among the entries read, and then those above the last of them
   passing-split : (a n : ℕ) (e : Entry) → IsSound s → slice_get (entries_after a n s) (length (entries_after a n s) - 1) ≡ Some e →
       passing_above a ≡ filter (λ (x : Entry). test_at x.number) (entries_after a n s) ++ passing_above e.number
   passing-split a n e sound at =
@@ -119,7 +119,7 @@ module _ (s : State) (test : Incident → Bool) where
       ∙ ap (λ es. es ++ map entry_of (filter test (drop n D))) (sym read)
       ∙ ap (λ is. filter (λ (x : Entry). test_at x.number) (entries_after a n s) ++ map entry_of (filter test is)) (sym behind)
 
-  -- a page goes on with the entries read
+  -- the page continues with the entries read
   page_by : (a : ℕ) (e : Entry) (old new : List Entry) → IsSound s → slice_get (entries_after a PAGE_LIMIT s) (length (entries_after a PAGE_LIMIT s) - 1) ≡ Some e →
       new ≡ take PAGE_LIMIT (old ++ filter (λ (x : Entry). test_at x.number) (entries_after a PAGE_LIMIT s)) →
       take PAGE_LIMIT (new ++ passing_above e.number) ≡ take PAGE_LIMIT (old ++ passing_above a)
@@ -137,7 +137,7 @@ module _ (s : State) (test : Incident → Bool) where
       let last = at_end (slice_get (entries_after a PAGE_LIMIT s) (length (entries_after a PAGE_LIMIT s) - 1)) b at in
       subst (λ n. take PAGE_LIMIT (new ++ passing_above n) ≡ take PAGE_LIMIT (old ++ passing_above a)) last.2 (page_by a last.0 old new sound last.1 is)
 
-  -- nothing is left where none is read
+  -- nothing remains if no entry is read
   pub page_end : (a : ℕ) (old : List Entry) → IsSound s → entries_after a PAGE_LIMIT s ≡ [] → length old ≤ PAGE_LIMIT → take PAGE_LIMIT (old ++ passing_above a) ≡ old
   page_end a old sound none few =
       let D = drop a s.incidents in
@@ -149,7 +149,7 @@ module _ (s : State) (test : Incident → Bool) where
       nothing [] h = refl
       nothing (i ∷ is) h = cc
 
-  -- where the last that is read isn't above the number, none is read
+  -- if the last entry read isn't above the number, none was read
   pub none_read : (a b : ℕ) → IsSound s → number_at_end (entries_after a PAGE_LIMIT s) ≡ Some b → b ≤ a → ⊥
   none_read a b sound end low =
       let last = at_end (slice_get (entries_after a PAGE_LIMIT s) (length (entries_after a PAGE_LIMIT s) - 1)) b end in
@@ -202,7 +202,7 @@ pub no_more : (test : Entry → Bool) (entries : List Entry) (i : ℕ) (old : Li
 no_more test entries i old past few =
     ap (λ xs. take PAGE_LIMIT (old ++ filter test xs)) (drop_all i entries past) ∙ ap (take PAGE_LIMIT) (append-nil old) ∙ take_all PAGE_LIMIT old few
 
--- ---- what a standing rules out
+-- ---- what a standing excludes
 
 pub ruled_out : (w : PageFilter) (doc : Lines) (c : Case) (st : Standing) → not (admits w st) ≡ true → passes_filter w doc c st ≡ false
 ruled_out w doc c st h = by_case (admits w st) h
@@ -211,7 +211,7 @@ ruled_out w doc c st h = by_case (admits w st) h
     by_case true k = absurd (true≢false (sym k))
     by_case false k = refl
 
--- and what it doesn't is told by the want
+-- otherwise the want decides
 admitted : (w : PageFilter) (doc : Lines) (c : Case) (st : Standing) → not (admits w st) ≡ false → meets w.want.now doc c st ≡ passes_filter w doc c st
 admitted w doc c st h = by_case (admits w st) h
   where
@@ -219,7 +219,7 @@ admitted w doc c st h = by_case (admits w st) h
     by_case true k = refl
     by_case false k = absurd (true≢false k)
 
--- also by one of the same words
+-- also by one with the same words
 same_met : (copy want : Want) (doc : Lines) (c : Case) (st : Standing) → HasSameWords copy want → meets copy doc c st ≡ meets want doc c st
 same_met copy want doc c st same =
     ap (λ x. meets_by x (option_map string_bytes copy.class) doc c st) same.needle ∙ ap (λ x. meets_by (option_map string_bytes want.needle) x doc c st) same.class
@@ -235,7 +235,7 @@ pub none_told : (test : Incident → Bool) (o : Option Incident) → ((i : Incid
 none_told test None h = refl
 none_told test (Some i) h = sym (h i)
 
--- ---- what a gate at the root shuts out
+-- ---- what a gate at the root excludes
 
 pub shut_told : (s : State) (w : PageFilter) (st : Standing) (o : Option Incident) (c : Case) → is_shut_out c st ≡ true → Some c ≡ option_map (case_for s) o →
     false ≡ option_map_or (λ (i : Incident). passes_filter w i.document (case_for s i) st) o false

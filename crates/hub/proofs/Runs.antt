@@ -1,4 +1,4 @@
--- A run goes on by a step.
+-- A run continues by a step.
 use Rattle.std.proofs.Common.{◌≡◌, inl, inr, ℕ, ◌+◌, ◌<◌, List, [], ◌∷◌, ◌++◌, Option, Some, None, take, length, get_or, refl, sym, subst}
 use Rattle.std.proofs.lemmas.List.{take_more}
 use Rattle.circle.specs.declared.directory.Person.{Person}
@@ -35,7 +35,7 @@ run_on s mid end [] (r ∷ replies) asked reply run step = absurd run
 run_on s mid end (q ∷ others) [] asked reply run step = absurd run
 run_on s mid end (q ∷ others) (r ∷ replies) asked reply run step = (run.0, run.1, run_on run.0 mid end others replies asked reply run.2 step)
 
--- what holds after i requests, and one step, make what holds after i + 1
+-- what holds after i requests, with one step more, holds after i + 1
 pub goes_on : {D : Type 0} (has : D → State → Type 0) (before after : D) (s : State) (all : List Asked) (i : ℕ) (asked : Asked) (replies : List Reply) (reply : Reply) → asked ≡ get_or all i asked → i < length all
     → IsSound s
     → (mid : State) × IsRun s (take i all) replies mid × has before mid

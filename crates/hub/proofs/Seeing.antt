@@ -68,7 +68,7 @@ entry_is s n sound = entry_found s.incidents 0 n sound.incidents.numbered.0
 -- ---- the view
 
 module _ (s : State) (now : ℤ) (p : Person) where
-  -- what is served of an incident is the excerpt of its document
+  -- what the reader may see of an incident is the excerpt of its document
   served_at : (i : Incident) (st : Standing) (c : Case) → first_bad_marking (located i.document) ≡ None → Some st ≡ Some (standing_at s now p i) → Some c ≡ Some (case_for s i) →
       served_of i.document c st ≡ excerpt_of i.document (case_for s i) (standing_at s now p i)
   served_at i st c accepted stands judged =

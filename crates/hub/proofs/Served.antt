@@ -1,4 +1,4 @@
--- Who asks is there; what is answered, and what is left.
+-- The caller is there, and what a request is answered and leaves.
 use Rattle.std.proofs.Common.{◌≡◌, inl, inr, ℕ, Bool, true, false, not, ◌&&◌, ◌==◌, List, [], ◌∷◌, cond, Option, Some, None, refl, sym, ◌∙◌, ap, subst, find}
 use Rattle.std.specs.Prelude.{ℤ, Result, Ok, Err, option_map, option_and_then}
 use Rattle.std.specs.List.{list_all, AllByRecursion}
@@ -58,7 +58,7 @@ called P s (Digest key) p h all = by_case (find (λ (a : Account). bytes_eq a.ke
     by_case None is k = cc
     by_case (Some a) is k = subst P (same_person a p k) (found_each (λ (a : Account). P a.person) (λ (a : Account). bytes_eq a.key key) s.directory.accounts a is all)
 
--- each person is the one that is found under its number
+-- each person is the one found by its number
 all_there : (s : State) (rows : List Account) → AllByRecursion (λ (a : Account). find (λ (b : Account). b.person.number == a.person.number) s.directory.accounts ≡ Some a) rows → AllByRecursion (λ (a : Account). IsThere s a.person) rows
 all_there s [] h = tt
 all_there s (a ∷ rows) h = (ap (option_map person_in) h.0, all_there s rows h.1)
@@ -140,7 +140,7 @@ module _ {D : Type 0} {has : D → State → Type 0} {doubts failed : D → ℕ}
         crash = λ left leaves. inl (kept.crash clean left leaves);
       }
 
-  -- no answer, and nothing done
+  -- no reply, and nothing done
   pub served_none : IsKept has doubts failed may_remain old new → doubts new ≡ 0 → (s : State) (due : Reply) (after : State) (fault : ShelfFault) → has old s → IsDoneAsDue has may_remain old new s due after (Err fault)
   served_none kept clean s due after fault here = record {
     settled = kept.content clean s here;
@@ -156,7 +156,7 @@ module _ {D : Type 0} {has : D → State → Type 0} {doubts failed : D → ℕ}
     crash = λ left leaves. inl (kept.crash clean left leaves);
   }
 
--- behind what was read before
+-- after what was read before
 pub served_on : {D : Type 0} {has : D → State → Type 0} {doubts failed : D → ℕ} {may_remain : D → Option State → Type 0} {old mid new : D} → IsKept has doubts failed may_remain old mid → doubts mid ≡ 0 →
     (s : State) (due : Reply) (after : State) (result : Result Reply ShelfFault) →
     IsDoneAsDue has may_remain mid new s due after result → IsDoneAsDue has may_remain old new s due after result
@@ -166,7 +166,7 @@ served_on kept clean s due after result served = record {
   crash = λ left leaves. elim (served.crash left leaves) [ inl before ↦ inl (kept.crash clean left before) | inr made ↦ inr made ];
 }
 
--- ---- no reply that is due tells of a failure
+-- ---- no reply that is due says that the store failed
 
 abbrev tells_none : List Ground → Bool
 tells_none gs = list_all (λ (g : Ground). not (is_failure g.answer.code)) gs
@@ -275,7 +275,7 @@ due_tells s now key r h = true≢false (sym (ap tells_failure h) ∙ due_untold 
 memory_tells : Refused (bare F2) ≡ Refused (bare F1) → ⊥
 memory_tells h = true≢false (sym (ap tells_failure h))
 
--- ---- what leaves everything
+-- ---- what leaves the state as it was
 
 command_made : (s : State) (c : CircleCommand) → is_made (circle_reply s.directory c) ≡ true
 command_made s (AddOrg name) = refl
@@ -332,7 +332,7 @@ pub given_up : (fault : ShelfFault) (reply : Reply) → reply ≡ Refused (bare 
 given_up NoMemory reply is = inr is
 given_up Failed reply is = inl is
 
--- a failure is told where there was one
+-- the reply says that the store failed only if it did
 pub failure_told : (cause : Type 0) (fault : ShelfFault) → (Failed ≡ fault → cause) → Refused (bare (code_told fault)) ≡ Refused (bare F1) → cause
 failure_told cause NoMemory had is = absurd (memory_tells is)
 failure_told cause Failed had is = had refl

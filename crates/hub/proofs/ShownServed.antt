@@ -1,4 +1,4 @@
--- What is explained is what is served.
+-- What an explanation shows is what a view serves.
 use Rattle.std.proofs.Common.{◌≡◌, Bool, true, false, Option, Some, None, is_some, refl, sym, subst, IfSome, if◌then◌else◌}
 use Rattle.std.specs.Prelude.{ℤ, Contains, IsSomeAnd, option_map}
 use Rattle.iodef_tree.specs.Paths.{LocatedLine, is_class, located}
@@ -24,7 +24,7 @@ some_on : {A B : Type 0} (o : Option A) (f : A → B) → is_some o ≡ true →
 some_on None f h = h
 some_on (Some a) f h = refl
 
--- of a view that is served it holds what holds of all that is told
+-- the view has what holds of all that is shown
 if_told : {A B : Type 0} (b : Bool) (a : A) (f : A → B) (P : B → Type 0) → P (f a) → IfSome (option_map f (if b then Some a else None)) P
 if_told true a f P h = h
 if_told false a f P h = tt

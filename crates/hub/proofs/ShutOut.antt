@@ -1,4 +1,4 @@
--- Whom a gate at the root shuts out.
+-- The readers whom a gate at the root shuts out.
 use Rattle.std.proofs.Common.{◌≡◌, Bool, true, false, List, refl, sym, not, ◌&&◌, Contains}
 use Rattle.std.specs.List.{list_any}
 use Rattle.std.proofs.lemmas.Bool.{true≢false}
@@ -27,7 +27,7 @@ and-second false b h = absurd (true≢false (sym h))
 some_shuts : (st : Standing) (gs : List Gate) → list_any (shuts_out st) gs ≡ true → (g : Gate) × Contains gs g × (shuts_out st g ≡ true)
 some_shuts st gs h = let any = Any-from_list_any (shuts_out st) gs h in (any.1, (any.0, any.2, any.3), any.4)
 
--- such a reader is told nothing of the incident, whatever its lines are
+-- such a reader learns nothing of the incident, whatever its lines are
 pub shut-tells-nothing : (ls : Lines) (c : Case) (st : Standing) → is_shut_out c st ≡ true → TellsNothing ls c st
 shut-tells-nothing ls c st shut =
     let foreign : st.source ≡ false = not-true st.source (and-first (not st.source) _ shut) in

@@ -18,7 +18,7 @@ map_standing : (s : State) (now : ℤ) (p : Person) (o : Option Incident) → op
 map_standing s now p None = refl
 map_standing s now p (Some i) = ap Some (sym (standing_at-is s now p i))
 
--- of whom the number names
+-- of the person of this number
 pub standing_of-numbered : (s : State) (now : ℤ) (person n : ℕ) → standing_of person n now s ≡ standing_between s now (person_of person s.directory) (incident_of n s)
 standing_of-numbered s now person n = by_case (person_of person s.directory)
   where

@@ -1,4 +1,4 @@
--- What a person is told of two worlds is the same, and so are the replies.
+-- What a person learns in two worlds is the same, and so are the replies.
 use Rattle.std.proofs.Common.{◌≡◌, ℕ, Bool, true, false, List, [], ◌∷◌, refl, sym, ◌∙◌, ap, ◌&&◌, if◌then◌else◌}
 use Rattle.std.specs.Prelude.{ℤ, Option, Some, None, Contains}
 use Rattle.std.proofs.lemmas.Bool.{false≢true}
@@ -22,7 +22,7 @@ module _ (now : ℤ) (a : Account) where
   abbrev p : Person
   p = a.person
 
-  -- the person is known in both, its groups are the same, and so is what it is told of incidents
+  -- the person is known in both, its groups are the same, and so is what it learns of incidents
   pub record TellsSame (s t : State) : Type 0 where
     pub first : caller_of s (Digest a.key) ≡ if_active (Some p)
     pub second : caller_of t (Digest a.key) ≡ if_active (Some p)
@@ -57,11 +57,11 @@ module _ (now : ℤ) (a : Account) where
         by_active true = due-same r k
         by_active false = refl
 
-  -- a step between sound states tells the same, and leaves the person there
+  -- a step between sound states changes nothing that the person learns, and keeps the person
   abbrev pub StepsTellSame : Type 0
   StepsTellSame = (s t : State) → IsSound s → IsSound t → Contains s.directory.accounts a → IsAlikeStep now a s t → TellsSame s t × Contains t.directory.accounts a
 
-  -- over a chain
+  -- the same over a chain
   pub chain-same : StepsTellSame → (r : Request) → is_told r ≡ true → (s : State) (between : List State) (t : State) →
       IsSound s → Contains s.directory.accounts a → IsChain now a s between t → reply_of s now (Digest a.key) r ≡ reply_of t now (Digest a.key) r
   chain-same step r k s [] t sound there c = ap (λ u. reply_of u now (Digest a.key) r) (sym c)

@@ -1,5 +1,4 @@
--- Worlds that are alike for a person: two states, joined by steps in each of which only that differs of which the person is
--- told nothing.
+-- Worlds that are alike for a person: two states, joined by steps that change only what the person can't learn of.
 use Rattle.std.specs.Prelude.{◌≡◌, ◌⊎◌, ℕ, ℤ, Bool, true, false, not, ◌&&◌, ◌||◌, ◌==◌, List, [], ◌∷◌, map, filter, Some, Contains, if◌then◌else◌}
 use Rattle.std.specs.Option.{option_map_or}
 use Rattle.iodef_tree.specs.Text.{Tokens, is_root, is_prefix}
@@ -32,24 +31,25 @@ use Rattle.hub.specs.declared.key.Key.TheVariants.{Digest}
 
 -- ---- rows
 
--- the incidents, with another document in the one of this number; the IncidentID beside it follows, and its source, its
--- revision and the community that it names stay
+-- The incidents with another document in the one of this number. The ident follows the document; number, source,
+-- revision and the community that it names stay.
 abbrev pub with_document : ℕ → Lines → List Incident → List Incident
 with_document n document incidents = map (λ (i : Incident). if i.naming.number == n then record i { naming = record i.naming { ident = ident_of document }; document = document } else i) incidents
 
--- the gates but those of an incident at the class at p and below it, and the permissions but those
+-- the gates without those of an incident at the class at p and below it
 abbrev pub gates_but_at : ℕ → Tokens → List Gate → List Gate
 gates_but_at n p gates = filter (λ (g : Gate). not (g.incident == n && is_prefix p g.gate.path)) gates
 
+-- the permissions without those of an incident at the class at p and below it
 abbrev pub permissions_but_at : ℕ → Tokens → List Permission → List Permission
 permissions_but_at n p permissions =
     filter (λ (x : Permission). not (x.incident == n && is_prefix p x.permission.path)) permissions
 
--- an incident as it is judged, perhaps with another document
+-- an incident with this document, as redaction sees it: the lines and the case
 abbrev pub report_of : State → Incident → Lines → Report
 report_of s i document = record { lines = document; case = case_for s i }
 
--- all rows stay but those of the incident of this number
+-- all rows stay that aren't of the incident of this number
 pub record HasOtherIncident (n : ℕ) (s t : State) : Type 0 where
   pub directory : s.directory ≡ t.directory
   pub incidents : filter (λ (i : Incident). not (i.naming.number == n)) s.incidents
@@ -64,27 +64,28 @@ pub record HasOtherIncident (n : ℕ) (s t : State) : Type 0 where
 -- ---- steps, for a person with its key, at a moment
 
 module _ (now : ℤ) (a : Account) where
-  -- the incident of this number is the person's organisation's own
+  -- the incident of this number is there, and its source is the person's organisation
   abbrev pub is_own : State → ℕ → Bool
   is_own s n = option_map_or (λ (i : Incident). i.naming.source == a.person.org) (incident_of n s) false
 
-  -- the person is served something of the incident of this number
+  -- the incident of this number is there, and some class of it is visible to the person
   abbrev pub is_served_of : State → ℕ → Bool
   is_served_of s n = option_map_or (is_served s now a.person) (incident_of n s) false
 
-  -- In the document of one incident, other plain lines in a class that isn't visible. Its written label stays, and so do all
-  -- other lines, the path of every class and every other row.
+  -- One incident has other plain lines in a class that isn't visible to the person. The label written in that class
+  -- stays, and so do all other lines, the path of every class and every other row.
   pub record HasOtherPlainLines (s t : State) : Type 0 where
     pub incident : Incident
     pub path : Tokens
     pub document : Lines
     pub there : incident_of incident.naming.number s ≡ Some incident
+    -- its source sees all of it, so nothing of it is hidden there; no proof needs this field
     pub foreign : is_own s incident.naming.number ≡ false
     pub lines : report.HasOtherPlainLines (standing_at s now a.person incident) path (report_of s incident incident.document) (report_of s incident document)
     pub after : t ≡ record s { incidents = with_document incident.naming.number document s.incidents }
 
-  -- The lines of a wholly hidden class and of all below it are put in, taken out or exchanged, with the gates and the
-  -- permissions at these classes. The paths of all other classes stay, and what is withheld is the same on both sides.
+  -- One incident has other lines in a hidden class and below it: they are put, taken or exchanged, with the gates and
+  -- permissions there. The paths of all other classes stay, and what is withheld is the same on both sides.
   pub record HasOtherHiddenClass (s t : State) : Type 0 where
     pub incident : Incident
     pub path : Tokens
@@ -102,8 +103,8 @@ module _ (now : ℤ) (a : Account) where
         ≡ permissions_but_at incident.naming.number path t.permissions
     pub after : t ≡ record s { incidents = with_document incident.naming.number document s.incidents; gates = t.gates; permissions = t.permissions }
 
-  -- Anything in an incident of which the person sees nothing on either side, the community that it names among it; it may be
-  -- missing on one.
+  -- Anything may differ in an incident of which the person sees nothing in either state, also the community that it
+  -- names. It may be missing in one of them.
   pub record HasOtherUnseenIncident (s t : State) : Type 0 where
     pub number : ℕ
     pub first_foreign : is_own s number ≡ false
@@ -120,32 +121,36 @@ module _ (now : ℤ) (a : Account) where
     communities = communities_of a.person.org d;
   }) g
 
-  -- the recipient is an organisation, or the person
+  -- the recipient is the person or any organisation
   abbrev pub is_org_or_person : Target → Bool
   is_org_or_person (target.Person n) = n == a.person.number
   is_org_or_person (target.Org n) = true
 
-  -- rows that stay when others are put in, taken out or exchanged
+  -- the permissions that stay: those whose grantee includes the person, and those of its organisation's incidents
   abbrev pub staying_permissions : State → List Permission
   staying_permissions s =
       filter (λ (x : Permission). includes_person s.directory x.permission.grantee || is_own s x.incident)
       s.permissions
 
+  -- the recipients that stay: organisations, the person, and those of its organisation's incidents
   abbrev pub staying_recipients : State → List Recipient
   staying_recipients s = filter (λ (x : Recipient). is_org_or_person x.target || is_own s x.incident) s.recipients
 
+  -- the account that stays: the person's
   abbrev pub staying_accounts : Directory → List Account
   staying_accounts d = filter (λ (b : Account). b.person.number == a.person.number) d.accounts
 
+  -- the arrangements that stay: those with the person's organisation
   abbrev pub staying_arrangements : Directory → List Arrangement
   staying_arrangements d = filter (λ (x : Arrangement). x.org == a.person.org) d.arrangements
 
+  -- the group members that stay: those of the person's organisation
   abbrev pub staying_members : Directory → List GroupMember
   staying_members d = filter (λ (m : GroupMember). m.org == a.person.org) d.group_members
 
-  -- Put in, taken out or exchanged are permissions whose grantee doesn't include the person, recipients that are other
-  -- persons, other persons, arrangements with other organisations, and memberships of other organisations in groups. Stay do
-  -- the incidents, with the communities that they name, and which organisations are in which communities.
+  -- Other permissions whose grantee doesn't include the person, other persons as recipients, other persons,
+  -- arrangements with other organisations, and memberships of other organisations in groups. The incidents stay, with
+  -- the communities that they name, and so do the members of communities.
   pub record HasOtherRows (s t : State) : Type 0 where
     pub permissions : staying_permissions s ≡ staying_permissions t
     pub recipients : staying_recipients s ≡ staying_recipients t
@@ -158,15 +163,16 @@ module _ (now : ℤ) (a : Account) where
       permissions = t.permissions;
     }
 
+  -- one step between worlds that are alike
   abbrev pub IsAlikeStep : State → State → Type 0
   IsAlikeStep s t = HasOtherPlainLines s t ⊎ (HasOtherHiddenClass s t ⊎ (HasOtherUnseenIncident s t ⊎ HasOtherRows s t))
 
-  -- each of these states is sound and a step from the one before it, and the last is t
+  -- each of these states is sound and one step from the one before it, and the last is t
   abbrev pub IsChain : State → List State → State → Type 0
   IsChain s [] t = t ≡ s
   IsChain s (u ∷ us) t = IsAlikeStep s u × IsSound u × IsChain u us t
 
-  -- two sound states that a chain joins; the person is there
+  -- two sound states, joined by a chain; the person is there with its key
   pub record IsAlike (s t : State) : Type 0 where
     pub sound : IsSound s
     pub there : Contains s.directory.accounts a
@@ -175,7 +181,7 @@ module _ (now : ℤ) (a : Account) where
 
 -- ---- the law
 
--- what tells a reader of incidents, of its groups and of itself
+-- the request reads incidents, groups or the caller: `View`, `List`, `Search`, `Addressed`, `MyGroups`, `WhoAmI`
 abbrev pub is_told : Request → Bool
 is_told (ask.View n) = true
 is_told (ask.List after) = true
@@ -185,22 +191,23 @@ is_told ask.MyGroups = true
 is_told ask.WhoAmI = true
 is_told _ = false
 
--- in two worlds that are alike for a person the same is due to it, at the same moment
+-- in two worlds that are alike for a person, the same reply is due to it at the same moment
 abbrev pub AlikeIsAnsweredAlike : Type 0
 AlikeIsAnsweredAlike = (now : ℤ) (a : Account) (s t : State) (request : Request) → IsAlike now a s t → is_told request ≡ true →
     reply_of s now (Digest a.key) request ≡ reply_of t now (Digest a.key) request
 
 -- ---- permissions that have ended
 
+-- the permissions that haven't ended at this moment
 abbrev pub live_permissions : ℤ → State → List Permission
 live_permissions now s = filter (λ (x : Permission). is_before now x.permission.until) s.permissions
 
--- Put in, taken out or exchanged are permissions that have ended at this moment, whoever their grantees are.
+-- The states differ only in permissions that have ended at this moment, whoever their grantees are.
 pub record HasOtherEndedPermissions (now : ℤ) (s t : State) : Type 0 where
   pub permissions : live_permissions now s ≡ live_permissions now t
   pub after : t ≡ record s { permissions = t.permissions }
 
--- So no person feels a permission of its own that has ended: in both worlds the same is due to it.
+-- In two such sound states the same reply is due to each person of the first, also to a grantee of those permissions.
 abbrev pub EndedPermissionsAreNotFelt : Type 0
 EndedPermissionsAreNotFelt = (now : ℤ) (a : Account) (s t : State) (request : Request) → IsSound s → IsSound t →
     Contains s.directory.accounts a → HasOtherEndedPermissions now s t → is_told request ≡ true →

@@ -1,4 +1,5 @@
--- Worlds by hand that are alike for a reader who is served something in each of them: to be computed by the definitions alone.
+-- Worlds written by hand that are alike for a reader, who is served something in each: the definitions alone compute
+-- them.
 use Rattle.std.specs.Prelude.{◌≡◌, ℕ, true, false, List, [], ◌∷◌, ◌++◌, map, None, codes}
 use Rattle.iodef_tree.specs.Text.{Bytes}
 use Rattle.iodef_tree.specs.declared.line.Line.{Line}
@@ -24,23 +25,25 @@ use Rattle.hub.specs.declared.key.Key.TheVariants.{Digest}
 
 -- ---- who is in it
 
--- by a key of one byte, to be short
+-- an account with a key of one byte, to be short
 abbrev pub account : ℕ → Person → Account
 account byte p = record { person = p; key = byte ∷ [] }
 
--- who asks: the clerk of the insurer, which is in one community with the bank
+-- the reader: the clerk of the insurer, which is in one community with the bank
 abbrev pub reader : Account
 reader = account 2 clerk
 
+-- the circle of `hub_core`'s examples, with keys
 abbrev pub keyed_circle : Directory
 keyed_circle = record circle { accounts = account 1 banker ∷ reader ∷ account 3 professor ∷ [] }
 
 -- ---- what the bank posted
 
+-- an EventData with these lines
 abbrev pub event : List Line → List Line
 event plain = class_line 2 (codes "EventData") true ∷ plain
 
--- a public report with an EventData that the reader sees, and these behind it
+-- a public report with an EventData that the reader sees, and these lines after it
 abbrev pub report : List Line → Lines
 report others =
     class_line 1 (codes "Incident") true
@@ -54,24 +57,27 @@ report others =
     ∷ text_line 2 (codes "restriction") false (codes "public")
     ∷ []
 
+-- the label `red`
 abbrev pub red : Line
 red = text_line 3 (codes "restriction") false (codes "red")
 
+-- a Description with this text
 abbrev pub described : Bytes → Line
 described text = text_line 3 (codes "Description") true text
 
--- with two red EventData behind that which is seen
+-- the report with two red EventData after the visible one
 abbrev pub two_red : Lines
 two_red = report (event (described (codes "x") ∷ red ∷ []) ++ event (red ∷ []))
 
--- the same, where the first of them is described in other words, and says more
+-- the same with another Description in the first red one, and one more
 abbrev pub rewritten : Lines
 rewritten = report (event (described (codes "y") ∷ described (codes "z") ∷ red ∷ []) ++ event (red ∷ []))
 
--- the same without the second of them
+-- the same without the second red EventData
 abbrev pub one_red : Lines
 one_red = report (event (described (codes "y") ∷ described (codes "z") ∷ red ∷ []))
 
+-- the bank's incident with this document
 abbrev pub bank_report : Lines → Incident
 bank_report document = record (incident 1 1 1 (codes "\"7\"")) { document = document }
 
@@ -81,6 +87,7 @@ for_university n = record { incident = 1; permission = record { path = incident_
 
 -- ---- worlds
 
+-- the state with the bank's incident and these permissions
 abbrev pub world : Lines → List Permission → State
 world document permissions = record {
   directory = keyed_circle;
@@ -94,22 +101,23 @@ world document permissions = record {
 abbrev pub first : State
 first = world two_red (for_university (codes "2") ∷ [])
 
+-- the first red EventData has other Descriptions
 abbrev pub with_other_words : State
 with_other_words = world rewritten (for_university (codes "2") ∷ [])
 
--- the last EventData is taken out, and with it the permission that stood there
+-- the last EventData is taken out, and its permission with it
 abbrev pub without_last_event : State
 without_last_event = world one_red []
 
--- the university posts an incident for itself alone
+-- the university posts an incident for its own organisation only
 abbrev pub with_second_incident : State
 with_second_incident = record without_last_event {
   incidents = bank_report one_red ∷ incident 2 3 1 (codes "\"7\"") ∷ [];
   gates = gate 1 [] 3 None ∷ gate 2 [] 0 None ∷ [];
 }
 
--- The professor is suspended, and the bank's report is addressed to it; the university may see the red EventData of that, has
--- nothing arranged with the bank any more, and the bank may no longer extend its own group.
+-- The professor is suspended, and is a recipient of the bank's report. The university may see the report's red
+-- EventData and has no arrangement with the bank. The bank may no longer extend its own group.
 abbrev pub with_other_rows : State
 with_other_rows = record with_second_incident {
   directory = record keyed_circle {
@@ -123,27 +131,27 @@ with_other_rows = record with_second_incident {
 
 -- ---- what is alike
 
--- what the reader is answered that asks for the bank's report
+-- the reply to the reader's View of the bank's report
 abbrev pub view_in : State → Reply
 view_in s = reply_of s june (Digest reader.key) (ask.View 1)
 
--- the report without what is red, which is told once, at the Incident
+-- the report without its red parts, which are withheld at one place by one rule
 abbrev pub what_is_seen : Reply
 what_is_seen = View (record { number = 1; revision = 1; source = 1; classes = 2; document = report []; withheld = (incident_path, HRed) ∷ [] })
 
--- In each of these worlds the reader is served the same, and something.
+-- In each of these worlds the reader's view is the same, and serves something.
 abbrev pub EachIsServed : Type 0
 EachIsServed =
     map view_in (first ∷ with_other_words ∷ without_last_event ∷ with_second_incident ∷ with_other_rows ∷ [])
     ≡ what_is_seen ∷ what_is_seen ∷ what_is_seen ∷ what_is_seen ∷ what_is_seen ∷ []
 
--- Each step that makes worlds alike joins two of them.
+-- Each kind of step between worlds that are alike joins two of them.
 pub record StepsJoin : Type 0 where
   pub plain_lines : HasOtherPlainLines june reader first with_other_words
   pub hidden_class : HasOtherHiddenClass june reader with_other_words without_last_event
   pub unseen_incident : HasOtherUnseenIncident june reader without_last_event with_second_incident
   pub rows : HasOtherRows june reader with_second_incident with_other_rows
 
--- So all of them are alike: a chain of sound worlds joins the first and the last.
+-- All of them are alike: a chain of sound worlds joins the first and the last.
 abbrev pub EndsAreAlike : Type 0
 EndsAreAlike = IsAlike june reader first with_other_rows

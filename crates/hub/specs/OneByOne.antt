@@ -1,4 +1,4 @@
--- What becomes of a shelf where requests are answered one by one.
+-- What requests answered one by one leave of a shelf.
 use Rattle.std.specs.Prelude.{◌≡◌, ◌⊎◌, ◌≤◌, ◌↔◌, ℕ, false, List, [], ◌∷◌, Option, Some, IsTrue}
 use Rattle.circle.specs.Outcomes.{bare}
 use Rattle.circle.specs.declared.refusal.Code.TheVariants.{F1}
@@ -12,12 +12,13 @@ use Rattle.hub.specs.Serving.{is_made}
 use Rattle.hub.specs.Stops.{IsDueChange}
 
 module _ {D : Type 0} (has : D → State → Type 0) (doubts failed : D → ℕ) (may_remain : D → Option State → Type 0) where
-  -- Of one request, with the reply that it got, the shelf before and behind it: what Hub::answer says of them, clause by clause.
+  -- One request with its reply, and the shelf before and after it: what `Hub::answer` promises of them, clause by
+  -- clause.
   pub record IsOneAnswer (old : D) (asked : Asked) (reply : Reply) (new : D) : Type 0 where
     pub kept : is_made reply ≡ false → KeepsContent has doubts failed may_remain old new
     pub step : doubts new ≡ 0 → (s : State) → has old s → IsSound s →
         (left : State) × IsStep s asked reply left × has new left
-    -- that the store failed is told only where a failure was counted in this very step
+    -- the reply says that the store failed only if a failure was counted in this step
     pub cause : doubts new ≡ 0 → (s : State) → has old s → IsSound s → reply ≡ Refused (bare F1) →
         HasFailed (failed old) (failed new)
     pub durable : doubts new ≡ 0 → (s : State) → has old s → IsSound s → IsTrue (is_made reply) →
@@ -27,7 +28,7 @@ module _ {D : Type 0} (has : D → State → Type 0) (doubts failed : D → ℕ)
     pub later : failed old ≤ failed new
     pub doubt : doubts old ≤ doubts new
 
-  -- a reply to each request, each from the shelf that the one before it left
+  -- a reply to each request, each from the shelf that the one before left
   abbrev pub AreAnswers : D → List Asked → List Reply → D → Type 0
   AreAnswers old [] [] new = new ≡ old
   AreAnswers old (asked ∷ others) (reply ∷ replies) new =

@@ -1,4 +1,4 @@
--- What a request is answered.
+-- The reply to a request.
 use Rattle.std.specs.Prelude.{ℕ, ◌+◌, ℤ, Bool, ◌&&◌, List, [], ◌∷◌, map, filter, take, Option, Some, None, option_and_then, if◌then◌else◌}
 use Rattle.circle.specs.Outcomes.{bare}
 use Rattle.circle.specs.Aftermath.{next_in}
@@ -31,23 +31,25 @@ use Rattle.hub.specs.declared.key.Key.TheVariants.{Absent, Digest}
 
 -- ---- the caller
 
+-- the person if it is active
 abbrev pub if_active : Option Person → Option Person
 if_active None = None
 if_active (Some p) = if p.active then Some p else None
 
--- the active person whose key it is
+-- the active person with this key; none if there is no key, no such person, or the person is suspended
 abbrev pub caller_of : State → Key → Option Person
 caller_of s Absent = None
 caller_of s (Digest key) = if_active (person_by_key key s)
 
 -- ---- pages
 
--- the first incidents above a number of which something holds
+-- a page: the first PAGE_LIMIT incidents above a number that pass a test
 abbrev pub page_of : (Incident → Bool) → ℕ → State → List Entry
 page_of test after s = take PAGE_LIMIT (map entry_of (filter test (incidents_above after s)))
 
 -- ---- a change that is made
 
+-- the reply to a command of the directory: the number of the new row if it has one, and otherwise Done
 abbrev pub circle_reply : Directory → CircleCommand → Reply
 circle_reply d (AddOrg name) = Numbers (next_in d (AddOrg name) ∷ [])
 circle_reply d (AddPerson org name role key) = Numbers (next_in d (AddPerson org name role key) ∷ [])
@@ -62,20 +64,22 @@ numbers_from n (doc ∷ docs) = n ∷ numbers_from (n + 1) docs
 
 -- ---- a view
 
+-- the refusal N1, as for a missing incident
 abbrev pub nothing_for_you : Reply
 nothing_for_you = Refused (bare N1)
 
+-- the view, or N1 if there is none
 abbrev pub view_or_nothing : Option ViewOf → Reply
 view_or_nothing None = nothing_for_you
 view_or_nothing (Some view) = View view
 
--- an incident of which nothing is visible is answered as one that is missing
+-- the reply to a View: an incident of which no class is visible is refused like a missing one
 abbrev pub viewed : State → ℤ → Person → Option Incident → Reply
 viewed s now p i = view_or_nothing (option_and_then (view_of s now p) i)
 
 -- ---- replies
 
--- what a person's request is answered, where nothing refuses it
+-- the reply to a person's request if nothing refuses it
 abbrev pub answer_to : State → ℤ → Person → Request → Reply
 answer_to s now p (ask.Circle command) = circle_reply s.directory command
 answer_to s now p (ask.Post r) = Numbers (numbers_from (next_incident s) (documents_in r.document))
@@ -95,14 +99,16 @@ answer_to s now p (ask.Addressed after) =
 answer_to s now p ask.MyGroups = Groups (groups_of p s)
 answer_to s now p ask.WhoAmI = Caller p
 
+-- the refusal if there is one, and otherwise the reply
 abbrev pub refused_or : Option Refusal → Reply → Reply
 refused_or (Some refusal) reply = Refused refusal
 refused_or None reply = reply
 
+-- the reply to a person's request, and K1 if there is no person
 abbrev pub reply_by : State → ℤ → Option Person → Request → Reply
 reply_by s now None request = Refused (bare K1)
 reply_by s now (Some p) request = refused_or (refusal_of s p request) (answer_to s now p request)
 
--- what a request is answered in a state, at a moment, to whom the key makes known
+-- the reply that is due to a request in a state, at a moment, with this key
 abbrev pub reply_of : State → ℤ → Key → Request → Reply
 reply_of s now key request = reply_by s now (caller_of s key) request

@@ -1,4 +1,4 @@
-//! Who asks, and what is answered.
+//! Finding the caller, and answering a request.
 ghost use Rattle.std.specs.Prelude.{◌≡◌, false};
 ghost use Rattle.circle.specs.Sound.{IsOrg};
 ghost use Rattle.hub_core.specs.State.{State};
@@ -17,7 +17,7 @@ use crate::reads::read;
 use hub_core::{Code, Refusal, Reply, Request, Shelf, ShelfFault};
 use std::alloc::Global;
 
-/// What a person's request is answered.
+/// Answers a person's request.
 fn answer_person<Sh: Shelf>(
     shelf: &mut Sh,
     alloc: Global,
@@ -39,7 +39,7 @@ fn answer_person<Sh: Shelf>(
     }
 }
 
-/// What a request is answered: to whom the key makes known, or K1 where it makes nobody known.
+/// Answers a request with this key: `K1` if the key is nobody's.
 pub fn answer_key<Sh: Shelf>(
     shelf: &mut Sh,
     alloc: Global,

@@ -1,4 +1,4 @@
-//! Reading what a person's requests are answered by.
+//! The reads of the shelf by which requests are answered.
 ghost use Rattle.std.specs.Prelude.{◌≡◌, false, IfOk, option_map};
 ghost use Rattle.std.specs.Option.{option_map_or};
 ghost use Rattle.hub_core.specs.State.{State, incident_of};
@@ -20,14 +20,14 @@ use hub_core::{Shelf, ShelfFault};
 use policy::{Case, Standing};
 use redact::{Excerpt, Want};
 
-/// Who asks, and when.
+/// The caller and the moment, in seconds since the beginning of 1970 (UTC).
 #[derive(Clone, Copy)]
 pub struct Asker<'a> {
     pub person: &'a Person,
     pub now: i64,
 }
 
-/// The active person whose key it is.
+/// The active person with this key. None if there is none or the person is suspended.
 pub fn caller_by<Sh: Shelf>(shelf: &mut Sh, key: &Key) -> Result<Option<Person>, ShelfFault>
     ensures { Finds Sh.has Sh.doubts Sh.failed Sh.may_remain shelf.old shelf.new result (λ s.
         IfOk result (λ found. found ≡ caller_of s key.now)) }
@@ -41,7 +41,7 @@ pub fn caller_by<Sh: Shelf>(shelf: &mut Sh, key: &Key) -> Result<Option<Person>,
     }
 }
 
-/// How a person stands to an incident at a moment; none where either is missing.
+/// How the caller stands to an incident at the moment. None if either is missing.
 pub fn standing<Sh: Shelf>(
     shelf: &mut Sh,
     asker: Asker<'_>,
@@ -56,7 +56,7 @@ pub fn standing<Sh: Shelf>(
     shelf.standing(asker.person.number, incident, asker.now)
 }
 
-/// How the person of a number stands to an incident at the moment of asking; none where either is missing.
+/// How the person of a number stands to an incident at the moment. None if either is missing.
 pub fn standing_of_person<Sh: Shelf>(
     shelf: &mut Sh,
     asker: Asker<'_>,
@@ -71,7 +71,7 @@ pub fn standing_of_person<Sh: Shelf>(
     shelf.standing(person, incident, asker.now)
 }
 
-/// By what an incident is judged, beside its document; none where it is missing.
+/// The case of an incident: what it is judged by, without its document. None if it is missing.
 pub fn case_of<Sh: Shelf>(shelf: &mut Sh, incident: u32) -> Result<Option<Case>, ShelfFault>
     ensures { Finds Sh.has Sh.doubts Sh.failed Sh.may_remain shelf.old shelf.new result (λ s.
         IfOk result (λ found. found ≡ option_map (case_for s) (incident_of incident s))) }
@@ -79,8 +79,8 @@ pub fn case_of<Sh: Shelf>(shelf: &mut Sh, incident: u32) -> Result<Option<Case>,
     shelf.case(incident)
 }
 
-/// What a reader of this standing is served of an incident that is judged by this case; none where it is missing, or where no
-/// class of it is visible.
+/// What a reader of this standing may see of an incident that is judged by this case. None if it is missing or no class
+/// of it is visible.
 pub fn excerpt_of<Sh: Shelf>(
     shelf: &mut Sh,
     incident: u32,
@@ -94,8 +94,8 @@ pub fn excerpt_of<Sh: Shelf>(
     shelf.excerpt(incident, case, standing)
 }
 
-/// Whether an incident that is judged by this case meets a want, for a reader of this standing; not where it is missing, nor
-/// where its markings aren't accepted.
+/// Whether an incident that is judged by this case meets a want, for a reader of this standing. False if it is missing
+/// or its markings aren't accepted.
 pub fn is_met<Sh: Shelf>(
     shelf: &mut Sh,
     incident: u32,

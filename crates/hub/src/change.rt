@@ -16,7 +16,7 @@ use hub_core::{Code, Edit, Facts, Refusal, Reply, Request, Shelf, ShelfFault, ju
 use policy::Numbers;
 use std::alloc::{AllocError, Global};
 
-/// The number of the new row that an edit puts, of those whose numbers are told.
+/// The number of the new row that an edit puts, if the reply has such numbers.
 fn new_number(edit: &Edit) -> Option<u32>
     ensures { result ≡ number_put edit.now }
 {
@@ -68,7 +68,7 @@ fn next_revision(facts: &Facts) -> u32
     }
 }
 
-/// What a change is answered.
+/// The reply to a change.
 fn reply_to(
     alloc: Global,
     facts: &Facts,
@@ -91,8 +91,8 @@ fn reply_to(
     }
 }
 
-/// Makes the change that a person asks for, where nothing refuses it. The reply is made first, so that want of memory
-/// leaves everything as it was.
+/// Makes the change that a person asks for, unless it is refused. The reply is made before the change, so `F2` always
+/// means that nothing changed.
 pub fn change<Sh: Shelf>(
     shelf: &mut Sh,
     alloc: Global,
@@ -108,7 +108,7 @@ pub fn change<Sh: Shelf>(
     ensures kept { is_made_by result ≡ false →
         KeepsContent Sh.has Sh.doubts Sh.failed Sh.may_remain shelf.old shelf.new }
 {
-    // Who may not post makes the hub read no body.
+    // a request that the role forbids is refused before its body or the shelf is read
     if lacks_role(asker.person, request) {
         return refuse(Refusal::bare(alloc, Code::W1));
     }

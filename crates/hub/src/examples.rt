@@ -1,13 +1,13 @@
-//! Worlds by hand that are alike for a reader, which stand in `specs/Examples.antt`: a definition that no worlds meet would
-//! show here. Each is the contract of a function that does nothing.
+//! Worlds written by hand that are alike for a reader, from `specs/Examples.antt`. A definition that no worlds meet
+//! would show here. Each is the contract of a function that does nothing.
 ghost use Rattle.hub.specs.Examples.{EachIsServed, EndsAreAlike, StepsJoin};
 
-/// In each of the worlds the reader is served the same, and something.
+/// In each of the worlds the reader's view is the same, and serves something.
 pub fn each_is_served()
     ensures { EachIsServed }
 {}
 
-/// Each step that makes worlds alike joins two of them.
+/// Each kind of step between worlds that are alike joins two of them.
 pub fn steps_join()
     ensures { StepsJoin }
 {}

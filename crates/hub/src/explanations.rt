@@ -26,8 +26,8 @@ use marking::{MarkingFault, check};
 use policy::{Case, Standing};
 use std::alloc::Global;
 
-/// The explanation of a class as text; none where there is no class at the path. A document whose markings weren't
-/// accepted has none: a shelf has no such document, unless its disk returned what wasn't written.
+/// The explanation of a class as text. None if there is no class at the path, or if the markings of the document aren't
+/// accepted. A shelf has no such document unless its disk returned what wasn't written.
 fn text_of(
     alloc: Global,
     document: &Document,
@@ -79,7 +79,7 @@ fn path_of(alloc: Global, text: &Text) -> Result<Option<Path>, ShelfFault>
     }
 }
 
-/// The explanation, by the facts of the question; none where the person, the incident or the class is missing.
+/// The explanation, by the facts of the request. None if the person, the incident or the class is missing.
 fn find_text<Sh: Shelf>(
     shelf: &mut Sh,
     alloc: Global,
@@ -108,7 +108,7 @@ fn find_text<Sh: Shelf>(
     text_of(alloc, document, &case, &standing, &path)
 }
 
-/// What is answered with the explanation. There is one wherever the question isn't refused.
+/// The reply with the explanation. There is one whenever the request isn't refused.
 fn reply_of(alloc: Global, text: Option<Text>) -> Reply
     ensures { (told : List ℕ) → text ≡ Some told → result ≡ Trace told }
 {
@@ -118,7 +118,7 @@ fn reply_of(alloc: Global, text: Option<Text>) -> Reply
     }
 }
 
-/// Why a person sees a class of an incident, or doesn't, unless the question is refused.
+/// Answers why a person sees a class of an incident, or doesn't, unless the request is refused.
 pub fn explain_to<Sh: Shelf>(
     shelf: &mut Sh,
     alloc: Global,

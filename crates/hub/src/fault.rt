@@ -1,4 +1,4 @@
-//! Why an answer is given up.
+//! Why a request is given up.
 ghost use Rattle.std.specs.Prelude.{◌≡◌, IfOk, IfErr, Ok};
 ghost use Rattle.circle.specs.Outcomes.{bare, no_memory};
 ghost use Rattle.hub_state.specs.declared.reply.Reply.TheVariants.{Refused};
@@ -7,7 +7,7 @@ ghost use Rattle.hub.specs.Faults.{code_told};
 use hub_core::{Code, Refusal, Reply, ShelfFault};
 use std::alloc::{AllocError, Global};
 
-/// Want of memory, as a shelf tells it.
+/// Returns the value, or `NoMemory` if the memory didn't suffice.
 pub fn ample<T>(outcome: Result<T, AllocError>) -> Result<T, ShelfFault>
     ensures value { IfOk result (λ x. outcome ≡ Ok x) }
     ensures fault { IfErr result (λ e. e ≡ ShelfFault.NoMemory) }
@@ -18,7 +18,7 @@ pub fn ample<T>(outcome: Result<T, AllocError>) -> Result<T, ShelfFault>
     }
 }
 
-/// The code of an answer that a shelf's fault stands in for.
+/// The code for a shelf's fault.
 fn code_of(fault: ShelfFault) -> Code
     ensures { result ≡ code_told fault }
 {
@@ -28,14 +28,14 @@ fn code_of(fault: ShelfFault) -> Code
     }
 }
 
-/// What is answered in place of a reply.
+/// The reply to a request that is given up.
 pub fn given_up(alloc: Global, fault: ShelfFault) -> Reply
     ensures { result ≡ Refused (bare (code_told fault)) }
 {
     Reply::Refused(Refusal::bare(alloc, code_of(fault)))
 }
 
-/// The refusal as a reply; that of want of memory is the shelf's.
+/// Returns the refusal as a reply. If the judge ran out of memory, fails with `NoMemory`.
 pub fn refuse(refusal: Refusal) -> Result<Reply, ShelfFault>
     ensures reply { IfOk result (λ reply. reply ≡ Refused refusal) }
     ensures other { IfOk result (λ reply. refusal ≡ no_memory → ⊥) }

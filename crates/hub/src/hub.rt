@@ -23,7 +23,7 @@ use hub_core::{Reply, Request, Shelf};
 use std::alloc::{AllocError, Global};
 use std::marker::Model;
 
-/// The hub over a shelf, which contracts see as the shelf.
+/// The hub over a shelf. Contracts see the shelf.
 #[derive(Drop)]
 pub struct Hub<Sh: Shelf> {
     shelf: Sh,
@@ -36,32 +36,33 @@ impl<Sh: Shelf> Model for Hub<Sh> {
 }
 
 impl<Sh: Shelf> Hub<Sh> {
-    /// The hub over this shelf, which stays as it is; takes no memory.
+    /// Returns the hub over this shelf, which stays as it is. Takes no memory.
     pub fn new(shelf: Sh) -> Hub<Sh>
         ensures { result ≡ shelf }
     {
         Hub { shelf }
     }
 
-    /// Gives the shelf back, as it is; takes no memory.
+    /// Returns the shelf as it is. Takes no memory.
     pub fn into_shelf(self) -> Sh
         ensures { result ≡ self }
     {
         self.shelf
     }
 
-    /// Answers one request at a moment, in seconds since 1970: one step, from whatever sound state the shelf has.
+    /// Answers one request at a moment, in seconds since the beginning of 1970 (UTC). This is one step, from whatever
+    /// sound state the shelf has.
     ///
-    /// The reply is made before anything is changed, so `F2` means that nothing changed; so does `F1`, which is answered
-    /// only where the shelf failed. If everything stops behind a change that is answered as made, what the request leaves
-    /// may be left, and nothing else, also nothing that stands for no sound state. Otherwise what could have been left before
-    /// may be left. Where a change was due and is given up, what the request would have left may be left, too. So a request that
-    /// reads, and one that is refused, add nothing.
+    /// The reply is made before the change, so `F2` means that nothing changed. So does `F1`, which is the reply only
+    /// if the shelf failed. If everything stops after a change whose reply says that it was made, only what the request
+    /// leaves may be left: no other state, and nothing that stands for none. Otherwise what could have been left before
+    /// may be left. If a change was due and is given up, what the request would have left may be left too. So a request
+    /// that reads or is refused adds nothing.
     ///
-    /// What isn't answered as a change that was made, as each refusal, leaves whatever content the shelf has.
+    /// A request whose reply isn't a change that was made leaves the content of the shelf, whatever it is.
     ///
-    /// To a request that tells of incidents, of groups or of the caller, the reply is the one that is due in every world alike
-    /// for who asks, unless the request is given up: it tells nothing of what differs there.
+    /// The reply to a request that reads incidents, groups or the caller is the one that is due in every world that is
+    /// alike for the caller, unless the request is given up.
     pub fn answer(&mut self, alloc: Global, now: i64, key: &Key, request: &Request) -> Reply
         ensures kept { is_made result ≡ false →
             KeepsContent Sh.has Sh.doubts Sh.failed Sh.may_remain self.old self.new }
@@ -95,15 +96,16 @@ impl<Sh: Shelf> Hub<Sh> {
         self.answer(alloc, asked.0, &asked.1, &asked.2)
     }
 
-    /// Answers a list of requests, one after another, each as [`Hub::answer`] does, from the shelf that the one before it left:
-    /// a run, from whatever sound state the shelf has. `F1` is the reply to a request only where the shelf counted a failure in
-    /// it. Among the replies it stands at most as often as the shelf counted one. Both hold unless that count stands at its
-    /// last value. The memory for the list of replies is taken first, so want of memory is told before the first request or
-    /// never.
+    /// Answers a list of requests, one after another. Each is answered as [`Hub::answer`] does, from the shelf that the
+    /// one before left: a run, from whatever sound state the shelf has. `F1` is the reply to a request only if the
+    /// shelf counted a failure in it. Among the replies it is there at most as often as the shelf counted a failure;
+    /// otherwise a hub that always gives up would be a run. Both hold unless the count is at its last value, since
+    /// every call fails there. Fails only before the first request, if the memory for the list of replies doesn't
+    /// suffice.
     ///
-    /// If everything stops behind the list, the content after all changes that are answered as made may be left, with or
-    /// without one that was due and was given up since. What could have been left before, also what stands for no sound state,
-    /// may be left only where no change is answered as made. Where no change was due, nothing else may be.
+    /// If everything stops after the list, the content after all changes whose replies say so may be left, with or
+    /// without one that was due and given up since. What could have been left before, also what stands for no sound
+    /// state, may be left only if no reply says that a change was made. If no change was due, nothing else may be left.
     pub fn run(
         &mut self,
         alloc: Global,

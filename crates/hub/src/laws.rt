@@ -9,27 +9,28 @@ pub fn runs_stay_sound()
     ensures { RunsStaySound }
 {}
 
-/// In two worlds that are alike for a person the same is due to it, at the same moment.
+/// In two worlds that are alike for a person, the same reply is due to it at the same moment.
 pub fn alike_is_answered_alike()
     ensures { AlikeIsAnsweredAlike }
 {}
 
-/// In two worlds that differ in permissions that have ended alone, the same is due to each person, also to their grantees.
+/// In two sound states that differ only in permissions that have ended, the same reply is due to each person, also to
+/// their grantees.
 pub fn ended_permissions_are_not_felt()
     ensures { EndedPermissionsAreNotFelt }
 {}
 
-/// A step that isn't told as a change that was made leaves the state: so does each refusal.
+/// A step whose reply isn't a change that was made leaves the state as it was, so each refusal does.
 pub fn unmade_leaves_all()
     ensures { UnmadeLeavesAll }
 {}
 
-/// A class is told as Shown by Explain exactly where View serves it to that person, in one state and at one moment.
+/// Explain shows a class exactly if View serves it to the same person, in one state and at one moment.
 pub fn shown_is_served()
     ensures { ShownIsServed }
 {}
 
-/// How many incidents a page lists at most.
+/// The number of incidents that a page lists at most.
 pub fn limit_of_a_page()
     ensures { PAGE_LIMIT ≡ 100 }
 {}

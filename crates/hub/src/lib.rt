@@ -1,28 +1,28 @@
-//! The hub: what each caller is answered, and what each request leaves.
+//! The hub: the reply to each request, and the state that it leaves.
 //!
-//! To read first: the contract of [`Hub::run`]. Over any shelf, the answers to a list of requests, and what they leave,
-//! are a run. What a run is stands in `specs/`, in this order:
+//! To read first: the contract of [`Hub::run`]. Over any shelf, the replies to a list of requests and the state that
+//! they leave are a run. `specs/` defines a run in this order:
 //!
 //! 1. `Machine`: a run is a step for each request. A step is the reply that is due with the state that the request
-//!    leaves, or it is given up (`F1` the store failed, `F2` the memory didn't suffice) and the state is as it was.
-//! 2. `Replies`: the reply that is due, by who asks (`caller_of`), the refusal if there is one, and else the answer
-//!    (`answer_to`); a page is the first [`PAGE_LIMIT`] incidents above a number of which something holds.
-//! 3. `Told`: what a person is told of one incident at a moment, in the words of the redaction: whether it is listed,
+//!    leaves. Or it is given up (`F1` the store failed, `F2` the memory didn't suffice) and the state stays.
+//! 2. `Replies`: the reply that is due, by the caller (`caller_of`), the refusal if there is one, and otherwise the
+//!    answer (`answer_to`). A page is the first [`PAGE_LIMIT`] incidents above a number that pass a test.
+//! 3. `Told`: what a person may learn of one incident at a moment, in the words of redaction: whether it is listed,
 //!    whether a search finds something in it, its excerpt with what is withheld.
 //!
-//! Who stands how to an incident, what refuses a request and what it changes are words of `hub_core`; which class a
-//! reader may see is the policy's. So who reviews `policy` and the tables of `hub_core` has reviewed what callers are
+//! `hub_core` defines how persons stand to an incident, what refuses a request and what it changes; the policy defines
+//! which class a reader may see. So a review of `policy` and of the tables of `hub_core` covers what callers are
 //! served.
 //!
-//! The rooms, in the way of a request:
+//! The modules, in the order in which a request meets them:
 //!
-//! - `hub`: [`Hub`], one request and a list of them; `key`: [`Key`], by what a caller is known;
-//! - `answers`: who asks, and what is answered;
-//! - `reads`: requests that only read: a page by `pages` (`page_filter`: what it lists), a view by `view`, an explanation
-//!   by `explanations`; `root_gate`: what pages and views ask before a line is read;
-//! - `change`: a change is judged, its reply is made, and only then the shelf is asked to make it;
-//! - `asker`: the reads of the shelf that several of these need; `fault`: why an answer is given up;
-//! - [`laws`]: a run keeps a state sound; [`examples`], worlds by hand that are alike for a reader.
+//! - `hub`: [`Hub`], one request and a list of them; `key`: [`Key`], the key of a caller;
+//! - `answers`: finding the caller, and answering;
+//! - `reads`: requests that only read: a page by `pages` (`page_filter`: what it lists), a view by `view`, an
+//!   explanation by `explanations`; `root_gate`: what pages and views ask before a line is read;
+//! - `change`: a change is judged, its reply is made, and only then the shelf makes it;
+//! - `asker`: the reads of the shelf that several of these need; `fault`: why a request is given up;
+//! - [`laws`]: a run keeps a state sound; [`examples`], worlds written by hand that are alike for a reader.
 #![tactic(auto)]
 
 mod answers;

@@ -1,12 +1,12 @@
-//! What a page lists.
+//! Which incidents a page lists.
 
 use redact::Want;
 
-/// Of which incidents a page is asked for.
+/// Which incidents a page lists.
 #[derive(Clone, Copy)]
 pub struct PageFilter<'a> {
-    /// Those alone that are addressed to the person or to its organisation.
+    /// Only those of which the person or its organisation is a recipient.
     pub addressed: bool,
-    /// What they meet for the person.
+    /// Only those that meet this for the person.
     pub want: &'a Want,
 }

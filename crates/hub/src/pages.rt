@@ -1,4 +1,4 @@
-//! Pages: the incidents of which something holds, by number.
+//! Pages: the incidents that pass a test, in the order of their numbers.
 ghost use Rattle.std.specs.Prelude.{◌≡◌, ◌≤◌, ◌++◌, false, not, IfOk, OnOk, filter, take, length};
 ghost use Rattle.std.specs.Option.{option_map_or};
 ghost use Rattle.hub_core.specs.State.{State, incident_of};
@@ -20,15 +20,14 @@ use hub_core::{Entry, Shelf, ShelfFault};
 use policy::Standing;
 use std::alloc::Global;
 
-/// Whether a standing rules an incident out, whatever it holds.
+/// Whether a standing keeps an incident off the page, whatever its document.
 fn is_ruled_out(wanted: PageFilter<'_>, standing: &Standing) -> bool
     ensures { result ≡ not (admits wanted.entry standing.entry.now) }
 {
     wanted.addressed && !(standing.person || standing.addressed)
 }
 
-/// Whether a page lists the incident, told by how the person stands to it. Where that rules it out, nothing more is read, and
-/// where a gate at the root shuts the person out, no line of it.
+/// Whether a page lists an incident to which the person stands like this.
 fn is_wanted_by<Sh: Shelf>(
     shelf: &mut Sh,
     wanted: PageFilter<'_>,
@@ -41,6 +40,7 @@ fn is_wanted_by<Sh: Shelf>(
         passes_filter wanted.entry i.document (case_for s i) standing)
         (incident_of incident s) false)) }
 {
+    // an incident that the standing rules out needs neither its case nor its document
     if is_ruled_out(wanted, &standing) {
         return Ok(false);
     }
@@ -54,7 +54,7 @@ fn is_wanted_by<Sh: Shelf>(
     is_met(shelf, incident, case, standing, want)
 }
 
-/// Whether a page lists the incident of this number for the person, at a moment.
+/// Whether a page lists the incident of this number for the caller.
 fn lists<Sh: Shelf>(
     shelf: &mut Sh,
     asker: Asker<'_>,
@@ -72,7 +72,7 @@ fn lists<Sh: Shelf>(
     }
 }
 
-/// Adds those of the incidents that a page lists to it, until it is full.
+/// Pushes those of the entries that the page lists, until it is full.
 fn pick<Sh: Shelf>(
     shelf: &mut Sh,
     asker: Asker<'_>,
@@ -112,7 +112,7 @@ fn last_number(entries: &[Entry]) -> Option<u32>
     }
 }
 
-/// The first incidents above a number that a page lists.
+/// Returns the first incidents above a number that a page lists, at most [`PAGE_LIMIT`](crate::PAGE_LIMIT).
 pub fn page<Sh: Shelf>(
     shelf: &mut Sh,
     alloc: Global,
@@ -134,7 +134,8 @@ pub fn page<Sh: Shelf>(
         match last_number(entries.as_slice()) {
             None => break,
             Some(last) => {
-                // A shelf that tells no greater number isn't asked for ever.
+                // A shelf that keeps its contract returns rising numbers; one that doesn't must not keep the loop
+                // going.
                 if last <= above {
                     break;
                 }

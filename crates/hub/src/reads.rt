@@ -28,7 +28,7 @@ use hub_core::{
 use redact::Want;
 use std::alloc::Global;
 
-/// The incidents above a number that a page lists.
+/// Lists the incidents above a number that pass the filter.
 fn list<Sh: Shelf>(
     shelf: &mut Sh,
     alloc: Global,
@@ -46,8 +46,8 @@ fn list<Sh: Shelf>(
     Ok(Reply::Incidents(Entries::new(listed)))
 }
 
-/// The incidents above a number of which some class is visible; those alone that are addressed to the person, if only they
-/// are asked for.
+/// Lists the incidents above a number of which some class is visible; only those addressed to the person if
+/// `addressed`.
 fn list_shown<Sh: Shelf>(
     shelf: &mut Sh,
     alloc: Global,
@@ -62,6 +62,7 @@ fn list_shown<Sh: Shelf>(
         (not addressed || is_addressed s asker.entry.now asker.entry.person.now i) &&
         is_served s asker.entry.now asker.entry.person.now i) after s))) }
 {
+    // without a needle the want is a visible class, and no excerpt is made for that
     let want = Want {
         needle: None,
         class: None,
@@ -86,7 +87,7 @@ fn string_of(alloc: Global, text: &Option<Text>) -> Result<Option<String>, Shelf
     }
 }
 
-/// What a search looks for.
+/// The want of a search.
 fn want_of(alloc: Global, asked: &Search) -> Result<Want, ShelfFault>
     ensures needle { IfOk result (λ want.
         option_map string_bytes want.needle ≡ Some asked.now.needle) }
@@ -101,7 +102,7 @@ fn want_of(alloc: Global, asked: &Search) -> Result<Want, ShelfFault>
     })
 }
 
-/// The incidents in which the needle is found, unless an argument is bad.
+/// Answers a search, or refuses it if an argument is bad.
 fn search<Sh: Shelf>(
     shelf: &mut Sh,
     alloc: Global,
@@ -129,7 +130,7 @@ fn search<Sh: Shelf>(
     }
 }
 
-/// What a person may see of an incident. One of which that is nothing is answered as one that is missing.
+/// Answers a View. An incident of which nothing is visible is refused like a missing one.
 fn look<Sh: Shelf>(
     shelf: &mut Sh,
     alloc: Global,
@@ -155,7 +156,7 @@ fn groups<Sh: Shelf>(shelf: &mut Sh, asker: Asker<'_>) -> Result<Reply, ShelfFau
     Ok(Reply::Groups(JoinedGroups::new(groups)))
 }
 
-/// What a request that only reads is answered; none for one that changes something.
+/// Answers a request that only reads. None for one that changes something.
 pub fn read<Sh: Shelf>(
     shelf: &mut Sh,
     alloc: Global,

@@ -5,7 +5,7 @@ ghost use Rattle.hub.specs.inner.PageFilter.{shuts_out, is_shut_out};
 
 use policy::{Case, Gate, Standing, passes};
 
-/// Whether it is a gate at the root, and refuses the reader.
+/// Whether the gate is at the root and refuses the reader.
 fn shuts(standing: &Standing, gate: &Gate) -> bool
     ensures { result ≡ shuts_out standing.entry.now gate.now }
 {
@@ -21,8 +21,8 @@ fn one_shuts(case: &Case, standing: &Standing) -> bool
         .any(|gate| shuts(standing, gate))
 }
 
-/// Whether a gate at the root refuses a reader who isn't of the source. Then nothing of the incident is visible, so no line of
-/// it needs to be read.
+/// Whether a gate at the root refuses a reader who isn't of the source. Then nothing of the incident is visible, so no
+/// line of it needs to be read.
 pub fn is_shut(case: &Case, standing: &Standing) -> bool
     ensures { result ≡ is_shut_out case.now standing.entry.now }
 {

@@ -24,7 +24,7 @@ fn first_of(entries: &[Entry], incident: u32) -> Option<Entry>
     }
 }
 
-/// The incident as it is listed; none where it is missing.
+/// How the incident is listed. None if it is missing.
 fn entry<Sh: Shelf>(shelf: &mut Sh, incident: u32) -> Result<Option<Entry>, ShelfFault>
     ensures { Finds Sh.has Sh.doubts Sh.failed Sh.may_remain shelf.old shelf.new result (λ s.
         IsSound s → IfOk result (λ found. found ≡ option_map entry_of (incident_of incident s))) }
@@ -46,8 +46,8 @@ fn view_by(entry: Entry, excerpt: Excerpt) -> View
     }
 }
 
-/// What a person may see of an incident; none where that is nothing, or where it is missing. If a gate at the root shuts the
-/// person out, no line of it is read.
+/// What a person may see of an incident. None if that is nothing, or if the incident is missing. None of a View's
+/// grounds needs facts, so they aren't looked up.
 pub fn view<Sh: Shelf>(
     shelf: &mut Sh,
     asker: Asker<'_>,
@@ -65,6 +65,7 @@ pub fn view<Sh: Shelf>(
     let Some(case) = case_of(shelf, incident)? else {
         return Ok(None);
     };
+    // the lines aren't read if a gate at the root shuts the reader out, and the entry only if something is served
     if is_shut(&case, &standing) {
         return Ok(None);
     }

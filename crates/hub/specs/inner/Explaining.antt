@@ -1,4 +1,4 @@
--- An explanation, from what is read of an incident.
+-- An explanation, made of what is read of an incident.
 use Rattle.std.specs.Prelude.{ℤ, Option, Some, None, option_map, option_and_then, if◌then◌else◌}
 use Rattle.iodef_tree.specs.Text.{Bytes, Tokens}
 use Rattle.iodef_tree.specs.Paths.{located, has_class}
@@ -13,15 +13,15 @@ use Rattle.hub_core.specs.Reads.{case_for}
 use Rattle.hub_state.specs.declared.state.Incident.{Incident}
 use Rattle.hub.specs.Told.{standing_at}
 
--- how a person stands to an incident at a moment, where both are there
+-- how a person stands to an incident at a moment, if both are there
 abbrev pub standing_between : State → ℤ → Option Person → Option Incident → Option Standing
 standing_between s now p i = option_and_then (λ (q : Person). option_map (standing_at s now q) i) p
 
--- the text of the explanation of a class; none where there is no class at the path
+-- the text of the explanation of a class; none if there is no class at the path
 abbrev pub text_at : Lines → Case → Standing → Tokens → Option Bytes
 text_at ls c st p = if has_class (located ls) p then Some (trace_text (explanation_of (located ls) c st p)) else None
 
--- the same where person, incident and path are there
+-- the same for an optional person, incident and path
 abbrev pub text_of : State → ℤ → Option Person → Option Incident → Option Tokens → Option Bytes
 text_of s now (Some p) (Some i) (Some path) = text_at i.document (case_for s i) (standing_at s now p i) path
 text_of s now _ _ _ = None

@@ -1,4 +1,4 @@
--- What a page lists.
+-- Which incidents a page lists.
 use Rattle.std.specs.Prelude.{ℕ, ℤ, Bool, false, not, ◌&&◌, ◌||◌, ◌-◌, List, length, slice_get, Option, option_map, is_some}
 use Rattle.std.specs.List.{list_any}
 use Rattle.std.specs.Option.{option_map_or}
@@ -17,27 +17,27 @@ use Rattle.hub_state.specs.declared.reply.Entry.{Entry}
 use Rattle.hub.specs.Told.{standing_at}
 use Rattle.hub.specs.declared.page_filter.PageFilter.{PageFilter}
 
--- whether an incident to which a person stands so may be on the page
+-- the standing doesn't keep the incident off the page
 abbrev pub admits : PageFilter → Standing → Bool
 admits w st = not w.addressed || (st.person || st.addressed)
 
--- the gate stands at the root and refuses the reader
+-- the gate is at the root and refuses the reader
 abbrev pub shuts_out : Standing → Gate → Bool
 shuts_out st g = is_root g.path && is_some (refusal_of_gate st g)
 
--- a gate does, and the reader isn't of the source
+-- such a gate is there, and the reader isn't of the source
 abbrev pub is_shut_out : Case → Standing → Bool
 is_shut_out c st = not st.source && list_any (shuts_out st) c.gates
 
--- a page of this kind lists a report, for a reader of this standing
+-- a page with this filter lists a report, for a reader of this standing
 abbrev pub passes_filter : PageFilter → Lines → Case → Standing → Bool
 passes_filter w doc c st = admits w st && meets w.want.now doc c st
 
--- whether a page lists the incident
+-- the page lists the incident
 abbrev pub is_wanted : State → ℤ → Person → PageFilter → Incident → Bool
 is_wanted s now p w i = passes_filter w i.document (case_for s i) (standing_at s now p i)
 
--- whether it lists the incident of this number
+-- the page lists the incident of this number, which is there
 abbrev pub is_wanted_at : State → ℤ → Person → PageFilter → ℕ → Bool
 is_wanted_at s now p w n = option_map_or (is_wanted s now p w) (incident_of n s) false
 
