@@ -1,4 +1,4 @@
--- What edits leave of the documents of incidents that they don't name.
+-- Edits leave the documents of the incidents that they don't name.
 use Rattle.std.proofs.Common.{◌≡◌, ℕ, ◌==◌, ◌+◌, ◌<◌, Bool, true, false, not, ◌||◌, List, [], ◌∷◌, length, take, get_or, refl, sym, ap, ◌∙◌}
 use Rattle.std.specs.Prelude.{option_map}
 use Rattle.std.proofs.lemmas.Bool.{not_from_false}
@@ -42,6 +42,6 @@ stays n (edit ∷ edits) s h = stays n edits (edited edit s) (second (is_of n ed
 pub kept_after : (edits : List Edit) (old new : List Entry) (s : State) → AreSpared edits new old → AreDocuments old s → AreDocuments new (with_edits edits s)
 kept_after edits old new s spared all e k = let was = spared e k in stays e.0 edits s was.1 ∙ all e was.0
 
--- an edit more that isn't of it
+-- one edit more that isn't of this incident
 pub one_more : (p : Edit → Bool) (xs : List Edit) (i : ℕ) (x : Edit) → i < length xs → x ≡ get_or xs i x → list_any p (take i xs) ≡ false → p x ≡ false → list_any p (take (i + 1) xs) ≡ false
 one_more p xs i x low is none here = list_any_more p xs i x low ∙ (ap (λ b. b || p (get_or xs i x)) none ∙ (ap p (sym is) ∙ here))

@@ -1,4 +1,4 @@
--- Which documents are left of those that are kept.
+-- Which documents remain of those that are kept.
 use Rattle.std.proofs.Common.{◌≡◌, ◌≤◌, ◌⊎◌, ◌-◌, ℕ, Bool, true, false, cond, List, [], ◌∷◌, length, take, Some, None, Contains, inl, inr, refl, sym, subst, ap, ◌∙◌, nat_eq}
 use Rattle.std.proofs.lemmas.Bool.{eqb-true}
 use Rattle.std.specs.Cmp.{nat_eq_equiv}
@@ -20,7 +20,7 @@ kept_promoted n c new es is view e k = subst (λ l. Contains l e) view (Contains
 pub light_promoted : (n : ℕ) (c new : LruCache ℕ Lines) → new ≡ lru_cache (promoted (nat_eq n) c.entries) c.cap → AreLight c.entries → AreLight new.entries
 light_promoted n c new is light e k = light e (kept_promoted n c new c.entries is refl e k)
 
--- what is found under a number is kept with it
+-- a document found under a number is kept with it
 pub found : (n : ℕ) (es : List Entry) (v : Lines) → lookup (nat_eq n) es ≡ Some v → Contains es (n, v)
 found n es v h = let at = Contains-lookup (nat_eq n) es v h in let same : n ≡ at.0 = eqb-true n at.0 at.2 in subst (λ k. Contains es (k, v)) (sym same) at.1
 
@@ -36,7 +36,7 @@ put_or_kept c n v e h = elim (Contains-put_entries nat_eq c n v e h) [
   ])
 ]
 
--- one that is put is the new one, whatever was kept with its number
+-- a put document is the new one, whatever its number had before
 pub kept_put : (n : ℕ) (v kept : Lines) (c mid new : LruCache ℕ Lines) (es : List Entry) → new ≡ lru_cache (put_entries nat_eq mid n kept) mid.cap → AreAmong mid.entries c.entries → c.entries ≡ es → kept ≡ v →
     (e : Entry) → Contains new.entries e → Contains es e ⊎ (e ≡ (n, v))
 kept_put n v kept c mid new es is among view same e k = elim (put_or_kept mid n kept e (subst (λ l. Contains l e) (ap (λ (x : LruCache ℕ Lines). x.entries) is) k)) [
@@ -44,7 +44,7 @@ kept_put n v kept c mid new es is among view same e k = elim (put_or_kept mid n 
   | inr here ↦ inr (here ∙ ap (λ w. (n, w)) same)
 ]
 
--- a light one is put
+-- a light document is put
 pub light_put : (n : ℕ) (v : Lines) (c mid new : LruCache ℕ Lines) → new ≡ lru_cache (put_entries nat_eq mid n v) mid.cap → AreAmong mid.entries c.entries → document_weight v ≤ 1048576 → AreLight c.entries → AreLight new.entries
 light_put n v c mid new is among low light e k = elim (kept_put n v v c mid new c.entries is among refl refl e k) [
   | inl was ↦ light e was
@@ -65,7 +65,7 @@ none_left : (n : ℕ) (es : List Entry) → IsDistinct nat_eq (keys_of es) → l
 none_left n es apart =
     lookup-remove_entry nat_eq_equiv (nat_eq n) (λ x y h. ap (λ k. nat_eq k y) (eqb-true n x h)) n es apart ∙ ap (λ b. cond b None (lookup (nat_eq n) es)) (nat_eq_equiv.refl n)
 
--- what is left without a number is of other numbers
+-- the documents that remain without a number are of other numbers
 pub kept_others : (n : ℕ) (c new : LruCache ℕ Lines) (es : List Entry) → IsValid nat_eq c → new ≡ lru_cache (remove_entry (nat_eq n) c.entries) c.cap → c.entries ≡ es →
     (e : Entry) → Contains new.entries e → Contains es e × (nat_eq n e.0 ≡ false)
 kept_others n c new es valid is view e k =

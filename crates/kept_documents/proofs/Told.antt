@@ -1,4 +1,4 @@
--- What is told of a document that is kept is what is told of its incident.
+-- What a kept document shows is what its incident shows.
 use Rattle.std.proofs.Common.{◌≡◌, ◌⊎◌, ℕ, ◌&&◌, false, if◌then◌else◌, List, Some, None, Result, Ok, Err, OnOk, OnErr, Contains, inl, inr, sym, ap, subst, ◌∙◌}
 use Rattle.std.specs.Prelude.{is_some, is_none, option_and_then}
 use Rattle.std.specs.Option.{option_map_or}
@@ -21,7 +21,7 @@ served n doc c st s at marked = sym (ap (option_and_then (λ (ls : Lines). serve
 pub met : (n : ℕ) (doc : Lines) (c : Case) (st : Standing) (w : Want) (s : State) → document_of n s ≡ Some doc → first_bad_marking (located doc) ≡ None → meets w doc c st ≡ met_by_incident n c st w s
 met n doc c st w s at marked = sym (ap (λ o. option_map_or (λ (ls : Lines). meets_marked w ls c st) o false) at ∙ ap (λ bad. is_none bad && meets w doc c st) marked)
 
--- with one that was read
+-- with one more document that was read
 pub kept_new : (n : ℕ) (doc : Lines) (old mid new : List Entry) (s : State) → AreAmong mid old → ((e : Entry) → Contains new e → Contains mid e ⊎ (e ≡ (n, doc))) → Some doc ≡ document_of n s → AreDocuments old s → AreDocuments new s
 kept_new n doc old mid new s among put is all e k = elim (put e k) [ inl was ↦ all e (among e was) | inr new ↦ subst (λ (x : Entry). document_of x.0 s ≡ Some x.1) (sym new) (sym is) ]
 

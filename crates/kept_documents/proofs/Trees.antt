@@ -1,4 +1,4 @@
--- What the parts of a tree weigh.
+-- The weights of the parts of a tree.
 use Rattle.std.proofs.Common.{◌≡◌, ℕ, suc, ◌+◌, List, [], ◌∷◌, ◌++◌, length, Option, Some, None, sum_by, refl, arith}
 use Rattle.std.proofs.lemmas.List.Sums.{sum_by-cons, sum_by-append}
 use Rattle.std.proofs.lemmas.Grind.{common_steps}
@@ -19,12 +19,12 @@ forest_weight-elements name k (b ∷ bs) rest =
     let more = sum_by-cons (body_weight (length name)) b bs in
     omega (arith, front, on, more)
 
--- those of a member are in front
+-- the lines of a member come before the rest
 pub forest_weight-member_front : (name : Bytes) (m : Bodies) (rest : Forest) → forest_weight (member_front name m rest) ≡ bodies_weight (length name) m + forest_weight rest
 forest_weight-member_front name (one b) rest = forest_weight-in_front name None b rest
 forest_weight-member_front name (many bs) rest = forest_weight-elements name 0 bs rest
 
--- a document weighs what its tree weighs
+-- the weight of a document is that of its tree
 pub document_weight-lines : (f : Forest) (d : ℕ) → document_weight (lines d f) ≡ forest_weight f
 document_weight-lines end d = refl
 document_weight-lines (leaf i rest) d =
@@ -38,5 +38,5 @@ document_weight-lines (branch name place kids rest) d =
     let on = document_weight-lines rest d in
     omega (arith, more, both, inside, on)
 
--- for the walk that weighs against a limit
+-- for the walk that weighs up to a limit
 pub ruleset weighing = (common_steps, forest_weight-member_front)

@@ -1,4 +1,4 @@
--- What is left of the weight of what is kept.
+-- The weight of the documents that remain.
 use Rattle.std.proofs.Common.{◌≡◌, ◌≤◌, ◌+◌, ◌-◌, ℕ, zero, suc, Bool, true, false, cond, List, [], ◌∷◌, length, take, slice_get, Option, Some, None, refl, sym, subst, ap, nat_eq, arith}
 use Rattle.std.specs.Option.{option_map_or}
 use Rattle.std.specs.Map.{lookup_entry, remove_entry}
@@ -22,7 +22,7 @@ last_of : (es : List Entry) (e : Entry) → last_entry es ≡ Some e → weight_
 last_of [] e h = cc
 last_of (x ∷ es) e h = last_at (length (x ∷ es) - 1) (x ∷ es) e (omega arith) h
 
--- without the one that was read longest ago
+-- without the document read longest ago
 pub last_fits : (es : List Entry) (key : ℕ) (v : Lines) (left : ℕ) → Some (key, v) ≡ last_entry es → weight_in es ≤ left → document_weight v ≤ left
 last_fits es key v left h low = let l = last_of es (key, v) (sym h) in omega (arith, l)
 
@@ -34,7 +34,7 @@ pub none_left : (es : List Entry) → None ≡ last_entry es → weight_in es �
 none_left [] h = refl
 none_left (x ∷ es) h = let at = slice_get-get_or (x ∷ es) (length (x ∷ es) - 1) x (omega arith) in cc
 
--- without the one of a key
+-- without the document of a key
 removed : (test : ℕ → Bool) (es : List Entry) (e : Entry) → lookup_entry test es ≡ Some e → weight_in (remove_entry test es) + document_weight e.1 ≡ weight_in es
 removed test [] e h = cc
 removed test (x ∷ es) e h = elim (test x.0) as (λ b. cond b (Some x) (lookup_entry test es) ≡ Some e → weight_in (cond b es (x ∷ remove_entry test es)) + document_weight e.1 ≡ document_weight x.1 + weight_in es) [
@@ -49,7 +49,7 @@ less test (x ∷ es) = elim (test x.0) as (λ b. weight_in (cond b es (x ∷ rem
   | false ↦ let on = less test es in omega arith
 ]
 
--- with the one of a key in front
+-- with the document of a key moved to the front
 promoted_weight : (test : ℕ → Bool) (es : List Entry) → weight_in (promoted test es) ≡ weight_in es
 promoted_weight test es = by_case (lookup_entry test es) refl
   where
@@ -60,7 +60,7 @@ promoted_weight test es = by_case (lookup_entry test es) refl
 pub promoted_fits : (n : ℕ) (c new : LruCache ℕ Lines) (left : ℕ) → new ≡ lru_cache (promoted (nat_eq n) c.entries) c.cap → weight_in c.entries ≤ left → weight_in new.entries ≤ left
 promoted_fits n c new left is low = subst (λ (x : LruCache ℕ Lines). weight_in x.entries ≤ left) (sym is) (let l = promoted_weight (nat_eq n) c.entries in omega (arith, l))
 
--- with one that is put
+-- with a document that is put
 put_weight : (c : LruCache ℕ Lines) (n : ℕ) (v : Lines) → weight_in (put_entries nat_eq c n v) ≤ document_weight v + weight_in c.entries
 put_weight c n v = elim (lookup_entry (nat_eq n) c.entries) as (λ o. weight_in (option_map_or (λ (e : Entry). (e.0, v) ∷ remove_entry (nat_eq n) c.entries) o ((n, v) ∷ take (c.cap - 1) c.entries)) ≤ document_weight v + weight_in c.entries) [
   | None ↦ let on = taken (c.cap - 1) c.entries in omega arith
@@ -76,6 +76,6 @@ gone n es key v h = removed (nat_eq n) es (key, v) (sym h)
 pub one_gone : (n : ℕ) (c new : LruCache ℕ Lines) (key : ℕ) (v : Lines) (left : ℕ) → Some (key, v) ≡ lookup_entry (nat_eq n) c.entries → new ≡ lru_cache (remove_entry (nat_eq n) c.entries) c.cap → weight_in c.entries ≤ left → weight_in new.entries ≤ left - document_weight v
 one_gone n c new key v left h is low = subst (λ (x : LruCache ℕ Lines). weight_in x.entries ≤ left - document_weight v) (sym is) (let l = gone n c.entries key v h in omega (arith, l))
 
--- where there was none of it
+-- with a document that wasn't there
 pub none_gone : (n : ℕ) (c new : LruCache ℕ Lines) (left : ℕ) → new ≡ lru_cache (remove_entry (nat_eq n) c.entries) c.cap → weight_in c.entries ≤ left → weight_in new.entries ≤ left
 none_gone n c new left is low = subst (λ (x : LruCache ℕ Lines). weight_in x.entries ≤ left) (sym is) (let l = less (nat_eq n) c.entries in omega (arith, l))

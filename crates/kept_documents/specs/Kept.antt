@@ -8,32 +8,32 @@ use Rattle.hub_state.specs.Reads.{document_of}
 use Rattle.hub_state.specs.declared.edit.Edit.{Edit}
 use Rattle.hub_state.specs.declared.edit.Edit.TheVariants.{PutIncident, TakeIncident}
 
--- an incident's number and a document
+-- an incident's number and the lines of its document
 abbrev pub Entry : Type 0
 Entry = ℕ × Lines
 
--- each is the document of its incident
+-- each entry is the document that its incident has in the state
 abbrev pub AreDocuments : List Entry → State → Type 0
 AreDocuments entries s = (e : Entry) → Contains entries e → document_of e.0 s ≡ Some e.1
 
--- a line weighs 128, and the bytes of its name and of its text
+-- the weight of a line: 128, and the bytes of its name and of its text
 abbrev pub line_weight : Line → ℕ
 line_weight l = 128 + length l.name + length l.text
 
--- a document weighs what its lines weigh
+-- the weight of a document: the sum over its lines
 abbrev pub document_weight : Lines → ℕ
 document_weight ls = sum_by line_weight ls
 
--- what the documents of all entries weigh together
+-- the weight of the documents of all entries together
 abbrev pub weight_in : List Entry → ℕ
 weight_in [] = 0
 weight_in (e ∷ es) = document_weight e.1 + weight_in es
 
--- no document weighs more than 1 MiB
+-- no document of an entry weighs more than 1 MiB
 abbrev pub AreLight : List Entry → Type 0
 AreLight entries = (e : Entry) → Contains entries e → document_weight e.1 ≤ 1048576
 
--- none that wasn't there
+-- each entry of the first list is one of the second
 abbrev pub AreAmong : List Entry → List Entry → Type 0
 AreAmong new old = (e : Entry) → Contains new e → Contains old e
 
@@ -43,6 +43,6 @@ is_of n (PutIncident i) = i.naming.number == n
 is_of n (TakeIncident m) = m == n
 is_of n _ = false
 
--- none that wasn't there, and none whose incident's row one of the edits puts or takes
+-- each entry of the first list is one of the second, and no edit puts or takes its incident's row
 abbrev pub AreSpared : List Edit → List Entry → List Entry → Type 0
 AreSpared edits new old = (e : Entry) → Contains new e → Contains old e × (list_any (is_of e.0) edits ≡ false)

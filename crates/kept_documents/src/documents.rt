@@ -1,4 +1,4 @@
-//! The documents that are kept.
+//! The kept documents.
 ghost use Rattle.std.specs.Prelude.{◌≡◌, nat_eq, false, ◌⊎◌, ◌≤◌, [], IfSome, IfOk, Contains};
 ghost use Rattle.iodef_tree.specs.Paths.{located};
 ghost use Rattle.marking.specs.Marks.{first_bad_marking};
@@ -13,16 +13,16 @@ use std::alloc::{AllocError, Global};
 use std::marker::Model;
 use std::num::NonZeroUsize;
 
-/// The documents that are kept, by their incidents' numbers, which weigh at most `MOST`; contracts see the list of the pairs.
+/// The kept documents by their incidents' numbers, which weigh at most `MOST`. Contracts see the list of the pairs.
 #[derive(Drop)]
 pub(crate) struct Documents<const MOST: usize> {
     alloc: Global,
     kept: LruCache<u32, Kept>,
-    /// Which incidents were asked for lately.
+    /// The incidents that were asked for lately.
     noted: LruCache<u32, ()>,
-    /// What the kept documents weigh.
+    /// The weight of the kept documents.
     weight: usize,
-    /// How many questions were asked since a document was kept.
+    /// How many questions there were since a document was kept.
     waited: u32,
 }
 
@@ -38,7 +38,7 @@ impl<const MOST: usize> Model for Documents<MOST> {
         (weight_in d.kept.entries ≤ d.weight) × (d.weight ≤ MOST) × AreLight d.kept.entries };
 }
 
-/// Drops those that were read longest ago until the rest weighs no more than `most`; returns what it weighs.
+/// Drops the documents read longest ago until the rest weighs at most `most`. Returns the weight of the rest.
 #[tactic(auto, using(crate::proofs::Weights::none_left))]
 fn shrink(kept: &mut LruCache<u32, Kept>, weight: usize, most: usize) -> usize
     requires { weight_in kept.old.entries ≤ weight }
@@ -57,7 +57,7 @@ fn shrink(kept: &mut LruCache<u32, Kept>, weight: usize, most: usize) -> usize
 }
 
 impl<const MOST: usize> Documents<MOST> {
-    /// None at first.
+    /// Returns an empty list. Fails if the memory doesn't suffice.
     pub(crate) fn new(alloc: Global) -> Result<Documents<MOST>, AllocError>
         ensures { IfOk result (λ d. d ≡ []) }
     {
@@ -70,7 +70,7 @@ impl<const MOST: usize> Documents<MOST> {
         })
     }
 
-    /// Returns a bound on what the kept documents weigh together.
+    /// Returns a bound on the weight of the kept documents.
     pub(crate) fn weight(&self) -> usize
         ensures counted { weight_in self.now ≤ result }
         ensures most { result ≤ MOST }
@@ -90,8 +90,7 @@ impl<const MOST: usize> Documents<MOST> {
         }
     }
 
-    /// Notes that an incident is asked for. Whether its document is to be read and kept: not where it is, nor at the first
-    /// question, nor where others would have to go and a document was kept a short while ago.
+    /// Notes that an incident is asked for. Returns whether its document should be read and kept.
     pub(crate) fn is_wanted(&mut self, incident: u32) -> bool
         ensures { AreAmong self.new self.old }
     {
@@ -99,15 +98,19 @@ impl<const MOST: usize> Documents<MOST> {
         if self.kept.promote(&incident) {
             return false;
         }
+        // A list reads most incidents only up to their first lines, so a document is read whole only when its incident
+        // is asked for again.
         if !self.noted.promote(&incident) {
-            // Where the memory doesn't suffice the next question is the first again.
+            // if the memory doesn't suffice, the next question counts as the first
             let _ = self.noted.put(incident, ());
             return false;
         }
+        // While an eighth of the room is free, each wanted document is kept. After that one document in 64 questions may
+        // replace others: a list over more documents than fit would read each whole and drop it before its next use.
         self.weight <= MOST - MOST / 8 || self.waited >= PATIENCE
     }
 
-    /// Keeps a document, if it can be: those that were read longest ago make room for it. One above 1 MiB isn't kept.
+    /// Keeps a document if possible; drops those read longest ago to make room. A document above 1 MiB isn't kept.
     pub(crate) fn keep(&mut self, incident: u32, document: Document)
         ensures { (e : Entry) → Contains self.new e →
             Contains self.old e ⊎ (e ≡ (incident, document)) }
@@ -129,14 +132,14 @@ impl<const MOST: usize> Documents<MOST> {
         ensures { (e : Entry) → Contains self.new e →
             Contains self.old e × (nat_eq incident e.0 ≡ false) }
     {
-        // Its contract says that no number stands there twice.
+        // for the proof: the contract of `len` says that no number is there twice
         let _count = self.kept.len();
         if let Some((_, gone)) = self.kept.pop_entry(&incident) {
             self.weight -= gone.weight();
         }
     }
 
-    /// Lets go of what the edit puts or takes.
+    /// Drops the document of the incident whose row the edit puts or takes.
     fn let_go_by(&mut self, edit: &Edit)
         ensures { (e : Entry) → Contains self.new e →
             Contains self.old e × (is_of e.0 edit.now ≡ false) }
@@ -155,7 +158,7 @@ impl<const MOST: usize> Documents<MOST> {
         }
     }
 
-    /// Lets go of what the edits put or take.
+    /// Drops the documents of the incidents whose rows the edits put or take.
     pub(crate) fn let_go(&mut self, edits: &[Edit])
         ensures { AreSpared edits.now self.new self.old }
     {

@@ -1,4 +1,4 @@
-//! A document as it is kept.
+//! A document that is kept.
 ghost use Rattle.std.specs.Prelude.{◌≡◌, ◌≤◌, None, IfSome};
 ghost use Rattle.iodef_tree.specs.Paths.{located};
 ghost use Rattle.marking.specs.Marks.{first_bad_marking};
@@ -10,7 +10,8 @@ use marking::check;
 use std::alloc::Global;
 use std::marker::Model;
 
-/// A document whose markings are accepted, with what it weighs; contracts see the document.
+/// A document with its weight. Its markings were checked once, when it was kept, so an excerpt of it doesn't check them
+/// again. Contracts see the document.
 #[derive(Drop)]
 pub(crate) struct Kept {
     document: Document,
@@ -33,8 +34,8 @@ impl Model for Kept {
 }
 
 impl Kept {
-    /// None where it weighs more than there is room for, where its markings aren't accepted, and where the memory doesn't
-    /// suffice to tell.
+    /// Weighs the document and checks its markings. None if it weighs more than `room`, if its markings aren't
+    /// accepted, or if the memory doesn't suffice to check them.
     pub(crate) fn within(alloc: Global, document: Document, room: usize) -> Option<Kept>
         ensures { IfSome result (λ k. (k ≡ document) × (document_weight k ≤ room)) }
     {

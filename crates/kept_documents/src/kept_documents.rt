@@ -12,8 +12,9 @@ use policy::{Case, Standing};
 use redact::{Excerpt, Want, excerpt, meets};
 use std::alloc::{AllocError, Global};
 
-/// A shelf whose calls are answered by another one, but for excerpts and searches of the documents that it keeps. These never
-/// weigh more than `MOST` together.
+/// A shelf that answers excerpts and searches from the documents that it keeps, and asks the shelf below for all else.
+/// The kept documents weigh at most `MOST` together. Only documents are kept: they are dear to read, and only two kinds
+/// of edit change one.
 #[derive(Drop)]
 pub struct KeptDocuments<Sh: Shelf, const MOST: usize> {
     alloc: Global,
@@ -22,7 +23,8 @@ pub struct KeptDocuments<Sh: Shelf, const MOST: usize> {
 }
 
 impl<Sh: Shelf, const MOST: usize> KeptDocuments<Sh, MOST> {
-    /// Over a shelf, with no document yet.
+    /// Returns a shelf over another one, with no document kept. Fails with the shelf below if the memory doesn't
+    /// suffice.
     pub fn new(alloc: Global, shelf: Sh) -> Result<KeptDocuments<Sh, MOST>, (AllocError, Sh)>
         ensures { IfOk result (λ k. (k.shelf ≡ shelf) × (k.documents ≡ [])) }
     {
@@ -36,7 +38,7 @@ impl<Sh: Shelf, const MOST: usize> KeptDocuments<Sh, MOST> {
         }
     }
 
-    /// The shelf below.
+    /// Returns the shelf below.
     pub fn into_shelf(self) -> Sh
         ensures { result ≡ self.shelf }
     {
@@ -44,7 +46,7 @@ impl<Sh: Shelf, const MOST: usize> KeptDocuments<Sh, MOST> {
         shelf
     }
 
-    /// Returns a bound on what the kept documents weigh together. Each of them weighs at most 1 MiB.
+    /// Returns a bound on the weight of the kept documents. Each of them weighs at most 1 MiB.
     pub fn weight(&self) -> usize
         ensures counted { weight_in self.now.documents ≤ result }
         ensures most { result ≤ MOST }
@@ -53,14 +55,15 @@ impl<Sh: Shelf, const MOST: usize> KeptDocuments<Sh, MOST> {
         self.documents.weight()
     }
 
-    /// Reads and keeps the document of an incident that is asked for, where it is worth it and the memory suffices. A store that
-    /// answers no more is asked for nothing.
+    /// Reads and keeps the document of an incident that is asked for, if it is wanted and the memory suffices. Fails
+    /// with `Failed` if the shelf below does.
     fn prepare(&mut self, incident: u32) -> Result<(), ShelfFault>
         ensures shelf { IsRead Sh.has Sh.doubts Sh.failed Sh.may_remain
             self.old.shelf self.new.shelf result }
         ensures documents { Sh.doubts self.new.shelf ≡ 0 → (s : State) → Sh.has self.old.shelf s →
             AreDocuments self.old.documents s → AreDocuments self.new.documents s }
     {
+        // at the last value of the count every call fails
         if self.shelf.failures() == u64::MAX {
             return Err(ShelfFault::Failed);
         }
@@ -72,6 +75,7 @@ impl<Sh: Shelf, const MOST: usize> KeptDocuments<Sh, MOST> {
                 self.documents.keep(incident, document);
                 Ok(())
             }
+            // keeping is optional: without memory for it the shelf below answers
             Ok(None) | Err(ShelfFault::NoMemory) => Ok(()),
             Err(ShelfFault::Failed) => Err(ShelfFault::Failed),
         }
@@ -111,6 +115,7 @@ impl<Sh: Shelf, const MOST: usize> Shelf for KeptDocuments<Sh, MOST> {
     }
 
     fn document(&mut self, incident: u32) -> Result<Option<Document>, ShelfFault> {
+        // the caller gets the document itself, so a kept one would have to be copied
         self.shelf.document(incident)
     }
 
@@ -154,7 +159,7 @@ impl<Sh: Shelf, const MOST: usize> Shelf for KeptDocuments<Sh, MOST> {
     }
 
     fn apply(&mut self, edits: &[Edit]) -> Result<(), ShelfFault> {
-        // Before the call, so that nothing is kept that no longer stands, whatever comes of it.
+        // before the call: whatever its outcome, no document is kept that may have changed
         self.documents.let_go(edits);
         self.shelf.apply(edits)
     }

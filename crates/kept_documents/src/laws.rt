@@ -1,4 +1,4 @@
-//! The bound of a hub that serves: the contract of a function that does nothing.
+//! The limit of a hub that serves: the contract of a function that does nothing.
 
 ghost use Rattle.std.specs.Prelude.{◌≡◌};
 ghost use Rattle.kept_documents.specs.declared.TheConstants.{MOST_WEIGHT};

@@ -1,15 +1,14 @@
-//! A shelf that keeps the documents that were read lately, over any shelf.
+//! A shelf that keeps the documents read lately, over any shelf.
 //!
-//! To read first: [`KeptDocuments`]. It is a `Shelf` of `hub_core` with the content, the failures and the crashes of the shelf
-//! below it; an excerpt and a search of an incident whose document is kept are answered from memory, and all else is asked of
-//! the shelf below. `specs/Kept` says what is kept, and what a document weighs: 128 for each of its lines, and the bytes of
-//! their names and texts.
+//! To read first: [`KeptDocuments`]. It is a `Shelf` of `hub_state` with the content, the failures and the crashes of
+//! the shelf below it. It answers an excerpt or a search of an incident from memory if the document is kept, and asks
+//! the shelf below for all else. `specs/Kept` says what is kept and what a document weighs.
 //!
-//! The rooms, in the way of a document:
+//! The modules, in the order in which a document meets them:
 //!
-//! - `weight`: what a document weighs; `kept`: a document that was weighed, and whose markings are accepted;
-//! - `documents`: those that are kept, when one is worth it, and how they are let go;
-//! - `kept_documents`: the shelf; [`laws`]: the bound of a hub that serves.
+//! - `weight`: what a document weighs; `kept`: a document that was weighed, with accepted markings;
+//! - `documents`: the kept documents, when one is wanted, and how they are dropped;
+//! - `kept_documents`: the shelf; [`laws`]: the limit of a hub that serves.
 #![tactic(auto)]
 
 mod documents;
@@ -20,14 +19,16 @@ mod weight;
 
 pub use kept_documents::KeptDocuments;
 
-/// What the kept documents of a hub that serves may weigh together: 64 MiB.
+/// The weight that the kept documents of a hub that serves may have together: 64 MiB, room for some 2,000 reports of 4
+/// KB.
 pub const MOST_WEIGHT: usize = 67_108_864;
 
-/// What a document that is kept may weigh: 1 MiB.
+/// The weight that a kept document may have: 1 MiB. A heavier one would take the place of many; only a long name at an
+/// array of many elements makes one.
 const DOCUMENT_LIMIT: usize = 1_048_576;
 
-/// Of how many incidents it is noted that they were asked for.
+/// How many incidents are noted as asked for.
 const NOTED_LIMIT: usize = 4096;
 
-/// Behind how many questions a document may take the place of others.
+/// After how many questions a document may replace others.
 const PATIENCE: u32 = 64;

@@ -1,4 +1,4 @@
-//! What a tree weighs, against a limit: each of its lines 128, and the bytes of its name and of its text.
+//! The weight of a tree, up to a limit: 128 for each of its lines, and the bytes of its name and of its text.
 #![tactic(auto, using(crate::proofs::Trees::weighing))]
 
 ghost use Rattle.std.specs.Prelude.{◌≡◌, ◌+◌, ◌<◌, IfSome, IfNone};
@@ -7,11 +7,12 @@ ghost use Rattle.kept_documents.specs.Trees.{forest_weight, bodies_weight, body_
 
 use iodef_tree::{Item, Member, Object};
 
-/// What a line weighs besides its name and its text.
+/// The weight of a line without its name and its text. Neither lines nor bytes alone bound memory: a report of few
+/// lines may hold a long text, and an array of numbers is many lines of few bytes.
 const LINE_WEIGHT: usize = 128;
 
-/// Returns what the lines of the object leave of the room, or `None` if they weigh more. Takes no memory, and stops at the
-/// first line for which there is no room.
+/// Returns the room that the object's lines leave, or `None` if they weigh more. Takes no memory, and stops at the
+/// first line without room.
 #[cycle(room)]
 pub(crate) fn room_left(object: &Object, room: usize) -> Option<usize>
     ensures some { IfSome result (λ left. left + forest_weight (forest object.now) ≡ room) }
@@ -24,7 +25,7 @@ pub(crate) fn room_left(object: &Object, room: usize) -> Option<usize>
     Some(left)
 }
 
-/// The same of a member whose name has so many bytes. Each element of an array is a line with that name.
+/// The same for a member whose name has so many bytes. Each element of an array is a line with that name.
 #[cycle(room)]
 fn member_room(name: usize, member: &Member, room: usize) -> Option<usize>
     ensures some { IfSome result (λ left. left + bodies_weight name (bodies member.now) ≡ room) }
@@ -42,7 +43,7 @@ fn member_room(name: usize, member: &Member, room: usize) -> Option<usize>
     }
 }
 
-/// The same of the line of an item, and of the lines below it.
+/// The same for the line of an item, and for the lines below it.
 #[cycle(room)]
 fn item_room(name: usize, item: &Item, room: usize) -> Option<usize>
     ensures some { IfSome result (λ left. left + body_weight name (body item.now) ≡ room) }
