@@ -1,4 +1,4 @@
--- Bytes that follow change no answer but Truncated.
+-- More bytes change no answer but Truncated.
 use Rattle.std.proofs.Common.{◌≡◌, ◌≢◌, ℕ, ◌+◌, ◌-◌, ◌≤◌, List, [], ◌++◌, length, take, drop, Bool, true, false, Result, Ok, Err, refl, ap, sym, ◌∙◌, subst, inl, inr, arith, append_assoc, append-nil, length-append, nat_le, codes}
 use Rattle.std.specs.Str.{bytes_eq}
 use Rattle.std.proofs.Math.Seq.{take-append-add}
@@ -31,7 +31,7 @@ grown bytes more = elim (cases_lt (length bytes) HEAD_LIMIT) [
 ]
 
 module _ (method target : List ℕ) (fields : List Pair) (rest more : List ℕ) where
-  -- what a body of this length asks
+  -- what a request with a body of this length asks
   abbrev body_asks : ℕ → List ℕ → Asked
   body_asks n behind = do
     _ ← require (nat_le n (length behind)) fault.Truncated

@@ -12,7 +12,7 @@ use Rattle.hub_http.specs.Spelling.{gate, gates}
 abbrev pub behind : List WantedGate → Read (List WantedGate) → Read (List WantedGate)
 behind front rest = rest >>= λ more. Ok (front ++ more)
 
--- a fault goes through what follows
+-- a fault stays the result
 pub Fails-bind : {A B : Type 0} (e : RequestFault) (r : Read A) (f : A → Read B) → Fails e r → Fails e (r >>= f)
 Fails-bind NoRoute r f h = rw h refl
 Fails-bind BadBody r f h = rw h refl

@@ -1,4 +1,4 @@
--- What the parser of heads answers, and what the bytes ask.
+-- What the parser of heads returns, and what the bytes ask.
 use Rattle.std.proofs.Common.{◌≡◌, ℕ, ◌+◌, ◌<◌, ◌≤◌, List, [], ◌∷◌, ◌++◌, length, drop, Err, refl, ap, ◌∙◌, subst, inl, arith, append-nil, length-append, length-take, nat_le, false, sym}
 use Rattle.std.specs.List.{flat_map}
 use Rattle.std.proofs.lemmas.List.{length-map}
@@ -31,13 +31,13 @@ module _ (bytes : List ℕ) (asked : Asked) (by_head : AsksByHead bytes asked) w
   arrives here le (Refused fault.BadBody) s = is_wire _ s
   arrives here le (Refused fault.NoMemory) s = tt
 
--- the head lies in the window
+-- the head is in the window
 pub head_fits : (bytes : List ℕ) (h : RequestHead) (rest : List ℕ) → ReadsRequest (window bytes) h rest → (length (print_request h) ≤ HEAD_LIMIT) × (length (print_request h) ≤ length bytes)
 head_fits bytes h rest reads =
     let e : length (window bytes) ≡ length (print_request h) + length rest = ap length reads.1 ∙ length-append (print_request h) rest in
     (omega (arith, e, length-take {A = ℕ}), omega (arith, e, length-take {A = ℕ}))
 
--- the same of what the parser holds
+-- the same for what the parser holds
 pub within : (bytes front : List ℕ) (len : ℕ) (r : Request) → front ≡ window bytes → HoldsSomeRequest front r len → (len ≤ HEAD_LIMIT) × (len ≤ length bytes)
 within bytes front len r same (h, holds) =
     let fits = head_fits bytes h (drop len front) (subst (λ l. ReadsRequest l h (drop len front)) same holds.reads) in
@@ -54,7 +54,7 @@ too_many_fields bytes h rest reads many =
     let few : nat_le (length (fields_of h)) FIELD_LIMIT ≡ false = rw length-map (not_leb many) in
     inl (h, rest, reads, rw few refl)
 
--- the same of what the parser holds
+-- the same for what the parser holds
 pub many_fields : (bytes front : List ℕ) (r : Request) (len : ℕ) → front ≡ window bytes → RequestOverflows FIELD_LIMIT (window bytes)
     → HoldsSomeRequest front r len → Wire bytes (Err fault.HeadTooLong)
 many_fields bytes front r len same over (h, holds) =

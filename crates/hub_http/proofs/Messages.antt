@@ -1,4 +1,4 @@
--- A message, from what is put for it.
+-- A message is the sum of what is put for it.
 use Rattle.std.proofs.Common.{◌≡◌, ℕ, List, [], ◌∷◌, ◌++◌, length, decimal, codes, refl, sym, ap, ◌∙◌, append_assoc}
 use Rattle.hub_http.specs.Replies.{message, challenge}
 use Rattle.hub_http.specs.inner.Messages.{reason_text, status_line, fields}

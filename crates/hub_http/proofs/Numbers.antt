@@ -23,7 +23,7 @@ numeral_digits text plain = grind (arith, common_steps)
 numeral_length : (text : List ℕ) → is_numeral text ≡ true → 0 < length text
 numeral_length text plain = grind (arith, common_steps)
 
--- what parse gives where the digits are plain
+-- the result of `parse` if the digits are plain
 pub numeral_parses : {E : Type 0} (text : List ℕ) (r : Result ℕ E) → is_numeral text ≡ true → ParsesUnsigned 32 10 text r
     → OkIff r ((0 < length text) × (digits_value 10 text < 2 ^ 32)) (digits_value 10 text)
 numeral_parses text r plain h =

@@ -1,4 +1,4 @@
--- The bytes ask one thing, or have one fault, but for the one case in which two are right.
+-- The bytes ask one thing or have one fault, but for the one case with two right faults.
 use Rattle.std.proofs.Common.{◌≡◌, ℕ, ◌<◌, ◌≤◌, ◌⊎◌, List, [], length, drop, Ok, Err, refl, ap, sym, ◌∙◌, subst, inl, inr, arith, append-nil}
 use Rattle.httparse.specs.Grammar.{print_request, HasNoRequest, NeverHasRequest, MayBecomeRequest}
 use Rattle.httparse.proofs.GrammarLemmas.{request_unique}
@@ -10,7 +10,7 @@ use Rattle.hub_http.specs.Laws.{IsOpenTarget}
 never_now : (bytes : List ℕ) → NeverHasRequest bytes → HasNoRequest bytes
 never_now bytes never = subst HasNoRequest (append-nil bytes) (never [])
 
--- where there is no whole head, none is found
+-- without a whole head none is found
 headless_none : (bytes : List ℕ) (a : Asked) → IsHeadless bytes a → HasNoRequest (window bytes)
 headless_none bytes (Ok x) h = absurd h
 headless_none bytes (Err fault.HeadTooLong) h = h.1
@@ -23,14 +23,14 @@ headless_none bytes (Err fault.NoRoute) h = absurd h
 headless_none bytes (Err fault.BadBody) h = absurd h
 headless_none bytes (Err fault.NoMemory) h = absurd h
 
--- a head that can't come, and one that may: only in the target
+-- no head can come, and one may: only inside the target
 open_target : (bytes : List ℕ) → NeverHasRequest (window bytes) → MayBecomeRequest (window bytes) → IsOpenTarget bytes
 open_target bytes never may = elim may [
   | inl found ↦ absurd (never found.0 found.1 [] found.2)
   | inr ends ↦ (ends, never)
 ]
 
--- which of the three a fault is, with what it says
+-- which of the three faults it is
 data Kind (bytes : List ℕ) (a : Asked) : Type 0 where
   refused : a ≡ Err fault.BadHead → NeverHasRequest (window bytes) → Kind bytes a
   long : a ≡ Err fault.HeadTooLong → HEAD_LIMIT ≤ length bytes → MayBecomeRequest (window bytes) → Kind bytes a

@@ -1,4 +1,4 @@
--- A reply to what was read is what a connection is served.
+-- A reply to the request that was read serves the connection.
 use Rattle.std.proofs.Common.{List, ℕ, Option, Result, Ok, Err, inr}
 use Rattle.hub_state.specs.declared.reply.Reply.{Reply}
 use Rattle.hub_state.specs.declared.request.Request.{Request}

@@ -1,4 +1,4 @@
--- The status of each code is one that HTTP has.
+-- The status of each code is one of HTTP's.
 use Rattle.std.proofs.Common.{arith}
 use Rattle.http.specs.StatusCode.{IsStatusCode}
 use Rattle.circle.specs.Codes.{status_of}

@@ -1,4 +1,4 @@
--- What is written in worlds that are alike for a person.
+-- The bytes of replies in worlds that are alike for a person.
 use Rattle.std.proofs.Common.{◌≡◌, inl, inr, true, ℤ, sym, ◌∙◌, ap}
 use Rattle.circle.specs.declared.directory.Account.{Account}
 use Rattle.hub_core.specs.State.{State}

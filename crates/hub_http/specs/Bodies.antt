@@ -1,4 +1,4 @@
--- The body of each reply, as a JSON value (RFC 8259). The members of an object stand in the byte order of their names.
+-- The body of each reply, as a JSON value (RFC 8259). The members of an object are in the byte order of their names.
 use Rattle.std.specs.Prelude.{◌≡◌, ℕ, List, [], ◌∷◌, map, false, true, codes}
 use Rattle.serde_json.specs.Data.{Data, boolean, number, unsigned, string, array, object, no_members, member}
 use Rattle.serde_json.specs.View.{items_of}
@@ -18,9 +18,11 @@ use Rattle.hub_state.specs.declared.reply.Reply.TheVariants as reply
 
 -- ---- parts
 
+-- a number as a JSON number
 abbrev pub whole : ℕ → Data
 whole n = number (unsigned n)
 
+-- a list of values as a JSON array
 abbrev pub listed : List Data → Data
 listed ds = array (items_of ds)
 
@@ -28,12 +30,14 @@ listed ds = array (items_of ds)
 abbrev pub withheld_pair : List (List ℕ) × Rule → Data
 withheld_pair pair = listed (string (pointer_text pair.0) ∷ string (rule_name pair.1) ∷ [])
 
+-- an incident as it is listed
 abbrev pub entry_object : Entry → Data
 entry_object e =
     object (member (codes "number") (whole e.number)
     (member (codes "revision") (whole e.revision)
     (member (codes "source") (whole e.source) no_members)))
 
+-- a group as it is listed for a member
 abbrev pub group_object : JoinedGroup → Data
 group_object g =
     object (member (codes "active") (boolean g.active)
@@ -43,6 +47,7 @@ group_object g =
     (member (codes "owner") (whole g.owner)
     (member (codes "releasability") (string g.releasability) no_members))))))
 
+-- the name of a role
 abbrev pub role_name : Role → List ℕ
 role_name Administrator = codes "administrator"
 role_name Coordinator = codes "coordinator"
@@ -51,13 +56,14 @@ role_name Reader = codes "reader"
 
 -- ---- bodies
 
--- why something wasn't done: a code, what it tells beside it, and the reason in words
+-- the body of a refusal: its code, its detail, and the reason in words
 abbrev pub refusal_body : List ℕ → List ℕ → List ℕ → Data
 refusal_body name detail why =
     object (member (codes "code") (string name)
     (member (codes "detail") (string detail)
     (member (codes "reason") (string why) no_members)))
 
+-- the body of a view; its document is the JSON object of the excerpt's lines
 abbrev pub view_body : View → Data
 view_body v =
     object (member (codes "classes") (whole v.classes)
@@ -67,6 +73,7 @@ view_body v =
     (member (codes "source") (whole v.source)
     (member (codes "withheld") (listed (map withheld_pair v.withheld)) no_members))))))
 
+-- the body of the reply to WhoAmI
 abbrev pub caller_body : Person → Data
 caller_body p =
     object (member (codes "name") (string p.name)
@@ -75,10 +82,11 @@ caller_body p =
     (member (codes "org") (whole p.org)
     (member (codes "role") (string (role_name p.role)) no_members)))))
 
--- an object of one member
+-- an object with one member
 abbrev pub sole : List ℕ → Data → Data
 sole name value = object (member name value no_members)
 
+-- the body of a reply
 abbrev pub body_of : Reply → Data
 body_of reply.Done = sole (codes "done") (boolean true)
 body_of (reply.Numbers numbers) = sole (codes "numbers") (listed (map whole numbers))

@@ -21,8 +21,9 @@ use Rattle.hub_http.specs.Spelling.{flag, role_named, handling_named, digest, ga
 use Rattle.hub_http.specs.Parameters.{Pair, pairs_of, values, only, mandatory, optional, mandatory_number, number_or_zero, optional_moment, optional_number, number_alone, grantee_in, target_alone}
 use Rattle.hub_http.specs.Routes.{verb_of, path_of, query_of, resource_at, route_at}
 
--- ---- where the parameters stand
+-- ---- the place of the parameters
 
+-- where the parameters of a route are: in the query, in the query beside a document as body, or in the body
 unfoldable pub place_of : Route → Place
 place_of route.Post = place.QueryBesideDocument
 place_of (route.Replace n) = place.QueryBesideDocument
@@ -31,22 +32,23 @@ place_of (route.OfPart change n) = place.Body
 place_of (route.OfIncident change n) = place.Body
 place_of _ = place.Query
 
--- the form that they are read from: the query where there may be no body, or where the body is the document;
--- or the body where there may be no query
+-- The form with the parameters: the query if no body is allowed or the body is the document, and the body if no query
+-- is allowed.
 unfoldable pub form_at : Place → Option (List ℕ) → List ℕ → Read (List ℕ)
 form_at place.Query query body = if length body == 0 then Ok (unwrap_or query []) else Err BadBody
 form_at place.QueryBesideDocument query body = Ok (unwrap_or query [])
 form_at place.Body None body = Ok body
 form_at place.Body (Some query) body = Err BadBody
 
--- ---- what is read
+-- ---- requests that read
 
--- no parameter but the number after which a page begins, which is 0 where it is missing
+-- the number after which a page begins, with no parameter beside it; 0 if it is missing
 unfoldable pub after_alone : List Pair → Read ℕ
 after_alone pairs = do
   _ ← only (codes "after" ∷ []) pairs
   number_or_zero (codes "after") pairs
 
+-- the Search with these parameters
 unfoldable pub search_in : List Pair → Read Request
 search_in pairs = do
   _ ← only (codes "needle" ∷ codes "class" ∷ codes "after" ∷ []) pairs
@@ -55,6 +57,7 @@ search_in pairs = do
   after ← number_or_zero (codes "after") pairs
   Ok (request.Search (record { needle = needle; class = class; after = after }))
 
+-- the Explain with these parameters
 unfoldable pub explain_in : List Pair → Read Request
 explain_in pairs = do
   _ ← only (codes "person" ∷ codes "incident" ∷ codes "path" ∷ []) pairs
@@ -65,7 +68,7 @@ explain_in pairs = do
 
 -- ---- incidents
 
--- how far an incident reaches: the community that it names, if one is, the gate at its root and those at its classes
+-- the distribution with these parameters: its community if it names one, its level and group, and its gates
 unfoldable pub distribution_in : List Pair → Read Distribution
 distribution_in pairs = do
   community ← optional_number (codes "community") pairs
@@ -74,12 +77,14 @@ distribution_in pairs = do
   wanted ← gates (values (codes "gate") pairs)
   Ok (record { community = community; level = level; group = group; gates = wanted })
 
+-- the Post with these parameters and this body
 unfoldable pub post_in : List Pair → List ℕ → Read Request
 post_in pairs body = do
   _ ← only (codes "community" ∷ codes "level" ∷ codes "group" ∷ codes "gate" ∷ []) pairs
   distribution ← distribution_in pairs
   Ok (request.Post (record { distribution = distribution; document = body }))
 
+-- the Replace of an incident with these parameters and this body
 unfoldable pub replace_in : ℕ → List Pair → List ℕ → Read Request
 replace_in n pairs body = do
   _ ← only (codes "revision" ∷ codes "community" ∷ codes "level" ∷ codes "group" ∷ codes "gate" ∷ []) pairs
@@ -87,6 +92,7 @@ replace_in n pairs body = do
   distribution ← distribution_in pairs
   Ok (request.Replace (record { incident = n; revision = revision; distribution = distribution; document = body }))
 
+-- the Redistribute of an incident with these parameters
 unfoldable pub redistribute_in : ℕ → List Pair → Read Request
 redistribute_in n pairs = do
   _ ← only (codes "revision" ∷ codes "path" ∷ codes "level" ∷ codes "group" ∷ []) pairs
@@ -96,6 +102,7 @@ redistribute_in n pairs = do
   group ← optional_number (codes "group") pairs
   Ok (request.Redistribute (record { incident = n; revision = revision; path = path; level = level; group = group }))
 
+-- the Grant at an incident with these parameters
 unfoldable pub grant_in : ℕ → List Pair → Read Request
 grant_in n pairs = do
   _ ← only (codes "revision" ∷ codes "path" ∷ codes "person" ∷ codes "org" ∷ codes "community" ∷ codes "group" ∷ codes "until" ∷ []) pairs
@@ -105,6 +112,7 @@ grant_in n pairs = do
   until ← optional_moment (codes "until") pairs
   Ok (request.Grant (record { incident = n; revision = revision; path = path; grantee = to; until = until }))
 
+-- the Withdraw at an incident with these parameters
 unfoldable pub withdraw_in : ℕ → List Pair → Read Request
 withdraw_in n pairs = do
   _ ← only (codes "path" ∷ codes "person" ∷ codes "org" ∷ codes "community" ∷ codes "group" ∷ []) pairs
@@ -112,7 +120,7 @@ withdraw_in n pairs = do
   from ← grantee_in pairs
   Ok (request.Withdraw (record { incident = n; path = path; grantee = from }))
 
--- what is posted to the incident of this number
+-- the request of a POST to a part of the incident of this number
 unfoldable pub incident_request : IncidentChange → ℕ → List Pair → Read Request
 incident_request incident.Redistribute n pairs = redistribute_in n pairs
 incident_request incident.Address n pairs = target_alone pairs >>= λ to. Ok (request.Address (record { incident = n; target = to }))
@@ -122,12 +130,13 @@ incident_request incident.Withdraw n pairs = withdraw_in n pairs
 
 -- ---- the circle
 
--- a name, and nothing beside it
+-- the name, with no parameter beside it
 unfoldable pub name_alone : List Pair → Read (List ℕ)
 name_alone pairs = do
   _ ← only (codes "name" ∷ []) pairs
   mandatory (codes "name") pairs
 
+-- the AddPerson with these parameters
 unfoldable pub person_in : List Pair → Read CircleCommand
 person_in pairs = do
   _ ← only (codes "org" ∷ codes "name" ∷ codes "role" ∷ codes "key" ∷ []) pairs
@@ -137,6 +146,7 @@ person_in pairs = do
   key ← mandatory (codes "key") pairs >>= digest
   Ok (command.AddPerson org name role key)
 
+-- the NewGroup with these parameters
 unfoldable pub group_in : List Pair → Read CircleCommand
 group_in pairs = do
   _ ← only (codes "name" ∷ codes "releasability" ∷ []) pairs
@@ -144,6 +154,7 @@ group_in pairs = do
   releasability ← mandatory (codes "releasability") pairs
   Ok (command.NewGroup name releasability)
 
+-- the Arrange with these parameters
 unfoldable pub arrangement_in : List Pair → Read CircleCommand
 arrangement_in pairs = do
   _ ← only (codes "org" ∷ codes "handling" ∷ []) pairs
@@ -151,7 +162,7 @@ arrangement_in pairs = do
   handling ← mandatory (codes "handling") pairs >>= handling_named
   Ok (command.Arrange org handling)
 
--- what is posted to a collection
+-- the command of a POST to a collection
 unfoldable pub circle_command : CircleChange → List Pair → Read CircleCommand
 circle_command circle.AddOrg pairs = name_alone pairs >>= λ name. Ok (command.AddOrg name)
 circle_command circle.AddPerson pairs = person_in pairs
@@ -160,6 +171,7 @@ circle_command circle.NewGroup pairs = group_in pairs
 circle_command circle.Arrange pairs = arrangement_in pairs
 circle_command circle.CancelArrange pairs = number_alone (codes "org") pairs >>= λ org. Ok (command.CancelArrange org)
 
+-- the GroupAdd to a group with these parameters
 unfoldable pub member_in : ℕ → List Pair → Read CircleCommand
 member_in n pairs = do
   _ ← only (codes "org" ∷ codes "extend" ∷ []) pairs
@@ -167,17 +179,18 @@ member_in n pairs = do
   extend ← mandatory (codes "extend") pairs >>= flag
   Ok (command.GroupAdd n org extend)
 
+-- the GroupActive of a group with these parameters
 unfoldable pub active_in : ℕ → List Pair → Read CircleCommand
 active_in n pairs = do
   _ ← only (codes "active" ∷ []) pairs
   active ← mandatory (codes "active") pairs >>= flag
   Ok (command.GroupActive n active)
 
--- no parameter
+-- the value if there is no parameter
 abbrev pub nothing_beside : {A : Type 0} → List Pair → A → Read A
 nothing_beside pairs x = only [] pairs >>= λ _. Ok x
 
--- what is posted to the organisation, person, community or group of this number
+-- the command of a POST to a part of the organisation, person, community or group of this number
 unfoldable pub part_command : PartChange → ℕ → List Pair → Read CircleCommand
 part_command part.AddClient n pairs = number_alone (codes "client") pairs >>= λ client. Ok (command.AddClient n client)
 part_command part.RemoveClient n pairs =
@@ -210,7 +223,7 @@ request_in (route.OfCircle change) pairs body = circle_command change pairs >>= 
 request_in (route.OfPart change n) pairs body = part_command change n pairs >>= λ asked. Ok (request.Circle asked)
 request_in (route.OfIncident change n) pairs body = incident_request change n pairs
 
--- the request that a method, a target and a body ask
+-- the request of a method, a target and a body
 unfoldable pub request_by : List ℕ → List ℕ → List ℕ → Read Request
 request_by method target body = do
   route ← route_at (verb_of method) (resource_at (path_of target)) (path_of target)

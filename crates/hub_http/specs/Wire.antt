@@ -1,4 +1,4 @@
--- What a request's bytes ask, or the first fault that they have.
+-- What a request's bytes ask, or their first fault.
 use Rattle.std.specs.Prelude.{◌≡◌, ℕ, ◌<◌, ◌≤◌, ◌⊎◌, List, length, map, take, drop, nat_le, Result, Ok, Err, codes}
 use Rattle.std.specs.Str.{bytes_eq}
 use Rattle.httparse.specs.Grammar.{RequestHead, print_request, ReadsRequest, HasNoRequest, NeverHasRequest, MayBecomeRequest}
@@ -27,13 +27,15 @@ window bytes = take HEAD_LIMIT bytes
 abbrev pub fields_of : RequestHead → List Pair
 fields_of h = map name_and_value h.fields
 
+-- the fault of a request as a fault of the wire
 abbrev pub as_wire : {A : Type 0} → Result A RequestFault → Result A WireFault
 as_wire (Ok x) = Ok x
 as_wire (Err request_fault.NoRoute) = Err fault.NoRoute
 as_wire (Err request_fault.BadBody) = Err fault.BadBody
 as_wire (Err request_fault.NoMemory) = Err fault.NoMemory
 
--- what the parts of a head and the bytes behind it ask
+-- What a whole head with the bytes after it asks. The faults are asked in this order: too many fields, the body's
+-- length, its bytes, the request.
 unfoldable pub asked_by : List ℕ → List ℕ → List Pair → List ℕ → Asked
 asked_by method target fields rest = do
   _ ← require (nat_le (length fields) FIELD_LIMIT) fault.HeadTooLong
@@ -42,13 +44,14 @@ asked_by method target fields rest = do
   request ← as_wire (request_by method target (take n rest))
   Ok (key_of fields, request)
 
--- a head that ends in the window, and what it asks with the bytes behind it
+-- a head ends in the window, and the bytes ask what it asks with the bytes after it (RFC 9112 sections 2 to 6)
 abbrev pub AsksByHead : List ℕ → Asked → Type 0
 AsksByHead bytes asked =
     (h : RequestHead) × (rest : List ℕ) × ReadsRequest (window bytes) h rest
     × (asked ≡ asked_by h.method h.target (fields_of h) (drop (length (print_request h)) bytes))
 
--- no head ends in the window; or none can, whatever follows
+-- No head ends in the window: BadHead if no bytes after it can make one. If one may still come, HeadTooLong if
+-- HEAD_LIMIT bytes are there, and Truncated if not.
 abbrev pub IsHeadless : List ℕ → Asked → Type 0
 IsHeadless bytes (Err fault.BadHead) = NeverHasRequest (window bytes)
 IsHeadless bytes (Err fault.HeadTooLong) =
@@ -57,12 +60,12 @@ IsHeadless bytes (Err fault.Truncated) =
     (length bytes < HEAD_LIMIT) × HasNoRequest (window bytes) × MayBecomeRequest (window bytes)
 IsHeadless bytes _ = ⊥
 
--- The bytes ask this, or have this fault first. There is one answer, but where the window ends inside the target
--- and nothing that follows could make a head: there BadHead is right, and so is the fault of a head that goes on.
+-- The bytes ask this, or have this first fault. There is one answer, except if the window ends inside the target and no
+-- bytes after it can make a head. Then BadHead is right, and so is HeadTooLong or Truncated.
 abbrev pub Wire : List ℕ → Asked → Type 0
 Wire bytes asked = AsksByHead bytes asked ⊎ IsHeadless bytes asked
 
--- an answer that isn't want of memory
+-- the answer is right for the bytes, unless memory ran out
 abbrev pub Answers : List ℕ → Asked → Type 0
 Answers bytes (Ok found) = Wire bytes (Ok found)
 Answers bytes (Err fault.NoMemory) = Unit {0}

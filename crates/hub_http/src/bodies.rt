@@ -1,4 +1,5 @@
-//! The body of each reply, as the tokens of a JSON text (RFC 8259).
+//! The body of each reply, as the tokens of a JSON text (RFC 8259). The contracts say that it is the compact text of a
+//! JSON value, but no such value is made.
 ghost use Rattle.std.specs.Prelude.{◌≡◌, ◌++◌, OnOk, map, true, codes};
 ghost use Rattle.serde_json.specs.Data.{boolean, string};
 ghost use Rattle.serde_json.specs.Written.{comma_if, compact_text};
@@ -97,7 +98,7 @@ fn put_groups<S: Sink>(out: &mut Tokens<S>, groups: &[JoinedGroup]) -> Result<()
     out.token(Token::EndArray)
 }
 
-/// Puts why something wasn't done.
+/// Puts the body of a refusal.
 pub(crate) fn put_refusal<S: Sink>(
     out: &mut Tokens<S>,
     name: &str,
@@ -167,7 +168,7 @@ fn put_done<S: Sink>(out: &mut Tokens<S>) -> Result<(), Refused>
     out.token(Token::EndObject)
 }
 
-/// Puts the numbers of what was made.
+/// Puts the numbers of the new rows.
 fn put_made<S: Sink>(out: &mut Tokens<S>, numbers: &[u32]) -> Result<(), Refused>
     ensures puts { OnOk result (S.puts out.old.sink (comma_if out.old.after_value ++
         compact_text (spec.sole (codes "numbers") (spec.listed (map spec.whole numbers.now)))) out.new.sink) }

@@ -1,4 +1,4 @@
-//! One request asked of two hubs.
+//! One request to two hubs.
 ghost use Rattle.std.specs.Prelude.{◌≡◌, IfOk, true};
 ghost use Rattle.circle.specs.declared.directory.Account.{Account};
 ghost use Rattle.hub_core.specs.State.{State};
@@ -15,7 +15,7 @@ use hub::{Hub, Key};
 use hub_core::{Reply, Request, Shelf};
 use std::alloc::{AllocError, Global};
 
-/// The bytes of two replies.
+/// Returns the bytes of two replies.
 fn bytes_of_both(
     alloc: Global,
     one: &Reply,
@@ -27,10 +27,9 @@ fn bytes_of_both(
     Ok((reply_bytes(alloc, one)?, reply_bytes(alloc, other)?))
 }
 
-/// Asks two hubs the same, and gives the bytes of both replies. Each hub takes one step, also where the memory for the bytes
-/// doesn't suffice, and its bytes tell the reply of that step. Where the two worlds are alike for who asks, and the request
-/// is one that tells of incidents, of groups or of the caller, the bytes are the same, unless one of the requests was given
-/// up.
+/// Asks two hubs the same and returns the bytes of both replies. Each hub takes one step, also if the memory for the
+/// bytes doesn't suffice, and its bytes are the reply of that step. If the two worlds are alike for the caller, and the
+/// request reads incidents, groups or the caller, the bytes are the same, unless one of the requests was given up.
 pub fn told_by_both<A: Shelf, B: Shelf>(
     alloc: Global,
     first: &mut Hub<A>,

@@ -1,4 +1,4 @@
-//! What the fields of a head say: how long the body is, and who asks.
+//! The fields of a head: the length of the body, and the caller's key.
 ghost use Rattle.std.specs.Prelude.{◌≡◌, ◌↔◌, ℕ, ◌+◌, ◌<◌, ◌≤◌, List, [], ◌∷◌, length, map, min, drop, IsTrue, Ok, Some, codes, option_copied, IfOk, IfSome, IfErr, ◌≢◌};
 ghost use Rattle.std.specs.List.{list_all};
 ghost use Rattle.std.specs.Option.{ForSome};
@@ -30,7 +30,7 @@ fn is_same_name(a: &[u8], b: &[u8]) -> bool
     a.eq_ignore_ascii_case(b)
 }
 
-/// The value of the fields of a name.
+/// Returns the value of the fields of a name.
 fn field_of<'a>(fields: &[Header<'a>], name: &str) -> Sole<'a>
     ensures { IsSole (field_values name.now (map header_parts fields.now)) result }
 {
@@ -52,7 +52,7 @@ fn has_digits(text: &[u8]) -> bool
     !text.is_empty() && has_digits_alone(text)
 }
 
-/// The number that digits write, or one more than a body may have bytes.
+/// Returns the number that digits write, or BODY_LIMIT + 1 if it is higher. Leading zeros are allowed.
 fn capped_value(text: &[u8]) -> u32
     requires { IsTrue (is_digits text.now) }
     ensures { result ≡ min (digits_value 10 text.now) (BODY_LIMIT + 1) }
@@ -65,7 +65,8 @@ fn capped_value(text: &[u8]) -> u32
     n
 }
 
-/// The text of the one Content-Length, if there is any.
+/// Returns the text of the Content-Length field, if there is one. Fails with `BadHead` if there are several or it isn't
+/// digits.
 #[tactic(auto, unfolding(crate::specs::Fields::length_text))]
 fn read_length_text<'a>(fields: &[Header<'a>]) -> Result<Option<&'a [u8]>, WireFault>
     ensures value { IsText result
@@ -92,7 +93,7 @@ fn has_none(fields: &[Header<'_>], name: &str) -> bool
     matches!(field_of(fields, name), Sole::Missing)
 }
 
-/// How long the body is.
+/// Returns the length of the body.
 #[tactic(auto, unfolding(crate::specs::Fields::body_length, crate::specs::Fields::declared_length))]
 pub(crate) fn read_body_length(is_get: bool, fields: &[Header<'_>]) -> Result<u32, WireFault>
     ensures value { result ≡ body_length is_get (map header_parts fields.now) }
@@ -142,14 +143,14 @@ fn has_visible_alone(text: &[u8]) -> bool
     text.iter().all(|b| 33 <= *b && *b <= 126)
 }
 
-/// Who shows a key: its SHA-256.
+/// Returns the key with this text: its SHA-256.
 pub fn key_of_text(text: &[u8]) -> Key
     ensures { result ≡ key_shown text.now }
 {
     Key::Digest(Sha256::digest(text))
 }
 
-/// Who asks.
+/// Returns the caller's key, or `Absent` if there isn't exactly one Authorization field with a bearer token.
 #[tactic(auto, unfolding(crate::specs::Fields::key_in))]
 pub(crate) fn read_key(fields: &[Header<'_>]) -> Key
     ensures { result ≡ key_of (map header_parts fields.now) }

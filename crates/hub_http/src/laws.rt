@@ -3,13 +3,13 @@ ghost use Rattle.hub_http.specs.Laws.{HasOneAnswer, AnswersStand};
 ghost use Rattle.hub_http.specs.declared.TheConstants.{HEAD_LIMIT, FIELD_LIMIT, BODY_LIMIT, KEY_LIMIT};
 ghost use Rattle.std.specs.Prelude.{◌≡◌};
 
-/// Bytes ask one thing, or have one fault first; but where they end inside a target that nothing could make whole,
-/// two are right.
+/// Bytes ask one thing or have one first fault. Only if they end inside a target that no bytes can make whole, two
+/// faults are right.
 pub fn one_answer()
     ensures { HasOneAnswer }
 {}
 
-/// What bytes ask, or a fault of theirs that isn't Truncated, stays so whatever bytes follow.
+/// What bytes ask, or a fault of theirs that isn't Truncated, is the same whatever bytes follow.
 pub fn answers_stand()
     ensures { AnswersStand }
 {}

@@ -1,17 +1,17 @@
-//! The wire: what is asked and what is replied, as the bytes of HTTP/1.x (RFC 9112).
+//! The wire: requests and replies as the bytes of HTTP/1.x (RFC 9112).
 //!
 //! To read first, in `specs/`: `Wire`, what bytes ask, or their first fault; `Routes` and `Requests`, the request of
 //! each route; `Replies` and `Bodies`, the bytes of each reply; `Serving`, the outcomes of a connection.
 //!
-//! The rooms, in the way of a request:
+//! The modules, in the order in which a request meets them:
 //!
-//! - `serve`: [`serve_one`], one connection: a request is read, answered, and the reply written;
+//! - `serve`: [`serve_one`], one connection: it reads a request, answers it, and writes the reply;
 //! - `wire`: [`request_of`], from the bytes to the key and the request; `wire_fault`: what may be wrong with them;
-//! - `fields`: what the fields of a head say, how long the body is and who asks ([`key_of_text`]);
-//! - `routes`: which route a method and a path have; `requests`: the request of a route, from its `parameters`, whose
-//!   texts `spelling` reads; `request_fault`: what may be wrong with these;
-//! - `bodies`: the body of a reply as a JSON value; `reply`: [`reply_bytes`], [`body_text`] and [`fault_bytes`];
-//! - `both`: [`told_by_both`], one request asked of two hubs;
+//! - `fields`: the fields of a head, which have the length of the body and the caller's key ([`key_of_text`]);
+//! - `routes`: the route of a method and a path; `requests`: the request of a route, from its `parameters`, whose texts
+//!   `spelling` reads; `request_fault`: what may be wrong with these;
+//! - `bodies`: the body of a reply as JSON; `reply`: [`reply_bytes`], [`body_text`] and [`fault_bytes`];
+//! - `both`: [`told_by_both`], one request to two hubs;
 //! - [`laws`]: bytes ask one thing or have one fault, whatever follows them.
 #![tactic(auto)]
 

@@ -1,4 +1,5 @@
-//! Parameters of a request: names and values, and how many there are of each name.
+//! The parameters of a request: names and values, and how many values each name has. Every fault here is `BadBody`, so
+//! it doesn't matter which of several is found first.
 ghost use Rattle.std.specs.Prelude.{◌≡◌, ◌++◌, ◌<◌, ℕ, List, length, Ok, codes, option_copied};
 ghost use Rattle.hub_http.specs.Outcome.{Yields, YieldsAs};
 ghost use Rattle.hub_http.specs.Spelling.{gates};
@@ -30,7 +31,7 @@ impl<'a> Model for Parameters<'a> {
     ghost view = { λ p. pair_views p.pairs.items };
 }
 
-/// The parameters that a form spells.
+/// Reads the parameters of a form.
 pub(crate) fn read_parameters(alloc: Global, form: &[u8]) -> Result<Parameters<'_>, RequestFault>
     ensures { YieldsAs (λ p. p) result (Ok (spec.pairs_of form.now)) }
 {
@@ -53,7 +54,7 @@ fn is_one_of(names: &[&str], name: &str) -> bool
 }
 
 impl<'a> Parameters<'a> {
-    /// The one value under a name, if there is any.
+    /// The one value of a name, if there is one.
     #[tactic(auto, unfolding(crate::specs::Parameters::optional))]
     pub(crate) fn optional(&self, name: &str) -> Result<Option<&str>, RequestFault>
         ensures { YieldsAs option_copied result (spec.optional name.now self.now) }
@@ -70,7 +71,7 @@ impl<'a> Parameters<'a> {
         Ok(found)
     }
 
-    /// The one value under a name.
+    /// The one value of a name. Fails with `BadBody` if it is missing.
     #[tactic(auto, unfolding(crate::specs::Parameters::mandatory, crate::specs::Parameters::optional))]
     pub(crate) fn mandatory(&self, name: &str) -> Result<&str, RequestFault>
         ensures { YieldsAs (λ v. v.now) result (spec.mandatory name.now self.now) }
@@ -81,7 +82,7 @@ impl<'a> Parameters<'a> {
         }
     }
 
-    /// The one value under a name, kept.
+    /// The one value of a name, copied.
     pub(crate) fn mandatory_text(&self, alloc: Global, name: &str) -> Result<Text, RequestFault>
         ensures { Yields result (spec.mandatory name.now self.now) }
     {
@@ -89,7 +90,7 @@ impl<'a> Parameters<'a> {
         text_of(alloc, value)
     }
 
-    /// The one value under a name, kept, if there is any.
+    /// The one value of a name, copied, if there is one.
     pub(crate) fn optional_text(
         &self,
         alloc: Global,
@@ -103,7 +104,7 @@ impl<'a> Parameters<'a> {
         }
     }
 
-    /// The one number under a name.
+    /// The one number of a name.
     #[tactic(auto, unfolding(crate::specs::Parameters::mandatory_number))]
     pub(crate) fn mandatory_number(&self, name: &str) -> Result<u32, RequestFault>
         ensures { Yields result (spec.mandatory_number name.now self.now) }
@@ -111,7 +112,7 @@ impl<'a> Parameters<'a> {
         read_number(self.mandatory(name)?)
     }
 
-    /// The number under a name, or 0.
+    /// The number of a name, or 0 if it is missing.
     #[tactic(auto, unfolding(crate::specs::Parameters::number_or_zero))]
     pub(crate) fn number_or_zero(&self, name: &str) -> Result<u32, RequestFault>
         ensures { Yields result (spec.number_or_zero name.now self.now) }
@@ -122,7 +123,7 @@ impl<'a> Parameters<'a> {
         }
     }
 
-    /// The one number under a name, if there is any.
+    /// The one number of a name, if there is one.
     #[tactic(auto, unfolding(crate::specs::Parameters::optional_number))]
     pub(crate) fn optional_number(&self, name: &str) -> Result<Option<u32>, RequestFault>
         ensures { Yields result (spec.optional_number name.now self.now) }
@@ -133,7 +134,7 @@ impl<'a> Parameters<'a> {
         }
     }
 
-    /// The one moment under a name, if there is any.
+    /// The one moment of a name, if there is one.
     #[tactic(auto, unfolding(crate::specs::Parameters::optional_moment))]
     pub(crate) fn optional_moment(&self, name: &str) -> Result<Option<i64>, RequestFault>
         ensures { Yields result (spec.optional_moment name.now self.now) }
@@ -144,7 +145,7 @@ impl<'a> Parameters<'a> {
         }
     }
 
-    /// A fault where there is a name beside these.
+    /// Fails with `BadBody` if there is another name than these.
     pub(crate) fn only(&self, names: &[&str]) -> Result<(), RequestFault>
         ensures { Yields result (spec.only (texts names.now) self.now) }
     {
@@ -156,7 +157,7 @@ impl<'a> Parameters<'a> {
         Ok(())
     }
 
-    /// The one number under a name, with no parameter beside it.
+    /// The one number of a name, with no parameter beside it.
     #[tactic(auto, unfolding(crate::specs::Parameters::number_alone))]
     pub(crate) fn number_alone(&self, name: &str) -> Result<u32, RequestFault>
         ensures { Yields result (spec.number_alone name.now self.now) }
@@ -165,7 +166,7 @@ impl<'a> Parameters<'a> {
         self.mandatory_number(name)
     }
 
-    /// The values under a name, in order.
+    /// The values of a name, in order.
     fn all(&self, alloc: Global, name: &str) -> Result<Vec<&str>, RequestFault>
         ensures { YieldsAs (λ v. texts v.items) result (Ok (spec.values name.now self.now)) }
     {
@@ -178,7 +179,7 @@ impl<'a> Parameters<'a> {
         Ok(found)
     }
 
-    /// The gates under `gate`, in order.
+    /// The gates of the name `gate`, in order.
     pub(crate) fn gates(&self, alloc: Global) -> Result<WantedGates, RequestFault>
         ensures { Yields result (gates (spec.values (codes "gate") self.now)) }
     {
@@ -186,7 +187,7 @@ impl<'a> Parameters<'a> {
         read_gates(alloc, &found)
     }
 
-    /// To whom a permission is given, under `person`, `org`, `community` or `group`.
+    /// The grantee, of the one name among `person`, `org`, `community` and `group`.
     #[tactic(auto, unfolding(crate::specs::Parameters::grantee_in))]
     pub(crate) fn grantee(&self) -> Result<Grantee, RequestFault>
         ensures { Yields result (spec.grantee_in self.now) }
@@ -198,7 +199,7 @@ impl<'a> Parameters<'a> {
         sole_grantee(person, org, community, group)
     }
 
-    /// Who is addressed, under `person` or `org`, with no parameter beside it.
+    /// The target, of the one name among `person` and `org`, with no parameter beside it.
     #[tactic(auto, unfolding(crate::specs::Parameters::target_alone))]
     pub(crate) fn target_alone(&self) -> Result<Target, RequestFault>
         ensures { Yields result (spec.target_alone self.now) }
@@ -210,7 +211,7 @@ impl<'a> Parameters<'a> {
     }
 }
 
-/// Exactly one of the four.
+/// The grantee if there is exactly one of the four numbers. Fails with `BadBody` otherwise.
 #[tactic(auto, unfolding(crate::specs::Parameters::one_grantee))]
 fn sole_grantee(
     person: Option<u32>,
@@ -229,7 +230,7 @@ fn sole_grantee(
     }
 }
 
-/// Exactly one of the two.
+/// The target if there is exactly one of the two numbers. Fails with `BadBody` otherwise.
 #[tactic(auto, unfolding(crate::specs::Parameters::one_target))]
 fn sole_target(person: Option<u32>, org: Option<u32>) -> Result<Target, RequestFault>
     ensures { Yields result (spec.one_target person org) }

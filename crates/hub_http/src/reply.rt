@@ -62,7 +62,7 @@ fn status(reply: &Reply) -> StatusCode
     }
 }
 
-/// The field that asks for a key where none is known (RFC 9110 section 11.6.1).
+/// The field that asks for a bearer token on 401 (RFC 9110 section 11.6.1).
 fn challenge(status: StatusCode) -> &'static str
     ensures { result.now ≡ spec.challenge status }
 {
@@ -73,7 +73,7 @@ fn challenge(status: StatusCode) -> &'static str
     }
 }
 
-/// The reason phrase that goes with a status (RFC 9110 section 15).
+/// The reason phrase of a status (RFC 9110 section 15).
 fn reason(status: StatusCode) -> &'static str
     ensures { result.now ≡ reason_text status }
 {
@@ -83,12 +83,12 @@ fn reason(status: StatusCode) -> &'static str
     }
 }
 
-/// What a reply's body says.
+/// The body of a message.
 #[derive(Clone, Copy, Drop)]
 pub(crate) enum Body<'a> {
-    /// What the hub answered.
+    /// The hub's reply.
     Answer(&'a Reply),
-    /// The fault of the bytes that came.
+    /// The fault of the bytes.
     Fault(WireFault),
 }
 
@@ -120,7 +120,7 @@ impl<'a> Source for Body<'a> {
     }
 }
 
-/// A status line, the fields and a body (RFC 9112 section 2.1).
+/// A message: a status line, the fields and a body (RFC 9112 section 2.1).
 #[derive(Clone, Copy, Drop)]
 pub(crate) struct Message<'a> {
     status: StatusCode,
@@ -141,7 +141,7 @@ impl<'a> Message<'a> {
         }
     }
 
-    /// The message that tells a fault; none where that has no status.
+    /// The message of a fault. None if it has no status.
     pub(crate) fn of_fault(fault: WireFault) -> Option<Message<'a>>
         ensures { MatchOption result (fault_text fault ≡ [])
             (λ m. message_bytes m ≡ fault_text fault) }
@@ -156,7 +156,7 @@ impl<'a> Message<'a> {
     }
 }
 
-/// Puts the status line (RFC 9112 section 4), without its end.
+/// Puts the status line (RFC 9112 section 4) without its end.
 fn put_status_line<S: Sink>(sink: &mut S, status: StatusCode) -> Result<(), Refused>
     ensures { OnOk result (S.puts sink.old (status_line status) sink.new) }
 {
@@ -167,7 +167,7 @@ fn put_status_line<S: Sink>(sink: &mut S, status: StatusCode) -> Result<(), Refu
     sink.put(reason(status).as_bytes())
 }
 
-/// Puts the end of the status line, the fields (RFC 9112 section 5), and the empty line.
+/// Puts the end of the status line, the fields (RFC 9112 section 5) and the empty line.
 fn put_fields<S: Sink>(sink: &mut S, status: StatusCode, length: usize) -> Result<(), Refused>
     ensures { OnOk result (S.puts sink.old (fields status length) sink.new) }
 {
@@ -184,7 +184,8 @@ impl<'a> Source for Message<'a> {
 
     ghost bytes = { message_bytes };
 
-    /// The body is put twice, and counted the first time.
+    /// The body is put twice: first to count its bytes for Content-Length, then to the sink. So a reply needs no
+    /// memory, and a request that was given up for want of memory is still answered.
     fn put_into<S: Sink + Drop>(&self, sink: S) -> Result<S, Refused> {
         let Some(length) = length_of(&self.body) else {
             return Err(Refused);
@@ -196,7 +197,7 @@ impl<'a> Source for Message<'a> {
     }
 }
 
-/// The body of a reply alone, as compact JSON.
+/// Returns the body of a reply as compact JSON. Fails if the memory doesn't suffice.
 pub fn body_text(alloc: Global, reply: &Reply) -> Result<String, AllocError>
     ensures { IfOk result (λ s. string_bytes s ≡ spec.body_text reply.now) }
 {
@@ -207,11 +208,11 @@ pub fn body_text(alloc: Global, reply: &Reply) -> Result<String, AllocError>
     }
 }
 
-/// The bytes of a reply (RFC 9112 section 4).
+/// Returns the bytes of a reply (RFC 9112 section 4). Fails if the memory doesn't suffice.
 pub fn reply_bytes(alloc: Global, reply: &Reply) -> Result<Vec<u8>, AllocError>
     ensures { IfOk result (λ v. v.items ≡ spec.reply_text reply.now) }
 {
-    // Written out here, as the checker has to be told the type of the body.
+    // written out here because the prover needs the type of the body
     let message = Message {
         status: status(reply),
         body: Body::Answer(reply),
@@ -219,7 +220,7 @@ pub fn reply_bytes(alloc: Global, reply: &Reply) -> Result<Vec<u8>, AllocError>
     bytes_of(alloc, &message)
 }
 
-/// The bytes that tell a fault, none where it has no status.
+/// Returns the bytes of a fault, and none if it has no status. Fails if the memory doesn't suffice.
 pub fn fault_bytes(alloc: Global, fault: WireFault) -> Result<Vec<u8>, AllocError>
     ensures { IfOk result (λ v. v.items ≡ spec.fault_text fault) }
 {
@@ -229,7 +230,7 @@ pub fn fault_bytes(alloc: Global, fault: WireFault) -> Result<Vec<u8>, AllocErro
     }
 }
 
-/// Writes the bytes of a reply, in pieces; takes no memory.
+/// Writes the bytes of a reply, in pieces. Takes no memory.
 pub(crate) fn write_reply<W: Write>(writer: &mut W, reply: &Reply) -> Result<(), Refused>
     ensures { OnOk result (Appends (W.contents writer.old) (W.contents writer.new)
         (spec.reply_text reply.now)) }
@@ -237,7 +238,7 @@ pub(crate) fn write_reply<W: Write>(writer: &mut W, reply: &Reply) -> Result<(),
     write_from(writer, &Message::of_reply(reply))
 }
 
-/// Writes the bytes that tell a fault, in pieces; takes no memory.
+/// Writes the bytes of a fault, in pieces. Takes no memory.
 pub(crate) fn write_fault<W: Write>(writer: &mut W, fault: WireFault) -> Result<(), Refused>
     ensures { OnOk result (Appends (W.contents writer.old) (W.contents writer.new)
         (spec.fault_text fault)) }

@@ -15,7 +15,7 @@ use hub_core::{
 };
 use std::alloc::Global;
 
-/// Where the parameters of a route stand.
+/// Where the parameters of a route are.
 #[derive(Clone, Copy, Drop)]
 pub(crate) enum Place {
     Query,
@@ -43,7 +43,8 @@ fn query_bytes(query: Option<&str>) -> &[u8]
     }
 }
 
-/// The form that the parameters are read from.
+/// Returns the form with the parameters. Fails with `BadBody` if a body is there that isn't allowed, or a query (`?`
+/// alone is one).
 #[tactic(auto, unfolding(crate::specs::Requests::form_at))]
 fn form_at<'a>(
     place: Place,
@@ -108,7 +109,7 @@ fn read_explain(alloc: Global, pairs: &Parameters<'_>) -> Result<Request, Reques
     }))
 }
 
-/// How far an incident reaches, beside other parameters.
+/// The distribution of a Post or a Replace, which have other parameters too.
 #[tactic(auto, unfolding(crate::specs::Requests::distribution_in))]
 fn read_distribution(alloc: Global, pairs: &Parameters<'_>) -> Result<Distribution, RequestFault>
     ensures { Yields result (spec.distribution_in pairs.now) }
@@ -225,7 +226,7 @@ fn read_withdraw(
     }))
 }
 
-/// What is posted to the incident of a number.
+/// The request of a POST to a part of the incident of this number.
 #[tactic(auto, unfolding(crate::specs::Requests::incident_request))]
 fn read_incident_request(
     alloc: Global,
@@ -290,7 +291,7 @@ fn read_arrangement(pairs: &Parameters<'_>) -> Result<CircleCommand, RequestFaul
     Ok(CircleCommand::Arrange { org, handling })
 }
 
-/// A name, with no parameter beside it.
+/// The name, with no parameter beside it.
 #[tactic(auto, unfolding(crate::specs::Requests::name_alone))]
 fn read_name(alloc: Global, pairs: &Parameters<'_>) -> Result<Text, RequestFault>
     ensures { Yields result (spec.name_alone pairs.now) }
@@ -299,7 +300,7 @@ fn read_name(alloc: Global, pairs: &Parameters<'_>) -> Result<Text, RequestFault
     pairs.mandatory_text(alloc, "name")
 }
 
-/// What is posted to a collection.
+/// The command of a POST to a collection.
 #[tactic(auto, unfolding(crate::specs::Requests::circle_command))]
 fn read_circle_command(
     alloc: Global,
@@ -346,7 +347,7 @@ fn read_active(group: u32, pairs: &Parameters<'_>) -> Result<CircleCommand, Requ
     Ok(CircleCommand::GroupActive { group, active })
 }
 
-/// The command, with no parameter beside it.
+/// The command, if there is no parameter. The body may be empty or `&`; any pair is BadBody, also `=`.
 fn without_parameter(
     pairs: &Parameters<'_>,
     command: CircleCommand,
@@ -357,7 +358,7 @@ fn without_parameter(
     Ok(command)
 }
 
-/// What is posted to the organisation, person, community or group of a number.
+/// The command of a POST to a part of the organisation, person, community or group of this number.
 #[tactic(auto, unfolding(crate::specs::Requests::part_command))]
 fn read_part_command(
     change: PartChange,
@@ -454,7 +455,7 @@ fn read_request_in(
     }
 }
 
-/// The request that a method, a target and a body ask.
+/// The request of a method, a target and a body.
 #[tactic(auto, unfolding(crate::specs::Requests::request_by))]
 pub(crate) fn read_request(
     alloc: Global,

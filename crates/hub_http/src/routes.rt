@@ -1,4 +1,4 @@
-//! Which route a method and a target have.
+//! The route of a method and a target.
 ghost use Rattle.std.specs.Prelude.{◌≡◌, ℕ, List, [], map, fold, Ok, IfOk, IfErr, OnOk, option_copied, true};
 ghost use Rattle.std.specs.List.{before_first, after_first};
 ghost use Rattle.matchit.specs.Route.{parse_route};
@@ -73,7 +73,7 @@ pub(crate) enum Resource {
     OfIncident(IncidentChange),
 }
 
-/// What is asked, before its parameters are read; with the number in the path.
+/// A request before its parameters are read, with the number in its path.
 #[derive(Clone, Copy, Drop)]
 pub(crate) enum Route {
     WhoAmI,
@@ -90,7 +90,7 @@ pub(crate) enum Route {
     OfIncident(IncidentChange, u32),
 }
 
-/// The patterns of the paths, each with what it names.
+/// The patterns of the paths, each with the resource that it names.
 const ENTRIES: [(&str, Resource); 30] = [
     ("/me", Resource::Me),
     ("/me/groups", Resource::MyGroups),
@@ -169,7 +169,7 @@ const ENTRIES: [(&str, Resource); 30] = [
     ),
 ];
 
-/// Puts in one more pattern.
+/// Adds one pattern.
 fn add(router: &mut Router<Resource>, pattern: &str, resource: Resource) -> Result<(), InsertError>
     ensures added { OnOk result (router.new ≡ spec.with_entry router.old (pattern.now, resource)) }
     ensures fault { spec.has_room (parse_route pattern.now) router.old ≡ true →
@@ -178,7 +178,7 @@ fn add(router: &mut Router<Resource>, pattern: &str, resource: Resource) -> Resu
     router.insert(pattern, resource)
 }
 
-/// The router of these patterns.
+/// Makes the router of these patterns.
 fn router_of(alloc: Global, entries: &[(&str, Resource)]) -> Result<Router<Resource>, InsertError>
     ensures all { IfOk result (λ r. r ≡ fold spec.with_entry [] (map entry_view entries.now)) }
     ensures fault { spec.take_all [] (map entry_view entries.now) ≡ true →
@@ -191,7 +191,8 @@ fn router_of(alloc: Global, entries: &[(&str, Resource)]) -> Result<Router<Resou
     Ok(router)
 }
 
-/// The router of all the paths. The patterns do not conflict, so only memory can be wanting.
+/// Makes the router of all paths. Fails only for want of memory: that the patterns are well formed and don't conflict
+/// is computed in its proof.
 #[tactic(auto, unfolding(crate::specs::Routes::table))]
 fn router(alloc: Global) -> Result<Router<Resource>, InsertError>
     ensures all { IfOk result (λ r. r ≡ spec.table) }
@@ -200,10 +201,11 @@ fn router(alloc: Global) -> Result<Router<Resource>, InsertError>
     router_of(alloc, &ENTRIES)
 }
 
-/// What a path names.
+/// Returns the resource that a path names. The path is compared as it came: no percent escape in it is decoded.
 fn read_resource(alloc: Global, path: &str) -> Result<Option<Resource>, RequestFault>
     ensures { Yields result (Ok (spec.resource_at path.now)) }
 {
+    // made for each whole head, which costs some 32 µs, as nothing is kept between two requests
     let Ok(router) = router(alloc) else {
         return Err(RequestFault::NoMemory);
     };
@@ -228,7 +230,7 @@ fn read_verb(name: &str) -> Verb
     }
 }
 
-/// What stands behind the first slash.
+/// The text after its first slash.
 fn behind_slash(text: &str) -> &str
     ensures { result.now ≡ after_first spec.is_slash text.now }
 {
@@ -238,7 +240,7 @@ fn behind_slash(text: &str) -> &str
     }
 }
 
-/// What stands before the first slash.
+/// The text before its first slash.
 fn before_slash(text: &str) -> &str
     ensures { result.now ≡ before_first spec.is_slash text.now }
 {
@@ -248,7 +250,8 @@ fn before_slash(text: &str) -> &str
     }
 }
 
-/// The part of a path behind its second slash, up to the third.
+/// The part of a path between its second slash and its third. Each pattern with a number has it there; the router
+/// promises its own parameter only if all parts are text.
 fn part_of(path: &str) -> &str
     ensures { result.now ≡ spec.second_part path.now }
 {
@@ -323,7 +326,7 @@ fn route_at(verb: Verb, resource: Option<Resource>, path: &str) -> Result<Route,
     }
 }
 
-/// The route of a method at a path.
+/// Returns the route of a method at a path.
 pub(crate) fn read_route(alloc: Global, method: &str, path: &str) -> Result<Route, RequestFault>
     ensures { Yields result
         (spec.route_at (spec.verb_of method.now) (spec.resource_at path.now) path.now) }
@@ -332,7 +335,7 @@ pub(crate) fn read_route(alloc: Global, method: &str, path: &str) -> Result<Rout
     route_at(read_verb(method), resource, path)
 }
 
-/// The parts of a target before and behind its first question mark.
+/// The parts of a target before and after its first question mark.
 pub(crate) fn target_parts(target: &str) -> (&str, Option<&str>)
     ensures path { result.0.now ≡ spec.path_of target.now }
     ensures query { option_copied result.1 ≡ spec.query_of target.now }

@@ -1,4 +1,4 @@
-//! One connection: a request is read, answered, and the reply is written.
+//! Serving one connection: a request is read and answered, and the reply is written.
 ghost use Rattle.std.specs.Prelude.{◌≡◌, ◌⊎◌, ◌≤◌, IfOk, IfErr};
 ghost use Rattle.std.specs.Io.KnownBytes.{IsAtEnd};
 ghost use Rattle.hub_http.specs.Serving.{as_gather, Extends, Gathers, Replies, Steps, Serves};
@@ -13,12 +13,12 @@ use std::alloc::Global;
 use std::io::{Read, Write};
 use thiserror::Error;
 
-/// What was done for a connection.
+/// The outcome of a connection that was served to its end.
 #[derive(Clone, Copy, Debug, PartialEq, Eq, Drop)]
 pub enum Served {
-    /// The request was answered, and the reply is written.
+    /// The request was answered, and the reply was written.
     Answered,
-    /// The bytes have this fault, which is told to the peer; nothing was asked of the hub.
+    /// The bytes have this fault, which was written as the reply; nothing was asked of the hub.
     WireRefused(WireFault),
 }
 
@@ -31,7 +31,7 @@ pub enum ServeFault {
     /// A read failed; nothing was asked of the hub, and nothing was written.
     #[error("a read failed")]
     ReadFailed,
-    /// A write failed. A change may stand that the caller wasn't told of.
+    /// A write failed. A change may have been made whose reply the caller doesn't get.
     #[error("a write failed")]
     WriteFailed,
     /// The memory didn't suffice to read the request; nothing was asked of the hub, and nothing was written.
@@ -48,13 +48,14 @@ pub(crate) enum GatherFault {
     NoMemory,
 }
 
-/// How many reads a request may take: as many as the bytes of a head and a body at their limits.
+/// How many reads a request may take: one for each byte of a head and a body at their limits.
 const READ_LIMIT: u32 = HEAD_LIMIT as u32 + BODY_LIMIT;
 
-/// How many bytes a read may give.
+/// How many bytes a read may return.
 const PIECE: usize = 16_384;
 
-/// Reads once, by way of the piece, and puts what comes behind the bytes.
+/// Reads once into the piece, and appends what came to the bytes. Returns how many came. A read that was interrupted
+/// fails like any other.
 fn read_more<R: Read>(
     reader: &mut R,
     piece: &mut [u8; PIECE],
@@ -84,8 +85,7 @@ fn as_gather_fault(fault: WireFault) -> GatherFault
     }
 }
 
-/// Reads until a request and its body are there, or a fault. The bytes are looked at again only where as many have come as
-/// were wanted, or where the peer has ended.
+/// Reads until a request and its body are there, or a fault.
 fn gather<R: Read>(alloc: Global, reader: &mut R) -> Result<(Key, Request), GatherFault>
     ensures { Gathers (R.remaining reader.old) (R.remaining reader.new) result }
 {
@@ -98,6 +98,8 @@ fn gather<R: Read>(alloc: Global, reader: &mut R) -> Result<(Key, Request), Gath
             Err(GatherFault::NoMemory) => return Err(GatherFault::NoMemory),
             Err(_) => return Err(GatherFault::ReadFailed),
         };
+        // The bytes are parsed again only when as many are there as were wanted, or at the end. While the head is open
+        // one more byte is wanted, so a slow peer costs at most HEAD_LIMIT parses of HEAD_LIMIT bytes.
         if count != 0 && bytes.len() < wanted {
             continue;
         }
@@ -148,9 +150,11 @@ fn reply_to<W: Write, Sh: Shelf>(
     }
 }
 
-/// Serves one connection: reads one request, asks the hub at this moment (in seconds since 1970), and writes the reply, in
-/// pieces and without memory of its own: the caller of a request that is given up for want of memory reads `F2`. It reads at
-/// most as many times as a head and a body may have bytes; a reader that still gives bytes then is ReadFailed.
+/// Serves one connection: reads one request, asks the hub at this moment (in seconds since the beginning of 1970, UTC),
+/// and writes the reply. What the hub did is promised only if its store has returned what was written. The reply is
+/// written in pieces without memory of its own, so the caller of a request that is given up for want of memory reads
+/// `F2`. It reads at most as many times as a head and a body may have bytes; a reader that returns more fails with
+/// `ReadFailed`.
 #[tactic(auto, using(crate::proofs::Replied::serves_reply))]
 pub fn serve_one<R: Read, W: Write, Sh: Shelf>(
     alloc: Global,

@@ -1,4 +1,4 @@
-//! What the text of a parameter spells.
+//! Reading the texts of parameters.
 ghost use Rattle.std.specs.Prelude.{◌≡◌, ℕ, List, Ok, length, codes};
 ghost use Rattle.std.specs.List.{list_all};
 ghost use Rattle.std.specs.Char.{is_ascii_digit};
@@ -19,7 +19,7 @@ pub(crate) fn has_digits_alone(text: &[u8]) -> bool
     text.iter().all(|b| b.is_ascii_digit())
 }
 
-/// Whether a text has decimal digits alone, the first of several no zero.
+/// Whether a text is decimal digits without a leading zero.
 fn is_numeral(text: &[u8]) -> bool
     ensures { result ≡ spec.is_numeral text.now }
 {
@@ -32,7 +32,7 @@ fn is_numeral(text: &[u8]) -> bool
     true
 }
 
-/// A number below 2^32 in decimal digits, without a leading zero.
+/// Reads a number below 2^32 in decimal digits without a leading zero.
 #[tactic(auto, unfolding(crate::specs::Spelling::number))]
 pub(crate) fn read_number(text: &str) -> Result<u32, RequestFault>
     ensures { Yields result (spec.number text.now) }
@@ -46,7 +46,7 @@ pub(crate) fn read_number(text: &str) -> Result<u32, RequestFault>
     }
 }
 
-/// The moment that a text says.
+/// Reads a moment, as policy does.
 #[tactic(auto, unfolding(crate::specs::Spelling::moment))]
 pub(crate) fn read_moment(text: &str) -> Result<i64, RequestFault>
     ensures { Yields result (spec.moment text.now) }
@@ -107,7 +107,7 @@ pub(crate) fn read_handling(text: &str) -> Result<Handling, RequestFault>
     }
 }
 
-/// The bytes of a digest in 64 hexadecimal digits.
+/// Reads the 32 bytes of a digest from 64 hexadecimal digits.
 #[tactic(auto, unfolding(crate::specs::Spelling::digest))]
 pub(crate) fn read_digest(text: &str) -> Result<[u8; 32], RequestFault>
     ensures { Yields result (spec.digest text.now) }
@@ -119,7 +119,7 @@ pub(crate) fn read_digest(text: &str) -> Result<[u8; 32], RequestFault>
     }
 }
 
-/// What stands before and behind the first colon.
+/// The text before its first colon and after it.
 #[tactic(auto, unfolding(crate::specs::Spelling::parts))]
 fn parts_of(text: &str) -> Result<(&str, &str), RequestFault>
     ensures { YieldsAs (λ p. (p.0.now, p.1.now)) result (spec.parts text.now) }
@@ -136,7 +136,7 @@ pub(crate) fn text_of(alloc: Global, text: &str) -> Result<Text, RequestFault>
     Ok(Text::of(alloc, text)?)
 }
 
-/// A gate, from `LEVEL:GROUP:POINTER`.
+/// Reads a gate from `LEVEL:GROUP:POINTER`.
 #[tactic(auto, unfolding(crate::specs::Spelling::gate))]
 fn read_gate(alloc: Global, text: &str) -> Result<WantedGate, RequestFault>
     ensures { Yields result (spec.gate text.now) }
@@ -145,12 +145,13 @@ fn read_gate(alloc: Global, text: &str) -> Result<WantedGate, RequestFault>
     let level = read_number(level)?;
     let (group, pointer) = parts_of(rest)?;
     let group = read_number(group)?;
+    // only inside a gate; the parameter `group=0` names a group, which is missing
     let group = if group == 0 { None } else { Some(group) };
     let path = text_of(alloc, pointer)?;
     Ok(WantedGate { level, group, path })
 }
 
-/// The gates that these texts spell.
+/// Reads a gate from each of these texts.
 pub(crate) fn read_gates(alloc: Global, found: &[&str]) -> Result<WantedGates, RequestFault>
     ensures { Yields result (spec.gates (texts found.now)) }
 {

@@ -16,18 +16,18 @@ use hub::Key;
 use hub_core::Request;
 use std::alloc::Global;
 
-/// What is known of a request of which some bytes have come.
+/// What is known of a request while its bytes come.
 #[derive(Drop)]
 pub(crate) enum Arrival {
-    /// So many bytes are wanted at least.
+    /// At least so many bytes are wanted.
     Wants(usize),
     Asks(Key, Request),
     Refused(WireFault),
 }
 
-/// The key and the request that the bytes of an HTTP/1.x request ask, or the first fault that they have. Bytes behind
-/// the body don't count. Takes memory for what it gives and for reading it: want of it is NoMemory, in place of any
-/// other answer.
+/// Returns the key and the request that the bytes of an HTTP/1.x request ask, or fails with their first fault. Bytes
+/// after the body are ignored. Takes memory for its result and for reading; fails with `NoMemory` in place of any other
+/// answer if that doesn't suffice.
 pub fn request_of(alloc: Global, bytes: &[u8]) -> Result<(Key, Request), WireFault>
     ensures { Answers bytes.now result }
 {
@@ -38,7 +38,7 @@ pub fn request_of(alloc: Global, bytes: &[u8]) -> Result<(Key, Request), WireFau
     }
 }
 
-/// What the parts of a head and the bytes behind it ask.
+/// What a whole head with the bytes after it asks.
 #[tactic(auto, unfolding(crate::specs::Wire::asked_by))]
 fn after_head(
     alloc: Global,
@@ -93,6 +93,7 @@ pub(crate) fn read_wire(alloc: Global, bytes: &[u8]) -> Arrival
     ensures { Arrives bytes.now result }
 {
     let front = front_of(bytes);
+    // room for a usual head, without taking memory
     let mut headers = [EMPTY_HEADER; FIELD_LIMIT];
     let mut head = httparse::Request::new(&mut headers);
     match head.parse(front) {
@@ -109,7 +110,7 @@ pub(crate) fn read_wire(alloc: Global, bytes: &[u8]) -> Arrival
     }
 }
 
-/// A head that goes on.
+/// A head that isn't whole yet.
 fn open_head(bytes: &[u8]) -> Arrival
     requires none { HasNoRequest (window bytes.now) }
     requires may { MayBecomeRequest (window bytes.now) }
@@ -122,7 +123,8 @@ fn open_head(bytes: &[u8]) -> Arrival
     }
 }
 
-/// A head with more than [`FIELD_LIMIT`] fields, or one that goes on, or none.
+/// A head with more than [`FIELD_LIMIT`] fields: HeadTooLong if it is whole, BadHead if it is malformed, and otherwise
+/// one that isn't whole yet.
 fn read_many_fields(alloc: Global, bytes: &[u8]) -> Arrival
     requires { RequestOverflows FIELD_LIMIT (window bytes.now) }
     ensures { Arrives bytes.now result }
