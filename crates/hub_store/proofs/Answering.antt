@@ -1,4 +1,4 @@
--- A query in a transaction that is rolled back answers of the last commit.
+-- A query in a transaction that is rolled back shows the last commit.
 use Rattle.std.proofs.Common.{◌≡◌, List, ℕ, inl, Result, Ok, Err, IfOk, OnOk, IsErrAnd, IsTrue, true, false, ◌∙◌}
 use Rattle.sqlite_value.specs.Order.{Row}
 use Rattle.sqlite_sql.specs.Query.{Query, IsAnswer}
@@ -36,7 +36,7 @@ if_up : {T : Type 0} (r : Result T Error) (Up : Type 0) (P : T → Type 0) → O
 if_up (Ok x) Up P up f = f up
 if_up (Err e) Up P up f = tt
 
--- what couldn't be read is no answer
+-- a failed read is no answer
 pub unread : {T : Type 0} (r : Result T Error) (e : Error) (P : T → Type 0) → IsErrAnd r (λ y. y ≡ e) → IfOk r P
 unread (Ok x) e P is = absurd is
 unread (Err y) e P is = tt

@@ -1,4 +1,4 @@
--- The query of an incident's lines, whatever the schema is: it returns nothing of a write, and reads no clock.
+-- The query of an incident's lines under any schema: it returns nothing of a write, and reads no clock.
 use Rattle.std.proofs.Common.{◌≡◌, ℕ, ◌+◌, List, [], Bool, true, false, cond, None, Ok, Err, refl, sym, subst, ◌∙◌}
 use Rattle.sqlite_schema.specs.declared.schema.Schema.{Schema}
 use Rattle.sqlite_ast.specs.declared.Select as written

@@ -29,7 +29,7 @@ use Rattle.hub_store.specs.Versions.{version_text}
 use Rattle.hub_store.proofs.Forms.{one_table, program}
 use Rattle.hub_store.proofs.Statements.{same_ok}
 
--- a SELECT has no RETURNING, and reads no clock where it names none
+-- a SELECT has no RETURNING, and reads no clock if it names none
 pub bare_one : (names formats : List (List ℕ)) (start stop tail : ℕ) (x : Checked Command) (c : Compiled)
     → and_then (and_then (and_then x (λ k. Ok (k, None))) (λ found. Ok (formats, found))) (λ (plan : List (List ℕ) × (Command × Option Returning)). Ok (record { command = plan.1.0; returning = plan.1.1; names = names; formats = plan.0; start = start; end = stop; tail = tail })) ≡ Ok c
     → (c.returning ≡ None) × (c.formats ≡ formats) × (c.names ≡ names) × (c.tail ≡ tail) × (x ≡ Ok c.command)
@@ -47,31 +47,31 @@ ok_one names formats start stop tail (Ok j) k e =
     ap made (same_ok e)
 ok_one names formats start stop tail (Err s) k e = absurd cc
 
--- the SELECT that the text is
+-- the SELECT of the text
 unfoldable the_select : (s : written.Select) × (and_then (first version_text) (λ p. Ok p.statement) ≡ Ok (statement.Select s))
 unfolding first everything
 the_select = (_, refl)
 
--- what it selects, with its LIMIT and no OFFSET
+-- the columns that it selects, with its LIMIT and no OFFSET
 abbrev the_core : Core
 the_core = (written.out-Select the_select.0).first
 
 abbrev the_page : Term × Term
 the_page = (lit (Int (pos 2)), lit (Int (pos 0)))
 
--- what follows once its FROM and its columns are read
+-- what follows after its FROM and its columns are read
 after : Schema → Checked Shown → Checked Command
 after schema x =
     and_then (and_then (or_view (query_to 15) (viewing (query_to 15) schema the_core [] the_page 63) schema schema x []) (λ (r : (Shown × Schema) × List Let). Ok (r.0.0, r.1)))
     (λ (q : Shown × List Let). and_then (as_typed schema q.1 q.0.0) (λ p. Ok (Select p q.0.1)))
 
--- the command is what follows, and the text is bare
+-- the command is what follows, and the text has nothing else
 by_parts : (schema : Schema) (c : Compiled) → compiled schema version_text ≡ Ok c
     → (c.returning ≡ None) × (c.formats ≡ []) × (c.names ≡ []) × (c.tail ≡ length version_text) × (after schema (named schema the_core [] the_page) ≡ Ok c.command)
 unfolding compiled the_select after everything
 by_parts schema c e = bare_one _ _ _ _ _ _ c e
 
--- where a command follows, the text is compiled
+-- if a command follows, the text is compiled
 compiles : (schema : Schema) (k : Command) → after schema (named schema the_core [] the_page) ≡ Ok k → (c : Compiled) × (compiled schema version_text ≡ Ok c)
 unfolding compiled the_select after everything
 compiles schema k e = (_, ok_one _ _ _ _ _ _ k e)
@@ -79,7 +79,7 @@ compiles schema k e = (_, ok_one _ _ _ _ _ _ k e)
 pub bare_anywhere : (schema : Schema) (c : Compiled) → compiled schema version_text ≡ Ok c → (c.returning ≡ None) × (c.formats ≡ []) × (c.names ≡ []) × (c.tail ≡ length version_text)
 bare_anywhere schema c e = let parts = by_parts schema c e in (parts.0, parts.1, parts.2, parts.3)
 
--- a column of the rows of a tree, of two rows at most
+-- a column of the rows of a tree, of at most two rows
 abbrev pub column_query : ℕ → ℕ → Query
 column_query tree place = record (one_table tree [] (col 1 place ∷ [])) { limit = lit (Int (pos 2)) }
 
@@ -112,7 +112,7 @@ typed_command : (schema : Schema) (tree place : ℕ) (heads : List (List ℕ)) (
 unfolding after as_typed
 typed_command schema tree place heads hows is = when_typed _ _ heads _ is
 
--- read as that query, it is the command of that query
+-- if it is read as that query, it is the command of that query
 commanded : (schema : Schema) (x : Checked Shown) (tree place : ℕ) (heads : List (List ℕ)) (hows : List (Option Collation)) (k : Command) → x ≡ Ok (column_shown tree place heads hows) → after schema x ≡ Ok k
     → k ≡ Select (program (column_query tree place)) heads
 unfolding after as_typed
@@ -120,7 +120,7 @@ commanded schema x tree place heads hows k is e = unless_refused _ _ heads _ k (
 
 module _ (schema : Schema) (at place : ℕ) (table : Table) (column : Column) (has : table_named schema (codes "hub") ≡ Some at) (listed : slice_get schema.tables at ≡ Some table)
     (called : column_named table (codes "version") ≡ Some place) (there : slice_get table.columns place ≡ Some column) where
-  -- the one table is found first, and in it the one column; a view of the name isn't looked for
+  -- the one table is found first, and in it the one column; a view of that name isn't looked up
   shown_is : named schema the_core [] the_page ≡ Ok (column_shown table.tree (place_of table place) (column.name ∷ []) ((declared table place column).collation ∷ []))
   unfolding the_select everything
   shown_is = simp (has, listed, called, there)
@@ -129,10 +129,10 @@ module _ (schema : Schema) (at place : ℕ) (table : Table) (column : Column) (h
   pub asks : (c : Compiled) → compiled schema version_text ≡ Ok c → c.command ≡ Select (program (column_query table.tree (place_of table place))) (column.name ∷ [])
   asks c e = commanded schema _ _ _ _ _ c.command shown_is (by_parts schema c e).4
 
-  -- it is compiled where that query is typed
+  -- it is compiled if that query is typed
   pub reads : accepts_program schema [] (column_query table.tree (place_of table place)) [] ≡ true → (c : Compiled) × (compiled schema version_text ≡ Ok c)
   reads is = compiles schema _ (subst (λ y. after schema y ≡ Ok (Select (program (column_query table.tree (place_of table place))) (column.name ∷ []))) (sym shown_is) (typed_command schema _ _ _ _ is))
 
-  -- and typed where it is compiled
+  -- and typed if it is compiled
   pub typed : (c : Compiled) → compiled schema version_text ≡ Ok c → accepts_program schema [] (column_query table.tree (place_of table place)) [] ≡ true
   typed c e = command_typed schema _ _ _ _ _ c.command shown_is (by_parts schema c e).4

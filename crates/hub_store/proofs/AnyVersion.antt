@@ -1,4 +1,4 @@
--- The query for the version, whatever the schema is.
+-- The query for the version, under any schema.
 use Rattle.std.proofs.Common.{◌≡◌, ◌≢◌, ◌≤◌, ◌⊎◌, inl, inr, ℕ, List, [], length, map, append-nil, Bool, true, false, cond, IsSome, is_some, Option, Some, None, Ok, Err, Result, IfOk, IfErr, IfSome, refl, sym, ap, subst, ◌∙◌, arith}
 use Rattle.std.proofs.lemmas.Result.{IfOk-weaker}
 use Rattle.sqlite_value.specs.Order.{Row, column}
@@ -54,7 +54,7 @@ versions_same old new rows h =
     let tables = from_tables old.now.schema h.0 h.1.is in
     plain_shown old new version_text h.0 _ rows h.0.returning (bare_anywhere old.now.schema h.0 tables.1).0 h.2
 
--- the rows of the query tell the version, where there is the column
+-- the rows of the query give the version, if there is the column
 pub told_by_rows : (old new : State) (has : Bool) (rows : List Row) (r : Result (Option ℕ) Error) → has ≡ true → has ≡ is_some (version_column old.now.schema) → Shown version_text [] old new rows → IfOk r (λ found. found ≡ only_u32 (map (λ (r : Row). column r 0) rows))
     → IfOk r (λ found. found ≡ version_of old.now)
 told_by_rows old new has rows r up is shown found =
@@ -62,7 +62,7 @@ told_by_rows old new has rows r up is shown found =
     let told = version_told old.now it.0 rows (sym is ∙ up) (from_tables old.now.schema it.0 it.1).1 it.2 in
     IfOk-weaker r _ _ (λ n same. same ∙ told) found
 
--- what holds once the query has answered holds of a version that is found
+-- what holds after the query answered holds of a version that is found
 pub once_told : (P : Type 0) (r : Result (Option ℕ) Error) → P → IfOk r (λ found. IfSome found (λ _. P))
 once_told P (Ok (Some n)) p = p
 once_told P (Ok None) p = tt

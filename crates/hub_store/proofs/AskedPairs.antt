@@ -47,7 +47,7 @@ seen_kind kind.Arrangement test d = kind_alone (codes "arrangement") test 4 (pai
 abbrev pub Below : Pair → Pair → Type 0
 Below p q = pair_cmp p.0 q.0 ≡ Less
 
--- each set stands in the order of its two numbers
+-- each set is in the order of its two numbers
 pub pairs_rise : (k : PairKind) (d : Directory) → circle.IsSound d → IsAscending Below (pairs_of k d)
 pairs_rise kind.Client d sound = ascending-map Below client_pair d.clients (rising _ d.clients sound.clients.rising)
 pairs_rise kind.Membership d sound = ascending-map Below membership_pair d.memberships (rising _ d.memberships sound.memberships.rising)
@@ -55,7 +55,7 @@ pairs_rise kind.Connection d sound = ascending-map Below connection_pair d.conne
 pairs_rise kind.GroupMember d sound = ascending-map Below group_member_pair d.group_members (rising _ d.group_members sound.group_members.rising)
 pairs_rise kind.Arrangement d sound = ascending-map Below arrangement_pair d.arrangements (rising _ d.arrangements sound.arrangements.rising)
 
--- two numbers stand once
+-- two numbers are in a set once
 pub once_between : (a b : ℕ) (ps : List Pair) → IsAscending Below ps → Once (is_between a b) ps
 once_between a b [] up = tt
 once_between a b (p ∷ ps) up = (all_weaker (Below p) (λ q. is_between a b p ≡ true → is_between a b q ≡ false) (λ q h is. false_from_ne_true (is_between a b q) (apart q h (and_parts (p.0.0 == a) (p.0.1 == b) is))) ps up.0, once_between a b ps up.1)

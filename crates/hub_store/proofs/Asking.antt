@@ -1,4 +1,4 @@
--- What a query that was prepared and has shown its rows says under the schema of the hub.
+-- What a query that was prepared and showed its rows says, under the schema of the hub.
 use Rattle.std.proofs.Common.{◌≡◌, ℕ, List, false, ap, subst, ◌∙◌}
 use Rattle.sqlite_value.specs.Order.{Row}
 use Rattle.sqlite_sql.specs.Query.{Query, IsAnswer}

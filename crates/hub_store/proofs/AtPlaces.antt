@@ -1,4 +1,4 @@
--- Rows that stand at the places 1, 2, 3 and so on, and the lines that they show.
+-- Rows with the places 1, 2, 3 and so on, and the lines that they show.
 use Rattle.std.proofs.Common.{◌≡◌, ◌+◌, ℕ, suc, List, [], ◌∷◌, ◌++◌, map, length, refl, sym, ap, subst, ◌∙◌, arith}
 use Rattle.std.proofs.lemmas.List.{map-append, length-append}
 use Rattle.sqlite_value.specs.Order.{Row}
@@ -24,7 +24,7 @@ without_places place (l ∷ ls) = ap (λ rest. l ∷ rest) (without_places (suc 
 pub next_place : (place : ℕ) (ls more : Lines) (line : Line) → place ≡ suc (length ls) → more ≡ ls ++ line ∷ [] → place + 1 ≡ suc (length more)
 next_place place ls more line here is = omega (arith, here, ap (λ (l : Lines). length l) is, length-append ls (line ∷ []))
 
--- one row more, at the next place
+-- one row more, with the next place
 pub placed_more : (rows : List Row) (ls : Lines) (place : ℕ) (row : Row) (line : Line) → place ≡ suc (length ls) → ShowsAll ShowsPlaced rows (placed_from 1 ls) → ShowsPlaced row (record { place = place; line = line })
     → ShowsAll ShowsPlaced (rows ++ row ∷ []) (placed_from 1 (ls ++ line ∷ []))
 placed_more rows ls place row line next all one =
@@ -41,7 +41,7 @@ shown_by (row ∷ rows) (p ∷ ps) h = (h.0.1, shown_by rows ps h.1)
 pub lines_are : (xs ys : Lines) → ShowsAll ShowsPlaced (map placed_shown (placed_from 1 xs)) (placed_from 1 ys) → ys ≡ xs
 lines_are xs ys h = sym (without_places 1 ys) ∙ ap lines_in (all_are placed_shown (placed_from 1 xs) (placed_from 1 ys) (shown_by _ _ h)) ∙ without_places 1 xs
 
--- some rows of it, the first
+-- the first rows of it
 pub first_lines_are : (xs : Lines) (rows others : List Row) (ys : Lines) → rows ++ others ≡ map placed_shown (placed_from 1 xs) → ShowsAll ShowsPlaced rows (placed_from 1 ys) → (more : Lines) × (xs ≡ ys ++ more)
 first_lines_are xs rows others ys is h =
     let found = first_are placed_shown (placed_from 1 xs) rows others (placed_from 1 ys) is (shown_by _ _ h) in

@@ -23,7 +23,7 @@ pub each_row : (Q : Row → Type 0) → ((r : Row) → Q r) → (rows : List Row
 each_row Q each [] = tt
 each_row Q each (r ∷ rows) = (each r, each_row Q each rows)
 
--- tables without a reference refer to nothing that is missing
+-- tables without a reference refer to nothing missing
 pub none_refer : (among : Among) (all ts : List Table) (db : Trees) → Unreferred ts
     → AllByRecursion (λ (t : Table). AllByRecursion (λ row. list_all (λ ref. not (is_among among ref) || has_parent all db row ref) t.references ≡ true) (db t.tree)) ts
 none_refer among all [] db none = tt
@@ -39,7 +39,7 @@ no_work : (f : Table → Reference → Option Work) (ts : List Table) → Unrefe
 no_work f [] none = refl
 no_work f (t ∷ ts) none = ap (λ refs. filter_map (f t) refs ++ flat_map (λ (child : Table). filter_map (f child) child.references) ts) none.0 ∙ no_work f ts none.1
 
--- and a step sets nothing off
+-- and a step triggers nothing
 pub no_works : (schema : Schema) (keys : Keys) → Unreferred schema.tables → (tree : ℕ) (olds news : List Row) → works schema keys 0 tree olds news ≡ []
 no_works schema keys none tree olds news = no_work (work_for schema keys 0 tree olds news) schema.tables none
 
@@ -71,7 +71,7 @@ own_indexes : (table : Table) (tree at next : ℕ) (keys : List (List ℕ)) → 
 own_indexes table tree at next [] is = refl
 own_indexes table tree at next (key ∷ keys) is = and_from _ _ is (own_indexes table tree (at + 1) (next + 1) keys is)
 
--- their indexes are of other tables
+-- their indexes are those of other tables
 pub other_indexes : (tree : ℕ) (ps : List Part) → are_beside tree ps ≡ true → list_all (λ (i : Index). not (i.table == tree)) (flat_map (λ (p : Part). indexes_of p.table) ps) ≡ true
 other_indexes tree [] beside = refl
 other_indexes tree (p ∷ ps) beside =
@@ -80,11 +80,11 @@ other_indexes tree (p ∷ ps) beside =
 
 -- ---- rows that are unique
 
--- among these rows of its table a row clashes in no index
+-- a row conflicts in no index with these rows of its table
 abbrev pub is_unique_in : Schema → Table → List Row → Row → Bool
 is_unique_in schema t rows row = list_all (λ (i : Index). not (guards i t && clashes i.order i.columns rows row)) schema.indexes
 
--- the rows of one tree are exchanged, and are unique; all others stay
+-- the rows of one tree are exchanged and are unique; all others stay
 pub still_unique : (schema : Schema) (db : Trees) (tree : ℕ) (rows : List Row) → ((t : Table) → t.tree ≡ tree → AllByRecursion (λ row. is_unique_in schema t rows row ≡ true) rows) → Keeps Unique schema db → Keeps Unique schema (with_tree db tree rows)
 still_unique schema db tree rows own kept = all schema.tables kept
   where

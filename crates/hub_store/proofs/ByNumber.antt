@@ -1,4 +1,4 @@
--- What a query of a table with numbers finds, and one by a number.
+-- What a query of a table with numbers finds, also by a number.
 use Rattle.std.proofs.Common.{◌≡◌, ℕ, pos, List, [], ◌∷◌, map, filter, find, length, Bool, true, false, cond, not, ◌||◌, ◌==◌, is_some, option_map, Some, refl, ap, subst, ◌∙◌}
 use Rattle.std.specs.List.{list_any}
 use Rattle.std.specs.Option.{option_to_list}
@@ -31,7 +31,7 @@ module _ {X : Type 0} (db : Trees) (tree : ℕ) (row : X → Row) (xs : List X) 
       of_elements row (keeps terms params) (shows project params) q xs rows same
       (seen_through db (holding_by_number tree row xs) (keeps terms params) (shows project params) (keeps terms params) (shows project params) rows (λ r. refl) (λ r. refl) held (selected db tree terms project params rows a))
 
-  -- there is one at most
+  -- there is at most one
   pub found_once : Once q xs → IsHeld db (holding_by_number tree row xs) → IsAnswer (one_table tree terms project) db params rows → IsPermutation (map (λ x. shows project params (row x)) (option_to_list (find q xs))) rows
   found_once once held a = subst (λ l. IsPermutation l rows) (ap (map (λ x. shows project params (row x))) (only_one q xs once)) (found_passing held a)
 
@@ -60,7 +60,7 @@ person_numbered_found db s n rows sound means a =
     subst (λ l. IsPermutation l rows) (as_viewed (λ a. shows project (Int (pos n) ∷ []) (account_row a)) person_in person_shown (λ a. refl) _)
     (one_with_number db person_tree account_row account_number s.directory.accounts (λ x. refl) n project rows (held_of s person_place _ refl means) a sound.directory.accounts.numbered.0)
 
--- an option that is there, and a list that has such an element
+-- an option with a value, and a list with such an element
 pub some_passes : {X Y : Type 0} (view : X → Y) (q : X → Bool) (xs : List X) → is_some (option_map view (find q xs)) ≡ list_any q xs
 some_passes view q [] = refl
 some_passes view q (x ∷ xs) = go (q x) (some_passes view q xs)

@@ -1,4 +1,4 @@
--- Why a statement fails that SQL understands.
+-- Why a statement that SQL understands fails.
 use Rattle.std.proofs.Common.{◌≡◌, ◌≢◌, ◌⊎◌, inl, inr, ℕ, ◌+◌, ◌*◌, ◌^◌, ◌<◌, ◌≤◌, ◌==◌, List, [], length, append-nil, codes, Bool, true, false, not, ◌&&◌, ◌||◌, IsTrue, IsSome, is_some, IsUtf8, nat_lt, nat_le, Option, Some, None, Ok, Err, Result, refl, sym, ap, subst, subst₂, ◌∙◌, arith}
 use Rattle.std.specs.List.{list_all}
 use Rattle.std.proofs.lemmas.Bool.{and_parts, not-true, ltb-true, leb-true, true≢false}
@@ -55,7 +55,7 @@ failed_reason old new e too_big other h = go h.0 h.1 h.2
     go Broken is h = inl (inr (inl h))
     go Unstorable is h = inr h
 
--- a reason that comes up after a call that failed nothing is one of both
+-- a reason that arises after a call without a failure is a reason for both
 pub reason_after : (a b c : State) (Commits : Trees → Type 0) → Survives a b Commits → (IsTrue a.is_open → IsTrue b.is_open) → HasReason b c → HasReason a c
 reason_after a b c Commits s up (inl h) = inl (omega (arith, s.counts, h))
 reason_after a b c Commits s up (inr (inl shut)) = inr (inl (was_shut a.is_open b.is_open up shut))
@@ -65,7 +65,7 @@ reason_after a b c Commits s up (inr (inl shut)) = inr (inl (was_shut a.is_open 
     was_shut false y up shut = refl
 reason_after a b c Commits s up (inr (inr limited)) = inr (inr (subst IsSome s.limit limited))
 
--- more may fail later
+-- later calls may fail too
 pub reason_before : (a b c : State) → b.faults ≤ c.faults → HasReason a b → HasReason a c
 reason_before a b c more (inl h) = inl (omega (arith, more, h))
 reason_before a b c more (inr h) = inr h
@@ -77,7 +77,7 @@ commit_reason old new e inside other (inr ended) = absurd (true≢false (sym ins
 
 -- ---- a text that is one write
 
--- it is one statement with as many parameters, which shows no rows and reads no clock
+-- it is one statement with that number of parameters, which shows no rows and reads no clock
 abbrev pub IsWhole : List ℕ → Row → Result Compiled CompileError → Type 0
 IsWhole sql params (Ok c) = (c.returning ≡ None) × (c.formats ≡ []) × (length params ≡ length c.names) × (nat_le (length sql) c.tail ≡ true)
 IsWhole sql params (Err e) = ⊥
@@ -86,7 +86,7 @@ pub plain_of : (sql : List ℕ) (params : Row) (r : Result Compiled CompileError
 plain_of sql params (Ok c) h = (h.0, h.1)
 plain_of sql params (Err e) h = h
 
--- a write shows nothing, and may stand anywhere in a transaction
+-- a write shows nothing, and may come anywhere in a transaction
 silent_write : (k : Command) → IsWrite k → (is_query k || (is_pragma k || false)) ≡ false
 silent_write (Select q names) write = absurd write
 silent_write (Rows values width names) write = absurd write
@@ -148,7 +148,7 @@ module _ (sql : List ℕ) (params : Row) (old new : State) (schema : Schema) (ha
 same_err : {B E : Type 0} {a b : E} → ◌≡◌ {A = Result B E} (Err a) (Err b) → a ≡ b
 same_err e = cc
 
--- a `Then` that stops does so at its first part, or after it
+-- a `Then` that stops does so in its first part, or after it
 pub stops : {A B : Type 0} (First : Part A) (Rest : A → Type 0) (stop : Option Error) → ((s : Option Error) × First (Err s) × ◌≡◌ {A = Result B (Option Error)} (Err stop) (Err s)) ⊎ ((a : A) × First (Ok a) × Rest a)
     → First (Err stop) ⊎ ((a : A) × First (Ok a) × Rest a)
 stops First Rest stop (inl h) = inl (subst (λ s. First (Err s)) (sym (same_err h.2)) h.1)
@@ -156,19 +156,20 @@ stops First Rest stop (inr h) = inr h
 
 -- ---- CREATE TABLE
 
--- no name is used or reserved, and the table is no larger than may be
+-- no name is used or reserved, and the table isn't larger than allowed
 abbrev pub is_new : Schema → List ℕ → Table → Bool
 is_new schema sql table =
     not (is_used schema table.name) && (list_all (λ (i : Index). not (is_used schema i.name)) (automatics table 0 0 table.uniques) && (not (is_reserved table.name)
     && (nat_lt (next_tree schema + length table.uniques) 65536 && (nat_lt (table_reals table) (2 ^ 64) && (list_all (λ key. nat_lt (index_reals (table_reals table) key) (2 ^ 64)) table.uniques
     && (is_formed table && (is_fit (Text (codes "table")) (Text table.name) (Text table.name) (Text sql) && nat_lt (2 * length table.name + length sql + 200) (10 ^ 9))))))))
 
--- all that unfolds besides, where `is_new` runs
+-- all that unfolds besides when `is_new` runs
 unfoldable pub naming : Unit {0}
 unfolding fits_kind is_free_name begins same_name value_cmp lib.Utf8.encode lib.Ieee.is_nan lib.Ieee.lt
 naming = tt
 
--- the text makes this table under the schema, and nothing is against it: for a schema and a text that are written out each field is `refl`
+-- The text makes this table under the schema, and nothing prevents it. For a schema and a text that are written out
+-- each field is `refl`.
 pub record IsCreation (schema : Schema) (sql : List ℕ) (table : Table) : Type 0 where
   pub command : command_of (understood schema sql) ≡ CreateTable
   pub text : statement_of sql (understood schema sql) ≡ sql
@@ -239,7 +240,7 @@ module _ (schema : Schema) (sql : List ℕ) (table : Table) (it : IsCreation sch
   not_made db has (Some e) (inl h) = absurd (h.0 it.utf8.0)
   not_made db has (Some e) (inr h) = absurd (not_refused h.0 (subst (λ s. RefusesTable s sql h.0) has h.1))
 
-  -- of a table that is made none counts its rows
+  -- no CHECK of a new table counts its rows
   no_sequence : (db after : Database) → db.schema ≡ schema → MakesTable sql db (Ok after) → (stop : Option Error) → ¬ MakesSequence after (Err stop)
   no_sequence db after has made stop h =
       let both : Ok made.table ≡ Ok table = sym made.defined ∙ it.defined in

@@ -174,7 +174,7 @@ takes_lines old new n count h s held =
       fit = held.fit;
     }
 
--- with its row and all lines an incident is there
+-- with its row and all lines the incident is there
 pub with_incident : (db : Database) (i : Incident) (s : core.State) → HoldsBetween (map item_row (items_in (edited (PutIncident i) s).incidents)) (map named_row (edited (PutIncident i) s).incidents) db s → Holds db (edited (PutIncident i) s)
 with_incident db i s between = record { known = between.known; whole = between.whole; means = between.means; fit = record { orgs = between.fit.orgs; accounts = between.fit.accounts; communities = between.fit.communities; groups = between.fit.groups; gates = between.fit.gates } }
 

@@ -70,7 +70,7 @@ pub and_true : (b : Bool) → (b && true) ≡ b
 and_true true = refl
 and_true false = refl
 
--- the test that a WHERE makes of a value
+-- the test of a value in a WHERE
 abbrev pub is_same : Value → Value → Bool
 is_same v w = is_true (binary (Compare Eq Binary) v w)
 

@@ -1,4 +1,4 @@
--- Rows that are put into a table whose rowids count from 1: they get the next ones, behind all.
+-- Rows put into a table whose rowids count from 1: they get the next ones, after all others.
 use Rattle.std.proofs.Common.{◌≡◌, ℕ, ℤ, pos, suc, ◌+◌, ◌+ℤ◌, ◌<◌, ◌||◌, not, List, [], ◌∷◌, ◌++◌, map, fold, drop, length, append-nil, append_assoc, true, false, nat_cmp, refl, sym, ap, ap₂, subst, ◌∙◌, arith}
 use Rattle.std.specs.declared.cmp.Ordering.TheVariants.{Less}
 use Rattle.std.specs.Ordering.{is_eq, match_ordering}
@@ -65,7 +65,7 @@ one_more : (n k : ℕ) (rows : List Row) (new : Row) → AreNumbered n rows → 
 one_more n k [] new counts at is = (is ∙ ap (λ m. Int (pos m)) (at ∙ sym (as_far n)), tt)
 one_more n k (r ∷ rows) new counts at is = (counts.0, one_more (suc n) k rows new counts.1 (at ∙ sym (further n (length rows))) is)
 
--- what becomes of rows that are put
+-- the rows that are put, with their rowids
 pub record PutBehind (before more : List Row) : Type 0 where
   pub news : numbered Chosen before (map bare more) ≡ labelled (suc (length before)) more
   pub all : put_all before (labelled (suc (length before)) more) ≡ before ++ labelled (suc (length before)) more
@@ -95,7 +95,7 @@ put_behind before (r ∷ more) counts =
       counts = subst (AreNumbered 1) joined (subst (λ n. AreNumbered 1 ((before ++ new ∷ []) ++ labelled n more)) at rest.counts);
     }
 
--- past the rowids they are the rows
+-- without the rowids they are the rows
 pub past_labels : (n : ℕ) (rows : List Row) → map (λ (r : Row). drop 1 r) (labelled n rows) ≡ rows
 past_labels n [] = refl
 past_labels n (r ∷ rows) = ap (λ l. r ∷ l) (past_labels (suc n) rows)

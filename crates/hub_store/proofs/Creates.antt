@@ -1,4 +1,4 @@
--- What the statements that make the tables do.
+-- The statements that make the tables.
 use Rattle.std.proofs.Common.{◌≡◌, ℕ, List, [], ◌∷◌, ◌++◌, false, Result, OnOk, IfErr, Ok, IsTrue, None, codes, refl, sym, ap, subst, ◌∙◌}
 use Rattle.std.specs.List.{AllByRecursion}
 use Rattle.sqlite_trees.specs.declared.store.Store as store
@@ -22,7 +22,7 @@ use Rattle.hub_store.proofs.Causes.{IsCreation, naming, plain_of, fails_for_reas
 use Rattle.hub_store.proofs.Statements.{same_ok, went}
 use Rattle.hub_store.proofs.Steps.{created_by}
 
--- a table is there besides, with no row
+-- a table is added without a row
 pub record Made (schema : Schema) (table : Table) (old new : Database) : Type 0 where
   pub schema_is : new.schema ≡ created schema table
   pub whole : IsDatabase new

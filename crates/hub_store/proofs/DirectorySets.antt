@@ -1,4 +1,4 @@
--- What the directory tells, by its pairs.
+-- Queries of the directory, by its pairs.
 use Rattle.std.proofs.Common.{◌≡◌, ℕ, ◌<◌, pos, List, [], ◌∷◌, map, filter, find, Bool, true, false, ◌&&◌, ◌||◌, ◌==◌, is_some, Option, Some, None, option_map, nat_cmp, refl, sym, ap, subst, ◌∙◌, arith}
 use Rattle.std.specs.List.{list_any}
 use Rattle.std.specs.Option.{option_to_list}
@@ -80,7 +80,7 @@ either_way true false = refl
 either_way false true = refl
 either_way false false = refl
 
--- a community is one of an organisation's where the organisation is a member of it
+-- a community is one of an organisation's exactly if the organisation is a member of it
 pub among_communities : (n org : ℕ) (d : Directory) → is_one_of (communities_of org d) n ≡ has_membership n org d
 among_communities n org d =
     any_map (λ m. m == n) (λ (m : Membership). m.community) (filter (λ (m : Membership). m.org == org) d.memberships)

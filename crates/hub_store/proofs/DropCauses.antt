@@ -1,4 +1,4 @@
--- A DROP of a table that no other refers to fails for a reason alone.
+-- A DROP of a table to which no other refers fails only for a reason.
 use Rattle.std.proofs.Common.{◌≡◌, ◌≢◌, ℕ, List, [], ◌∷◌, Bool, false, not, ◌==◌, if◌then◌else◌, None, Some, Option, Result, Ok, Err, OnOk, IfErr, IsTrue, slice_get, inl, inr, subst, ◌∙◌}
 use Rattle.std.specs.List.{AllByRecursion}
 use Rattle.sqlite_trees.specs.declared.store.Store as store
@@ -29,7 +29,8 @@ use Rattle.hub_store.proofs.Beside.{none_refer}
 use Rattle.hub_store.proofs.Statements.{other_one}
 use Rattle.hub_store.proofs.Steps.{created_by}
 
--- the text drops the table at this place, to which nothing refers: for a schema and a text that are written out each field is `refl`
+-- The text drops the table at this place, to which nothing refers. For a schema and a text that are written out each
+-- field is `refl`.
 pub record IsDropping (schema : Schema) (sql : List ℕ) (at : ℕ) (table : Table) : Type 0 where
   pub command : command_of (understood schema sql) ≡ DropTable at
   pub listed : slice_get schema.tables at ≡ Some table

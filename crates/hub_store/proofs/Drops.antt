@@ -1,4 +1,4 @@
--- What the statements that drop tables do.
+-- The statements that drop tables.
 use Rattle.std.proofs.Common.{◌≡◌, ℕ, List, [], Bool, false, if◌then◌else◌, None, Some, Option, Ok, slice_get, sym, ap, subst, ◌∙◌}
 use Rattle.sqlite_schema.specs.declared.command.Command.TheVariants.{DropTable}
 use Rattle.sqlite_schema.specs.declared.schema.Keys.TheVariants.{Enforced}
@@ -13,7 +13,7 @@ use Rattle.sqlite.specs.State.{State, mode_of, Executes}
 use Rattle.sqlite.proofs.Callers.{IsPlain, command_of, statement_of, runs_as}
 use Rattle.hub_store.proofs.Statements.{same_ok, went, other_one}
 
--- a table is gone with its indexes, and the others have their rows
+-- the table and its indexes are gone, and the others have their rows
 pub record Dropped (schema : Schema) (tree : ℕ) (old new : Database) : Type 0 where
   pub schema_is : new.schema ≡ without_table schema tree
   pub whole : IsDatabase new

@@ -1,4 +1,4 @@
--- The tables without a row, and the version, stand for the state without a row.
+-- The tables with the version and without any other row stand for the state without a row.
 use Rattle.std.proofs.Common.{◌≡◌, List, [], ◌∷◌, map, drop, arith, refl, sym, subst}
 use Rattle.std.specs.List.{AllByRecursion}
 use Rattle.std.specs.List.Sorted.{IsPermutation}
@@ -21,7 +21,7 @@ use Rattle.hub_store.specs.Tables.{no_schema, schema_by}
 use Rattle.hub_store.specs.inner.Makes.{HasEmpty}
 use Rattle.hub_store.proofs.Parts.{AreHeld}
 
--- where no table is
+-- if there is no table
 pub no_tables : (db : Database) → db.schema ≡ no_schema → HasEmpty no_schema db
 no_tables db blank = record { known = blank; whole = λ some. absurd (some refl); empty = tt }
 
@@ -35,7 +35,7 @@ all_bare : (db : Trees) (ps : List Part) → AllByRecursion (λ (p : Part). p.ro
 all_bare db [] none clear = tt
 all_bare db (p ∷ ps) none clear = (bare db p none.0 clear.0, all_bare db ps none.1 clear.1)
 
--- the tables of version 2, made one after another, are its parts with no row
+-- the tables of version 2, made one after another, are its parts without a row
 pub bare_2 : (db : Database) → HasEmpty (schema_by 2) db → HoldsParts (bare_by 2) db
 bare_2 db has = record {
   known = has.known;
@@ -43,7 +43,7 @@ bare_2 db has = record {
   means = all_bare db.trees (bare_by 2) (refl, (refl, (refl, (refl, (refl, (refl, (refl, (refl, (refl, (refl, (refl, tt))))))))))) has.empty;
 }
 
--- and those of the newest, under its version, stand for the state with no row
+-- those of the newest version, under that version, stand for the state without a row
 pub newest_empty : (db : Database) → HoldsParts (under newest (drop 1 (parts_by newest empty))) db → Holds db empty
 newest_empty db has = record { known = has.known; whole = has.whole; means = has.means; fit = record { orgs = tt; accounts = tt; communities = tt; groups = tt; gates = tt } }
 

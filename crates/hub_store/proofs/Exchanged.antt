@@ -26,7 +26,7 @@ use Rattle.hub_store.proofs.Statements.{keeps, shows, selected}
 use Rattle.hub_store.proofs.Found.{filter_rows, map_each, shown_of}
 use Rattle.hub_store.proofs.Held.{gone_by}
 
--- rows that are new come in, one after another
+-- new rows are put, one after another
 all_in : (rows news : List Row) → are_fresh rows news ≡ true → have_rowids news ≡ true → IsShaped shape.Table rows → IsShaped shape.Table (put_all rows news) × IsPermutation (news ++ rows) (put_all rows news)
 all_in rows [] fresh ids shaped = (shaped, IsPermutation-refl rows)
 all_in rows (n ∷ ns) fresh ids shaped =
@@ -35,7 +35,7 @@ all_in rows (n ∷ ns) fresh ids shaped =
     let later = all_in (put_row n rows) ns new.1 int.1 (IsShaped-put_row n rows int.0 shaped) in
     (later.0, IsPermutation-trans _ _ _ (IsPermutation-sym _ _ (IsPermutation-middle ns n rows)) (IsPermutation-trans _ _ _ (IsPermutation-append_right ns _ _ (came_in n rows (not-true _ new.0))) later.1))
 
--- what is changed and what is left make the changed list
+-- the changed rows and the others make the changed list
 mixed : {X Y : Type 0} (g : X → Y) (k : X → Bool) (f : X → X) (xs : List X) → IsPermutation (map g (map f (filter k xs)) ++ map g (filter (λ x. not (k x)) xs)) (map g (map (λ x. if k x then f x else x) xs))
 mixed g k f [] = IsPermutation-refl []
 mixed g k f (x ∷ xs) =

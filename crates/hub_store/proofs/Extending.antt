@@ -20,7 +20,7 @@ use Rattle.hub_store.proofs.Finding.{Once}
 use Rattle.hub_store.proofs.PairRows.{found_pair}
 use Rattle.hub_store.proofs.Whether.{one_passes}
 
--- there is such a pair where there is such an element
+-- there is such a pair exactly if there is such an element
 pub pair_there : {X : Type 0} (pair : X → Pair) (a b : ℕ) (xs : List X) → is_some (find (is_between a b) (map pair xs)) ≡ list_any (λ x. is_between a b (pair x)) xs
 pair_there pair a b xs = ap is_some (found_pair pair (is_between a b) xs) ∙ some_passes pair (λ x. is_between a b (pair x)) xs
 

@@ -32,7 +32,7 @@ seen_through db h keep show p shown found keeps shows held is =
     ∙ ap (map show) (filter_same (λ r. p (h.seen r)) keep rows (always (λ r. sym (keeps r)) rows)) in
     IsPermutation-trans _ _ _ (IsPermutation-map shown _ _ (IsPermutation-filter p _ _ held.same)) (subst (λ l. IsPermutation l found) (sym same) is)
 
--- the same by the elements that the rows stand for
+-- the same by the elements of the rows
 pub of_elements : {X Y : Type 0} (row : X → Row) (p : Row → Bool) (shown : Row → Y) (q : X → Bool) (xs : List X) (found : List Y) → ((x : X) → p (row x) ≡ q x) → IsPermutation (map shown (filter p (map row xs))) found → IsPermutation (map (λ x. shown (row x)) (filter q xs)) found
 of_elements row p shown q xs found same = subst (λ l. IsPermutation l found) (ap (map shown) (filter_rows row p q same xs) ∙ map-map shown row (filter q xs))
 
@@ -60,11 +60,11 @@ once_rising : {X : Type 0} (number : X → ℕ) (n : ℕ) (xs : List X) → Rise
 once_rising number n [] up = tt
 once_rising number n (x ∷ xs) up = (all_weaker (λ y. nat_cmp (number x) (number y) ≡ Less) (λ y. (number x == n) ≡ true → (number y == n) ≡ false) (λ y h. tie_number (number x) (number y) n h) xs up.0, once_rising number n xs up.1)
 
--- a number stands once
+-- a number is there once
 pub once_numbered : {X : Type 0} (number : X → ℕ) (n : ℕ) (xs : List X) → CountsFrom number 0 xs → Once (λ x. number x == n) xs
 once_numbered number n xs counts = once_rising number n xs (counted number 0 xs counts)
 
--- a text or a key stands once
+-- a text or a key is there once
 pub once_keyed : {X : Type 0} (key : X → List ℕ) (k : List ℕ) (xs : List X) → Differ key xs → Once (λ x. bytes_eq (key x) k) xs
 once_keyed key k = weaker_pairs (λ a b. key a ≢ key b) (λ a b. bytes_eq (key a) k ≡ true → bytes_eq (key b) k ≡ false) (λ a b apart is. false_from_ne_true (bytes_eq (key b) k) (λ also. apart (bytes_eq-true (key a) k is ∙ sym (bytes_eq-true (key b) k also))))
 
@@ -91,7 +91,7 @@ module _ {X : Type 0} (shown : X → Row) where
       one None h = absurd h
       one (Some x) h = ap Some (h o refl)
 
-  -- the first row of a query that finds one at most
+  -- the first row of a query that finds at most one
   pub reads_first : (o : Option X) (rows : List Row) (r : Result (Option X) Error) → IsPermutation (map shown (option_to_list o)) rows → IfOk r (λ found. ShowsFirst (IsShownBy shown) rows found) → IfOk r (λ found. found ≡ o)
   reads_first o rows (Ok found) same h = first_is o rows found same h
   reads_first o rows (Err e) same h = tt
@@ -106,7 +106,7 @@ module _ {X : Type 0} (shown : X → Row) where
       let tail : ys ≡ xs = all_are xs ys h.1 in
       cc
 
-  -- some rows of them, the first
+  -- the first rows of them
   pub first_are : (xs : List X) (rows others : List Row) (ys : List X) → rows ++ others ≡ map shown xs → ShowsAll (IsShownBy shown) rows ys → (more : List X) × (xs ≡ ys ++ more)
   first_are xs [] others [] is h = (xs, refl)
   first_are xs [] others (y ∷ ys) is h = absurd h

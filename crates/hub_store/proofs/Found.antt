@@ -1,4 +1,4 @@
--- What a query of one table shows of the elements that the rows stand for.
+-- What a query of one table shows of the elements of its rows.
 use Rattle.std.proofs.Common.{◌≡◌, List, [], ◌∷◌, map, filter, Bool, true, refl, ap, subst, ◌∙◌}
 use Rattle.std.specs.List.{AllByRecursion}
 use Rattle.std.specs.List.Sorted.{IsPermutation}

@@ -1,4 +1,4 @@
--- An INSERT of a permission without an end, while its table is filled again, is refused for nothing but a limit on steps.
+-- An INSERT of a permission without an end, while its table is filled again, fails only for a limit on steps.
 use lib.Ieee.{is_nan}
 use Rattle.std.proofs.Common.{◌≡◌, ◌≢◌, inl, inr, ℕ, ◌+◌, ◌<◌, ◌^◌, ◌&&◌, ◌||◌, ◌==◌, not, pos, suc, List, [], ◌∷◌, ◌++◌, map, drop, length, Bool, true, false, Ok, Err, codes, refl, sym, ap, subst, ◌∙◌, arith}
 use Rattle.std.specs.List.{AllByRecursion, list_all}
@@ -65,7 +65,7 @@ use Rattle.hub_store.proofs.WriteCauses.{Breaks, IsWritable, insert_stops}
 abbrev pub put_grant : List ℕ
 put_grant = PUT_PERMISSION.now
 
--- these permissions in the table, beside all else of a state
+-- these permissions in the table, with all else of a state
 abbrev pub Granted : List Row → State → Database → Type 0
 Granted rows s = HoldsAnew permission_step rows (under 3 (drop 1 (parts_2 s)))
 
@@ -118,7 +118,7 @@ sized : (n : ℕ) (x : Permission) → IsShort (Null ∷ row_of x) → ¬ IsOver
 sized n x short (inl big) = big (storable n x short)
 sized n x short (inr index) = index.3 (subst (λ (cs : List ℕ). IsStorable (index_reals (table_reals permission) cs) (entry_of cs (Int (pos n) ∷ row_of x))) (sym (own_columns index.0 index.1 index.2)) (entry_storable n x short))
 
--- in the table two rows are alike as they are past the rowid
+-- two rows of the table are alike if they are so without their rowids
 agrees : Row → Row → Bool
 agrees a b = agree plain key a key b
 
@@ -152,7 +152,7 @@ module _ (db : Trees) (whole : IsDatabase (record { schema = schema_3; trees = d
   unfolding start
   low = omega (arith, can.few, length_permutation _ _ held, length-map (db permission.tree) (λ (r : Row). drop 1 r))
 
-  -- all rows, past their rowids
+  -- all rows, without their rowids
   all_seen : map (λ (r : Row). drop 1 r) (edited db edit) ≡ map (λ (r : Row). drop 1 r) (db permission.tree) ++ row_of x ∷ []
   unfolding edit start
   all_seen = ap (map (λ (r : Row). drop 1 r)) put.all ∙ map-append (λ (r : Row). drop 1 r) (db permission.tree) (labelled (suc (length (db permission.tree))) (row_of x ∷ []))
@@ -188,7 +188,7 @@ module _ (db : Trees) (whole : IsDatabase (record { schema = schema_3; trees = d
 stands : IsWritable schema_3 permission 10
 stands = record { listed = refl; uncounted = refl; alone = λ tree olds news. refl; unreferred = (refl, (refl, (refl, (refl, (refl, (refl, (refl, (refl, (refl, (refl, (refl, tt))))))))))) }
 
--- a permission fails for a reason alone
+-- a permission fails only for a reason
 pub grant_fails : (x : Permission) (rows : List Row) (s : State) → CanGrant (row_of x ∷ rows)
     → (old new : sql.State) (e : Error) → ExecutesInside 0 put_grant (endless_row x) old new (Err e) → Granted rows s old.now → e ≢ SqliteFailure code.OutOfMemory → HasReason old new
 unfolding understood everything edit start

@@ -1,4 +1,4 @@
--- What a migration to version 3 meets in a sound state: its permissions stand in the new table.
+-- The permissions of a sound state that a migration to version 3 puts: the new table takes them.
 use Rattle.std.proofs.Common.{◌≡◌, ℕ, zero, suc, ◌+◌, ◌*◌, ◌<◌, ◌≤◌, ◌&&◌, ◌==◌, not, List, [], ◌∷◌, ◌++◌, map, filter, take, length, Bool, true, false, cond, None, count_by, get_or, length-append, refl, sym, ap, ap₂, subst, ◌∙◌, arith, Ordering, Less, Equal}
 use Rattle.std.specs.Ordering.{ordering_then}
 use Rattle.std.specs.List.{AllByRecursion}
@@ -43,7 +43,7 @@ use Rattle.sqlite_value.specs.declared.value.Value.TheVariants.{Null}
 abbrev row_of : Permission → Row
 row_of x = without_end (endless_row x)
 
--- ---- each is of its own
+-- ---- they differ
 
 record AreOneKey (a b : Permission) : Type 0 where
   incident : a.incident ≡ b.incident
@@ -152,7 +152,7 @@ row_count : (xs : List Permission) → length (map without_end (map endless_row 
 row_count [] = refl
 row_count (x ∷ xs) = ap suc (row_count xs)
 
--- ---- they stand, in whatever order they are read
+-- ---- the table takes them, in whatever order they are read
 
 stand : (s : core.State) → IsSound s → AreEndless s → AreTaken s → CanGrant (map without_end (map endless_row s.permissions))
 stand s sound endless taken = record {
@@ -180,7 +180,7 @@ pub all_endless : (xs : List Permission) → AllByRecursion IsEndlessRow (map en
 all_endless [] = tt
 all_endless (x ∷ xs) = ((x, refl), all_endless xs)
 
--- together they are those of version 3
+-- together they are the rows of version 3
 pub as_kept : (xs : List Permission) → AllByRecursion IsEndless xs → map without_end (map endless_row xs) ≡ map permission_row xs
 as_kept [] endless = refl
 as_kept (x ∷ xs) endless = ap₂ (λ (r : Row) (l : List Row). r ∷ l) (ap (λ u. endless_row x ++ moment_or_null u ∷ []) (sym endless.0)) (as_kept xs endless.1)

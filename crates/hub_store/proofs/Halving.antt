@@ -1,4 +1,4 @@
--- What halving finds in numbers that rise.
+-- What a binary search finds in numbers that rise.
 use Rattle.std.proofs.Common.{◌≡◌, ◌⊎◌, inl, inr, ℕ, suc, ◌<◌, ◌≤◌, List, [], ◌∷◌, length, get_or, false, ◌||◌, ◌==◌, Result, Ok, Err, is_ok, MatchResult, nat_cmp, refl, sym, ap, subst, ◌∙◌, arith}
 use Rattle.std.specs.List.Sorted.{IsBinarySearchResult}
 use Rattle.std.proofs.lemmas.Bool.{cases_lt, eq-eqb, ne_eqb}

@@ -1,4 +1,4 @@
--- Tables as sets: what a statement of one table makes of what the tables hold.
+-- Tables as sets: what a statement on one table makes of what the tables hold.
 use Rattle.std.proofs.Common.{◌≡◌, ◌≢◌, ℕ, zero, suc, List, [], ◌∷◌, ◌++◌, map, filter, take, drop, slice_get, Bool, true, false, not, ◌&&◌, ◌||◌, ◌==◌, Some, refl, sym, ap, subst, ◌∙◌, arith}
 use Rattle.std.specs.List.{AllByRecursion, list_any, list_all}
 use Rattle.std.specs.List.Sorted.{IsPermutation}
@@ -63,7 +63,7 @@ all_stay db next edit a (h ∷ hs) others held =
     let both = and_parts _ _ others in
     (stays db next edit a h both.0 held.0, all_stay db next edit a hs both.1 held.1)
 
--- one table changes: the one at a place among those that are held
+-- one table changes: the one at this place among those that are held
 pub one_changes : (db next : Trees) (edit : Edit) → Applies hub_schema Enforced db edit next → (at : ℕ) (before after : List Holding) (it new : Holding) →
     slice_get before at ≡ Some it → after ≡ take at before ++ new ∷ drop (suc at) before →
     list_all (is_other edit.table.tree) (take at before ++ drop (suc at) before) ≡ true → AreHeld db before → (IsHeld db it → IsHeld next new) → AreHeld next after
@@ -79,7 +79,7 @@ one_changes db next edit a at before after it new is now others held change = su
         let both = and_parts _ _ others in
         (stays db next edit a h both.0 held.0, go at hs is both.1 held.1)
 
--- ---- rows come in, go out, and are exchanged
+-- ---- rows are put, taken and exchanged
 
 pub permuted : (db : Trees) (tree : ℕ) (seen : Row → Row) (all more : List Row) → IsPermutation all more → IsHeld db (record { tree = tree; seen = seen; rows = all }) → IsHeld db (record { tree = tree; seen = seen; rows = more })
 permuted db tree seen all more same held = record { shaped = held.shaped; same = IsPermutation-trans _ _ _ (IsPermutation-sym _ _ same) held.same }
@@ -113,16 +113,16 @@ come_in db next table seen all news a held =
       same = subst (λ rows. IsPermutation (map seen news ++ all) (map seen rows)) (sym a.rows) (IsPermutation-trans _ _ _ (IsPermutation-append_right (map seen news) _ _ held.same) seen_all);
     }
 
--- a row for which the table chooses the rowid
+-- a row with a rowid that the table chooses
 abbrev pub bare : Row → Row
 bare r = Null ∷ r
 
--- rows with the rowids that were chosen for them are those rows, past the rowid
+-- without their chosen rowids the rows are those that were put
 pub past_rowids : (rows all : List Row) → map (drop 1) (numbered Chosen rows (map bare all)) ≡ all
 past_rowids rows [] = refl
 past_rowids rows (r ∷ all) = ap (λ l. r ∷ l) (past_rowids (put_row (with_rowid Chosen rows (bare r)) rows) all)
 
--- what is left where the rows that a query of one table found go
+-- the rows that remain after those that a query of one table found are removed
 pub gone_by : (db : Trees) (tree : ℕ) (terms more : List Term) (params : Row) (rows : List Row) → IsShaped shape.Table (db tree) → IsAnswer (one_table tree terms (col 1 0 ∷ more)) db params rows →
     without_all (db tree) (ids_of rows) ≡ filter (λ r. not (keeps terms params r)) (db tree)
 gone_by db tree terms more params rows shaped a =

@@ -1,4 +1,4 @@
--- What goes on in a transaction, whatever the tables are: a query, and one call after another.
+-- A transaction under any tables: a query, and one call after another.
 use Rattle.std.proofs.Common.{ℕ, List, Option, None, Some, Result, Ok, IsTrue, true, if◌then◌else◌, refl, ap, ◌∙◌}
 use Rattle.sqlite_value.specs.Order.{Row}
 use Rattle.sqlite_trees.specs.declared.store.Store as store
@@ -40,6 +40,6 @@ goes_asked g text params old new rows result survives shown = record {
 any_makes : {T : Type 0} (a b : State) (result : Result T Error) → Goes a b result → Makes a b (λ _. Unit {0}) (λ _. Unit {0}) result
 any_makes a b result goes = record { goes = goes; made = λ _ _ _. on_any result (Unit {0}) tt }
 
--- the second after an Ok of the first
+-- the second call, after an Ok of the first
 pub goes_then : {T U : Type 0} (a b c : State) (x : T) (result : Result U Error) → Goes a b (Ok x) → Goes b c result → Goes a c result
 goes_then a b c x result one two = (makes_then a b c (λ _. Unit {0}) (λ _. Unit {0}) (λ _. Unit {0}) x result (any_makes a b (Ok x) one) (any_makes b c result two)).goes

@@ -1,4 +1,5 @@
--- The lines of documents as rows of one table: what comes in and goes with an incident, and which documents the rows tell.
+-- The lines of documents as rows of one table: those that are put and taken with an incident, and the documents of the
+-- rows.
 use Rattle.std.proofs.Common.{◌≡◌, ◌<◌, ◌==◌, ℕ, zero, suc, pos, negsuc, List, [], ◌∷◌, ◌++◌, map, filter, drop, flat_map, Bool, true, false, cond, Option, Some, None, nat_cmp, refl, sym, ap, ap₂, subst, ◌∙◌, arith, append-nil}
 use Rattle.std.specs.List.{AllByRecursion}
 use Rattle.std.specs.Option.{option_to_list}
@@ -35,13 +36,13 @@ use Rattle.hub_store.proofs.Places.{item_place, item_tree, held_of}
 use Rattle.hub_store.proofs.Puts.{past_one}
 use Rattle.hub_store.proofs.Statements.{keeps, shows}
 
--- ---- lines come in with an incident
+-- ---- lines are put with an incident
 
 pub past_both : {X : Type 0} (xs ys zs : List X) → IsPermutation (xs ++ (ys ++ zs)) (ys ++ (xs ++ zs))
 past_both [] ys zs = IsPermutation-refl _
 past_both (x ∷ xs) ys zs = IsPermutation-trans _ _ _ (IsPermutation-cons x _ _ (past_both xs ys zs)) (IsPermutation-sym _ _ (IsPermutation-middle ys x (xs ++ zs)))
 
--- what is made of each element goes its way in the same order
+-- what is made of each element is in the same order
 pub flat_same : {X Y : Type 0} (f : X → List Y) (xs ys : List X) → IsPermutation xs ys → IsPermutation (flat_map f xs) (flat_map f ys)
 flat_same f xs ys same = along_permutation (λ xs ys. IsPermutation (flat_map f xs) (flat_map f ys)) (λ xs. IsPermutation-refl _) (λ z xs ys more. IsPermutation-append_right (f z) _ _ more)
     (λ a b xs. past_both (f a) (f b) (flat_map f xs)) (λ xs ys zs one two. IsPermutation-trans _ _ _ one two) xs ys same
@@ -51,7 +52,7 @@ items_put i is more same =
     subst (λ l. IsPermutation l (map item_row (items_in more))) (map-append item_row (items_from i.naming.number 1 i.document) (items_in is))
     (IsPermutation-map item_row _ _ (flat_same (λ (i : Incident). items_from i.naming.number 1 i.document) (i ∷ is) more same))
 
--- ---- lines go with an incident
+-- ---- lines are taken with an incident
 
 -- the lines of an incident all pass a test of its number, or none does
 of_incident : (p : ℕ → Bool) (n place : ℕ) (ls : Lines) → filter (λ (x : Item). p x.incident) (items_from n place ls) ≡ cond (p n) (items_from n place ls) []
@@ -66,7 +67,7 @@ of_incident p n place (l ∷ ls) = go (p n) (filter (λ (x : Item). p x.incident
     go true more is = ap (λ rest. record { incident = n; place = place; line = l } ∷ rest) is
     go false more is = is
 
--- of all lines those whose incident passes are the lines of the incidents that pass
+-- of all lines, those whose incident passes are the lines of the incidents that pass
 pub items_passing : (p : ℕ → Bool) (is : List Incident) → filter (λ (x : Item). p x.incident) (items_in is) ≡ items_in (filter (λ (i : Incident). p i.naming.number) is)
 items_passing p [] = refl
 items_passing p (i ∷ is) =
@@ -93,7 +94,7 @@ items_once : (o : Option Incident) → items_in (option_to_list o) ≡ its_items
 items_once None = refl
 items_once (Some i) = append-nil (items_from i.naming.number 1 i.document)
 
--- of all lines those of an incident
+-- of all lines, those of an incident
 pub items_at : (s : core.State) (n : ℕ) → IsSound s → filter (λ (x : Item). x.incident == n) (items_of s) ≡ its_items (incident_of n s)
 items_at s n sound =
     items_passing (λ m. m == n) s.incidents ∙ ap items_in (only_one (λ (i : Incident). i.naming.number == n) s.incidents (once_numbered incident_number n s.incidents sound.incidents.numbered.0)) ∙ items_once (incident_of n s)
@@ -160,7 +161,7 @@ lines_listed db s n rows sound means a =
     a
     ∙ (ap (map item_shown) (filter_all own) ∙ its_shown (incident_of n s))
 
--- ---- rows tell lines, and lines their documents
+-- ---- rows show lines, and lines are those of their documents
 
 kind_of : ℕ → Kind
 kind_of zero = kind.Class

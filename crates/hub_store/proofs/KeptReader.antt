@@ -1,4 +1,4 @@
--- What is kept of a reader, and what a state says of it.
+-- The kept part of a reader, and whether it is right in a state.
 use Rattle.std.proofs.Common.{◌≡◌, ℕ, List, [], ◌∷◌, Bool, true, false, cond, ◌==◌, Option, Some, None, find, refl, sym, ap, subst, ◌∙◌}
 use Rattle.std.specs.Prelude.{option_map, IfSome}
 use Rattle.std.proofs.lemmas.Bool.{eqb-true}
@@ -24,7 +24,7 @@ account_numbered n (x ∷ xs) a e = go (x.person.number == n) refl e (account_nu
     go true is f later = ap (λ (y : Account). y.person.number) (sym (same_account x a f)) ∙ eqb-true x.person.number n is
     go false is f later = later f
 
--- what a reader has of its own is that of its person, who has the number that was asked for
+-- a reader's own part is that of its person, who has the number that was asked for
 own_part : (n : ℕ) (s : State) (r : Reader) → reader_of n s ≡ Some r → (r ≡ reader_with s r.person) × (r.person.number ≡ n)
 own_part n s r e = go (find (λ (x : Account). x.person.number == n) s.directory.accounts) refl e
   where
@@ -42,14 +42,14 @@ right_of_read n s found (Some r) same is =
     let at : reader_of n s ≡ Some r = sym is ∙ sym same in
     subst (λ m. reader_of m s ≡ Some r) (sym (own_part n s r at).1) at
 
--- what is kept of the person that is asked for is the answer
+-- if the person's part is kept, that is the answer
 pub answer_kept : (n : ℕ) (s : State) (kept : Option Reader) (r copy : Reader) → kept ≡ Some r → r.person.number ≡ n → copy ≡ r → IsRightOf kept s → Some copy ≡ reader_of n s
 answer_kept n s None r copy is number same right = absurd cc
 answer_kept n s (Some k) r copy is number same right =
     let one : k ≡ r = same_reader k r is in
     ap Some (same ∙ sym one) ∙ (sym right ∙ ap (λ m. reader_of m s) (ap (λ (x : Reader). x.person.number) one ∙ number))
 
--- the communities that are kept are those of the organisation
+-- the kept communities are those of the organisation
 pub communities_right : (org : ℕ) (s : State) (kept : Option Reader) (communities : List ℕ) → IsKeptOf kept org communities → IsRightOf kept s → communities ≡ communities_of org s.directory
 communities_right org s None communities of right = absurd of
 communities_right org s (Some r) communities of right =

@@ -1,4 +1,4 @@
--- What a shelf that keeps a reader's part answers and leaves.
+-- What a shelf that keeps a reader's part returns and leaves.
 use Rattle.std.proofs.Common.{◌≡◌, ℕ, ◌<◌, Option, Some, Result, Ok, Err, IfOk, sym, ap, subst, ◌∙◌, arith}
 use Rattle.std.specs.Prelude.{IsErrAnd}
 use Rattle.std.proofs.lemmas.Result.{IfOk-weaker}
@@ -17,7 +17,7 @@ use Rattle.hub_store.specs.Shelved.{Shelved, IsRightOf, ShelfHas}
 use Rattle.hub_store.proofs.KeptReader.{right_of_read}
 use Rattle.hub_store.proofs.Telling.{seen, has, doubts, failed, may_remain, read_keeps, read_value}
 
--- want of memory behind calls that told something else
+-- want of memory after calls that returned something else
 pub wants_memory : {T U : Type 0} (before now : ℕ) (told : Result T ShelfFault) → HasCause before now told → before < last_count → HasCause {T = U} before now (Err NoMemory)
 wants_memory before now told cause low = record {
   later = cause.later;
@@ -25,7 +25,7 @@ wants_memory before now told cause low = record {
   ended = λ e. absurd (omega (arith, low, e));
 }
 
--- what was found is right where something is right of what is kept
+-- what was found is right, if it is right whenever the kept part is
 pub read_under : {S : Type 0} (g : store.Ghosts S) (conn : Held S) (failures : ℕ) (kept : Option Reader) (old : Shelved S) (now : Held S) (P : core.State → Type 0) {T : Type 0} (Right : core.State → T → Type 0) (outcome : Result T Error) (result : Result T ShelfFault)
     → seen conn failures kept ≡ old → IsReadOutside (state g conn) (state g now) (λ s x. P s → Right s x) outcome → IfOk result (λ x. outcome ≡ Ok x) → ((s : core.State) → IsRightOf kept s → P s) → HasCleanDisk (state g now) → (s : core.State) → ShelfHas g old s → IfOk result (Right s)
 read_under g conn failures kept old now P Right outcome result same answers told holds clean s here =

@@ -19,12 +19,12 @@ use Rattle.hub_store.proofs.Unique.{same_means}
 pub trees_hold : (db : Database) (s : core.State) → Holds db s → TreesHold db.trees s
 trees_hold db s holds = subst (λ k. Holds (record { schema = k; trees = db.trees }) s) holds.known holds
 
--- trees that stand for a state stand for no other, and not for none
+-- trees that stand for a state stand for no other
 one_meaning : (db : Trees) (s : core.State) (left : Option core.State) → StandFor db s → IsMeaning db left → left ≡ Some s
 one_meaning db s (Some t) is it = ap Some (same_means db t s it.sound is.sound it.holds.fit is.holds.fit it.holds.means is.holds.means)
 one_meaning db s None is none = absurd (none s is)
 
--- after a commit a crash may leave it, and nothing else
+-- after a commit a crash may leave only that
 pub left_by_commit : (new : State) (s : core.State) (left : Option core.State) → CommitsState new s → IsSound s → ((db : Trees) → IsTrue new.is_open → new.may_leave db → db ≡ new.committed.trees) →
     (IsTrue new.is_open → new.may_leave new.committed.trees) → MayLeave new left ↔ (left ≡ Some s)
 left_by_commit new s left is sound settled stays =
@@ -33,7 +33,7 @@ left_by_commit new s left is sound settled stays =
       λ same. subst (MayLeave new) (sym same) (new.committed.trees, stays is.is_open, stands),
     )
 
--- a crash leaves what it could have left before, or what the edits make
+-- a crash may leave what it could have left before, or what the edits make
 pub left_by_apply : (old new : State) (next : core.State → core.State) (s : core.State) (left : Option core.State) → HasCleanDisk new → Has old s → IsSound (next s) → Survives old new (λ db. (s : core.State) → Has old s → TreesHold db (next s)) →
     MayLeave new left → MayLeave old left ⊎ (left ≡ Some (next s))
 left_by_apply old new next s left clean has sound survives may = elim (survives.crash clean may.0 may.1) [

@@ -1,4 +1,4 @@
--- An INSERT of lines beside the tables of version 1 is refused for nothing but a limit on steps.
+-- An INSERT of lines beside the tables of version 1 fails only for a limit on steps.
 use lib.Ieee.{is_nan}
 use Rattle.std.proofs.Common.{◌≡◌, ◌≢◌, inl, inr, ℕ, ◌+◌, ◌*◌, ◌<◌, ◌^◌, ◌/◌, ◌&&◌, ◌||◌, ◌==◌, not, pos, zero, suc, nat_lt, is_some, length-append, List, [], ◌∷◌, ◌++◌, map, drop, length, Bool, true, false, Ok, Err, refl, sym, ap, subst, ◌∙◌, arith}
 use Rattle.std.specs.List.{AllByRecursion, list_all}
@@ -126,7 +126,7 @@ sized row m x is short (inr index) =
 
 -- ---- all rows
 
--- in the table two rows are alike as they are past the rowid
+-- two rows of the table are alike if they are so without their rowids
 agrees : Row → Row → Bool
 agrees a b = agree plain (1 ∷ 2 ∷ []) a (1 ∷ 2 ∷ []) b
 
@@ -159,7 +159,7 @@ module _ (db : Trees) (whole : IsDatabase (record { schema = beside_item; trees 
   unfolding start
   low = omega (arith, can.few, length_permutation _ _ held, length-map (db item.tree) (λ (r : Row). drop 1 r), length-append more items)
 
-  -- all rows, past their rowids
+  -- all rows, without their rowids
   all_seen : map (λ (r : Row). drop 1 r) (edited db edit) ≡ map (λ (r : Row). drop 1 r) (db item.tree) ++ more
   unfolding edit start
   all_seen = ap (map (λ (r : Row). drop 1 r)) put.all ∙ map-append (λ (r : Row). drop 1 r) (db item.tree) (labelled (suc (length (db item.tree))) more) ∙ ap (λ l. map (λ (r : Row). drop 1 r) (db item.tree) ++ l) (past_labels (suc (length (db item.tree))) more)
@@ -198,7 +198,7 @@ module _ (db : Trees) (whole : IsDatabase (record { schema = beside_item; trees 
 stands : IsWritable beside_item item 10
 stands = record { listed = refl; uncounted = refl; alone = λ tree olds news. refl; unreferred = (refl, (refl, (refl, (refl, (refl, (refl, (refl, (refl, (refl, (refl, (refl, tt))))))))))) }
 
--- a text that puts these lines fails for a reason alone
+-- a text that puts these lines fails only for a reason
 pub lines_fail : (text : List ℕ) (params : Row) (terms : List Term) (more items : List Row) (s : State) → command_of (understood beside_item text) ≡ Insert 10 (Values terms 8) → IsWhole text params (understood beside_item text)
     → accepts_terms terms (stamped item params) ≡ true → value_rows (stamped item params) 8 (length terms / 8) terms ≡ map bare more → map (cast_row item) (map bare more) ≡ map bare more → CanStand (more ++ items)
     → (old new : sql.State) (e : Error) → ExecutesInside 0 text params old new (Err e) → HoldsBeside items s old.now → e ≢ SqliteFailure code.OutOfMemory → HasReason old new
@@ -216,7 +216,7 @@ lines_fail text params terms more items s is whole accepted given cast can old n
       ]
     ]
 
--- and what it puts counts on
+-- and what it puts continues the rowids
 pub lines_count : (text : List ℕ) (params : Row) (terms : List Term) (more items : List Row) (s : State) → command_of (understood beside_item text) ≡ Insert 10 (Values terms 8) → IsPlain (understood beside_item text)
     → value_rows (stamped item params) 8 (length terms / 8) terms ≡ map bare more → map (cast_row item) (map bare more) ≡ map bare more
     → (old new : sql.State) (count : ℕ) → Executes text params old new (Ok count) → HoldsBeside items s old.now → AreNumbered 1 (new.now.trees item.tree)
@@ -234,7 +234,7 @@ bound_at [] k all = refl
 bound_at (v ∷ params) zero all = all.0
 bound_at (v ∷ params) (suc k) all = bound_at params k all.1
 
--- numbers and texts are accepted wherever a line stands
+-- numbers and texts are accepted wherever a line is
 pub terms_accepted : (params : Row) (at count : ℕ) → AllByRecursion (λ v. is_some (class_of v) ≡ true) params → accepts_terms (terms_for at count) params ≡ true
 terms_accepted params at zero all = refl
 terms_accepted params at (suc count) all =

@@ -18,7 +18,7 @@ use Rattle.hub_store.proofs.PartRows.{Stands}
 use Rattle.hub_store.proofs.Places.{item_place}
 use Rattle.hub_store.proofs.Texts.{line_terms}
 
--- the terms of so many lines, the first from a parameter on
+-- the terms of this many lines, the first from a parameter on
 abbrev pub terms_for : ℕ → ℕ → List Term
 terms_for at zero = []
 terms_for at (suc count) = line_terms at ++ terms_for (at + 6) count
@@ -35,7 +35,7 @@ six_on k m e = omega (arith, e)
 beyond : (before row : Row) (k : ℕ) → column (before ++ row) (length before + k) ≡ column row k
 beyond before row k = get_or-append-add before row k Null
 
--- the columns of a line stand behind what is given before it
+-- the columns of a line come after what was given before
 row_of : (n place : ℕ) (before : Row) (l : Line) (ls : Lines) → eval_all (line_terms (suc (length before))) ((Int (pos n) ∷ before ++ placed_lines place (l ∷ ls)) ∷ []) ≡ bare (item_row (record { incident = n; place = place; line = l }))
 row_of n place before l ls =
     let own = placed_lines place (l ∷ ls) in
@@ -60,6 +60,6 @@ pub cast_items : (rows : List Row) (xs : List Item) → map (cast_row (item_part
 cast_items rows [] = refl
 cast_items rows (x ∷ xs) = ap₂ (λ r rs. r ∷ rs) (cast_item rows x) (cast_items rows xs)
 
--- where the table of the lines stands among those of the newest version
+-- the place of the table of lines among those of the newest version
 pub stands_between : (s : State) (items incidents : List Row) → Stands (in_every_version newest s) (item_part items) (permission_part_3 (map permission_row s.permissions) ∷ incident_part_4 incidents ∷ []) item_place
 stands_between s items incidents = record { listed = refl; uncounted = refl; timeless = refl; alone = λ tree olds news. refl; apart = refl; same = λ rows. refl }

@@ -34,7 +34,7 @@ all_passing P q (x ∷ xs) all = go (q x) refl (all_passing P q xs all.1)
     go true is more = ((all.0, is), more)
     go false is more = more
 
--- each two that pass stand in the relation, and pass
+-- each two that pass are in the relation, and pass
 pub rising_passing : {X : Type 0} (R : X → X → Type 0) (q : X → Bool) (xs : List X) → IsAscending R xs → IsAscending (λ a b. (q a ≡ true) × (R a b × (q b ≡ true))) (filter q xs)
 rising_passing R q [] up = tt
 rising_passing R q (x ∷ xs) up = go (q x) refl (rising_passing R q xs up.1)
@@ -45,7 +45,7 @@ rising_passing R q (x ∷ xs) up = go (q x) refl (rising_passing R q xs up.1)
 
 -- ---- queries
 
--- the rows that a query lists, where what it shows of those that pass is shown of elements that stand in its order
+-- the rows that a query lists, if it shows elements that are in its order
 pub in_its_order : {X : Type 0} (db : Trees) (tree : ℕ) (xs : List X) (q : X → Bool) (terms project : List Term) (order : List (Term × Key)) (limit : Term) (params : Row) (out : X → Output) (rows : List Row)
     → (R : X → X → Type 0) → IsAscending R xs → ((a b : X) → q a ≡ true → R a b → q b ≡ true → output_cmp (record (one_table tree terms project) { order = order; limit = limit }) (out a) (out b) ≡ Less)
     → ((all : List Output) → IsPermutation (map (λ r. (eval_all (map (λ (k : Term × Key). k.0) order) (params ∷ r ∷ []), shows project params r)) (filter (keeps terms params) (db tree))) all → IsPermutation (map out (filter q xs)) all)
@@ -75,7 +75,7 @@ listed db tree seen row xs q terms project order limit params p out rows keep sh
 pub not_less : (m n k : ℕ) → m ≡ k → n ≡ k → nat_cmp m n ≡ Less → ⊥
 not_less m n k e f h = grind (arith, nat_tests)
 
--- where both have the same second number, the first decides
+-- if both have the same second number, the first decides
 pub first_decides : (m n i j k : ℕ) → (i == k) ≡ true → (j == k) ≡ true → ordering_then (nat_cmp m n) (nat_cmp i j) ≡ Less → nat_cmp m n ≡ Less
 first_decides m n i j k e f h = go (nat_cmp m n) h
   where
@@ -84,7 +84,7 @@ first_decides m n i j k e f h = go (nat_cmp m n) h
     go Equal more = absurd (not_less i j k (eqb-true i k e) (eqb-true j k f) more)
     go Greater more = absurd cc
 
--- where both have the same number, the next key decides
+-- if both have the same number, the next key decides
 pub next_decides : (m n k : ℕ) (o : Ordering) → (m == k) ≡ true → (n == k) ≡ true → ordering_then (nat_cmp m n) o ≡ Less → o ≡ Less
 next_decides m n k o e f h = go (nat_cmp m n) refl h
   where

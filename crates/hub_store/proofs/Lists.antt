@@ -1,4 +1,4 @@
--- Lists as sets: rows that come and go, and lists that rise.
+-- Lists as sets: rows that are put and taken, and lists that rise.
 use Rattle.std.proofs.Common.{◌≡◌, ◌⊎◌, inl, inr, ℤ, List, [], ◌∷◌, map, filter, Bool, true, false, cond, not, ◌&&◌, ◌||◌, refl, sym, ap, subst, ◌∙◌, IsTrue, true≢false}
 use Rattle.std.specs.List.{AllByRecursion, list_any}
 use Rattle.std.specs.List.Sorted.{IsPermutation}
@@ -20,7 +20,7 @@ use Rattle.sqlite_rules.specs.Edit.{id_in, without_all, is_taken}
 use Rattle.sqlite_rules.specs.Lists.{Has}
 use Rattle.hub_store.proofs.Found.{always, filter_all}
 
--- ---- a row that is new comes in
+-- ---- a new row is put
 
 pub flipped : {X : Type 0} (x y : X) (xs : List X) → IsPermutation (x ∷ y ∷ xs) (y ∷ x ∷ xs)
 flipped x y xs = IsPermutation-middle (x ∷ []) y xs
@@ -34,7 +34,7 @@ came_in new (r ∷ rows) fresh = go (came_in new rows) (value_cmp (rowid r) (row
     go more Equal e = absurd (true≢false e)
     go more Greater e = IsPermutation-refl _
 
--- ---- rows go by their rowids
+-- ---- rows are taken by their rowids
 
 filter-then : {X : Type 0} (p q : X → Bool) (xs : List X) → filter p (filter q xs) ≡ filter (λ x. q x && p x) xs
 filter-then p q [] = refl
@@ -82,7 +82,7 @@ lacks_later x r int below =
 lacks_earlier : (x r : Row) → IsTrue (is_int (rowid r)) → value_cmp (rowid x) (rowid r) ≡ Less → has_rowid (id_of r) x ≡ false
 lacks_earlier x r int below = ap (λ v. is_eq (value_cmp (rowid x) v)) (sym (own_id r int)) ∙ ap is_eq below
 
--- of the rows of a table, those whose rowid is that of a row that passes are those that pass
+-- of the rows of a table, those with the rowid of a row that passes are those that pass
 among_kept : (keep : Row → Bool) (rows : List Row) → IsShaped Table rows → AllByRecursion (λ r. is_among (map id_of (filter keep rows)) r ≡ keep r) rows
 unfolding is_among
 among_kept keep [] shaped = tt
@@ -106,7 +106,7 @@ among_kept keep (x ∷ xs) shaped =
           | false ↦ no_later ys below.1 int.1
         ]
 
--- what is left where the rows that pass go
+-- the rows that remain without those that pass
 pub went_out : (keep : Row → Bool) (rows : List Row) (ids : List ℤ) → IsShaped Table rows → IsPermutation (map id_of (filter keep rows)) ids → without_all rows ids ≡ filter (λ r. not (keep r)) rows
 unfolding is_among
 went_out keep rows ids shaped same =

@@ -1,4 +1,4 @@
--- The statements that lead from version 1 to version 2.
+-- The statements from version 1 to version 2.
 use Rattle.std.proofs.Common.{◌≡◌, ◌≢◌, ◌+◌, ◌<◌, ℕ, pos, List, [], ◌∷◌, ◌++◌, drop, take, length, get_or, true, map, Ok, Err, codes, refl, sym, ap, subst, ◌∙◌}
 use Rattle.std.specs.List.Sorted.{IsPermutation}
 use Rattle.std.proofs.lemmas.List.{take_more, map-append}
@@ -40,7 +40,7 @@ use Rattle.hub_store.proofs.Texts.{put_line, put_naming_2, line_terms}
 first_version : (s : State) → created up_to_permission incident_table ≡ schema_of (parts_1 s)
 first_version s = refl
 
--- and so is the schema after the three statements
+-- so is the schema after the three statements
 second_version : (s : State) (items incidents : List Row) → created (without_table (created (schema_by 1) item_table) 18) incident_table_2 ≡ schema_of (tables_2 2 items incidents s)
 second_version s items incidents = refl
 
@@ -65,7 +65,7 @@ drops_incident old new s items count h has =
     let p = incident_part s in
     drops (in_versions_1_and_2 1 s) p (item_part items ∷ []) _ _ refl (dropped_by old new drop_incident (schema_of (with_items items s)) 9 p.table has.parts.known refl refl refl refl (refl, refl) count h) has.parts
 
--- what is dropped where no table has a row
+-- a DROP, if no table has a row
 pub incident_dropping : IsDropping beside_item drop_incident 9 (record incident_table { tree = 18 })
 unfolding understood everything
 incident_dropping = record { command = refl; listed = refl; quiet = refl; uncounted = refl; whole = (refl, refl, refl, refl); unreferred = (refl, (refl, (refl, (refl, (refl, (refl, (refl, (refl, (refl, (refl, (refl, tt))))))))))) }
@@ -83,7 +83,7 @@ makes_incident old new s items count h has =
 
 -- ---- rows are moved
 
--- the table of the lines stands last, beside the tables of version 1
+-- the table of the lines is the last, after the tables of version 1
 pub stands_items : (s : State) (items : List Row) → Stands (in_versions_1_and_2 1 s ++ incident_part s ∷ []) (item_part items) [] 10
 stands_items s items = record { listed = refl; uncounted = refl; timeless = refl; alone = λ tree olds news. refl; apart = refl; same = λ rows. refl }
 
@@ -98,7 +98,7 @@ moves_line old new incident place line s items more same count h has =
       numbered = lines_count put_line _ (line_terms 1) (row ∷ []) items s refl (refl, refl) refl (cast_items items (x ∷ [])) old new count h has;
     }
 
--- one line fails for a reason alone
+-- one line fails only for a reason
 pub line_fails : (incident place : ℕ) (line : Line) (s : State) (items more : List Row) → IsPermutation (item_row (record { incident = incident; place = place; line = line }) ∷ items) more → CanStand more
     → (old new : sql.State) (e : Error) → ExecutesInside 0 put_line (Int (pos incident) ∷ Int (pos place) ∷ line_shown line) old new (Err e) → HoldsBeside items s old.now → e ≢ SqliteFailure code.OutOfMemory → HasReason old new
 unfolding understood everything

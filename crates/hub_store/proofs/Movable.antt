@@ -1,4 +1,5 @@
--- What a migration meets in a sound state: its incidents can be read, and their lines and names stand in the new tables.
+-- The incidents of a sound state that a migration moves: they can be read, and the new tables take their lines and
+-- names.
 use Rattle.std.proofs.Common.{◌≡◌, ◌≢◌, ℕ, suc, ◌+◌, ◌*◌, ◌<◌, ◌≤◌, ◌&&◌, ◌==◌, pos, List, [], ◌∷◌, ◌++◌, map, filter, take, length, length-append, Bool, true, false, cond, nat_lt, nat_le, Ok, Err, refl, sym, ap, ap₂, subst, ◌∙◌, arith}
 use Rattle.std.specs.List.{AllByRecursion, list_any}
 use Rattle.std.specs.Ordering.{is_eq, int_cmp}
@@ -254,7 +255,7 @@ row_count : (xs : List Item) → length (map item_row xs) ≡ length xs
 row_count [] = refl
 row_count (x ∷ xs) = ap suc (row_count xs)
 
--- the lines of the first documents stand in the new table
+-- the new table takes the lines of the first documents
 pub lines_stand : (s : core.State) (n : ℕ) → IsSound s → AreTaken s → CanStand (map item_row (items_in (incidents_up_to n s)))
 lines_stand s n sound taken =
     let p = λ (i : Incident). nat_le i.naming.number n in
@@ -291,7 +292,7 @@ idents_differ a b other =
 pub idents_apart : (a b : Incident) → key_of a ≢ key_of b → IdentsApart (named_row_2 a) (named_row_2 b)
 idents_apart a b other = (idents_differ a b other, idents_differ b a (λ same. other (sym same)))
 
--- of the rows of a version, which tell the number, the source and the ident
+-- in the rows of a version, which show number, source and ident
 module _ (kept : Naming → Row) (numbers : (a b : Naming) → a.number < b.number → NumbersApart (kept a) (kept b)) (idents : (a b : Incident) → key_of a ≢ key_of b → IdentsApart (kept a.naming) (kept b.naming)) where
   abbrev kept_row : Incident → Row
   kept_row i = kept i.naming
@@ -316,7 +317,7 @@ module _ (kept : Naming → Row) (numbers : (a b : Naming) → a.number < b.numb
   short_names [] all low = tt
   short_names (i ∷ is) all low = ((i.naming, refl, all.0, omega (arith, low.0)), short_names is all.1 low.1)
 
-  -- all incidents stand in the table that keeps them so
+  -- a table that keeps incidents so takes all of them
   pub names_stand_as : (s : core.State) → IsSound s → AllByRecursion (λ (i : Incident). IsShort (kept i.naming)) s.incidents → CanName kept (map (λ (i : Incident). kept i.naming) s.incidents)
   names_stand_as s sound short = record {
     numbers = names_rise s.incidents (ascending 0 s.incidents sound.incidents.numbered.0);
@@ -328,7 +329,7 @@ module _ (kept : Naming → Row) (numbers : (a b : Naming) → a.number < b.numb
 shorter : (i : Incident) → ShortNaming i → IsShort (named_row_2 i)
 shorter i short = omega (arith, short.1)
 
--- all incidents stand in the table of version 2
+-- the table of version 2 takes all incidents
 pub names_stand : (s : core.State) → IsSound s → AreTaken s → CanName naming_row_2 (map named_row_2 s.incidents)
 names_stand s sound taken =
     names_stand_as naming_row_2 numbers_apart idents_apart s sound (all_weaker ShortNaming (λ (i : Incident). IsShort (named_row_2 i)) shorter s.incidents taken.incidents)

@@ -14,7 +14,7 @@ use Rattle.hub_store.proofs.OldTexts.{none_up_to, up_to_next, up_to_all}
 pub none_moved : (s : State) → IsSound s → incidents_up_to 0 s ≡ []
 none_moved s sound = none_up_to 0 0 s.incidents (omega arith) sound.incidents.numbered.0
 
--- the lines of the next document come in
+-- the lines of the next document are put
 pub next_more : (s : State) (number : ℕ) (i : Incident) → IsSound s → incident_above number s ≡ Some i
     → HasMore i.naming.number 1 i.document (map item_row (items_in (incidents_up_to number s))) (map item_row (items_in (incidents_up_to i.naming.number s)))
 next_more s number i sound is =
@@ -22,7 +22,7 @@ next_more s number i sound is =
     subst (λ after. HasMore i.naming.number 1 i.document (map item_row (items_in before)) (map item_row (items_in after))) (sym (up_to_next number 0 s.incidents i sound.incidents.numbered.0 is))
     (items_put i before (before ++ i ∷ []) (IsPermutation-append_comm (i ∷ []) before))
 
--- and what else its row holds is kept
+-- and the rest of its row is kept
 pub next_kept : (s : State) (number : ℕ) (i : Incident) → IsSound s → incident_above number s ≡ Some i → naming_in (incidents_up_to i.naming.number s) ≡ naming_in (incidents_up_to number s) ++ i.naming ∷ []
 next_kept s number i sound is = ap naming_in (up_to_next number 0 s.incidents i sound.incidents.numbered.0 is) ∙ map-append (λ (j : Incident). j.naming) (incidents_up_to number s) (i ∷ [])
 

@@ -1,4 +1,4 @@
--- How a migration comes from one version to the next, by what its calls make.
+-- How a migration gets from one version to the next, by what its calls make.
 use Rattle.std.proofs.Common.{◌≡◌, ◌<◌, ◌≤◌, nat_lt, ℕ, List, [], ◌∷◌, ◌++◌, map, Some, None, Ok, IsTrue, sym, ap, subst, ◌∙◌, arith}
 use Rattle.sqlite_trees.proofs.ListLemmas.{map-map}
 use Rattle.sqlite.specs.Effect.{Database}
@@ -27,7 +27,7 @@ use Rattle.hub_store.proofs.Moved.{none_moved, next_more, next_kept, all_moved}
 is_above : (s : core.State) (number : ℕ) (i : Incident) → incident_above number s ≡ Some i → number < i.naming.number
 is_above s number i is = ltb-true number i.naming.number (found_is (λ (j : Incident). nat_lt number j.naming.number) s.incidents i is)
 
--- the lines of the next document are put, and what else its row holds is kept
+-- the lines of the next document are put, and the rest of its row is kept
 pub one_moved : {T : Type 0} {x : T} (mid new : State) (number : ℕ) (kept : List Naming) (s : core.State) (i : Incident) → HasTexts s → Some i ≡ incident_above number s → HoldsMoved number kept mid.now s
     → PutsLines i.naming.number 1 i.document mid new (Ok x) → HasCleanDisk new → IsTrue mid.in_transaction → HoldsNext number (kept ++ i.naming ∷ []) (Some i.naming.number) new.now s
 one_moved mid new number kept s i has is before puts clean inside = (
@@ -50,7 +50,7 @@ moved_none db s has holds = record {
   are_kept = sym (ap naming_in (none_moved s has.sound));
 }
 
--- behind the last
+-- after the last
 pub moved_all : (db : Database) (number : ℕ) (kept : List Naming) (s : core.State) → HoldsNext number kept None db s → HoldsBeside (map item_row (items_of s)) s db × (kept ≡ naming_in s.incidents)
 moved_all db number kept s h =
     (subst (λ is. HoldsBeside (map item_row (items_in is)) s db) h.1 h.0.moved, h.0.are_kept ∙ ap naming_in h.1)

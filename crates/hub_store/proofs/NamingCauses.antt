@@ -1,4 +1,5 @@
--- An INSERT of an incident without its lines, while the table of version 2 or that of version 4 is filled, is refused for nothing but a limit on steps.
+-- An INSERT of an incident without its lines, while the table of version 2 or 4 is filled, fails only for a limit on
+-- steps.
 use lib.Ieee.{is_nan}
 use Rattle.std.proofs.Common.{◌≡◌, ◌≢◌, ℕ, ◌<◌, ◌^◌, ◌&&◌, not, pos, List, [], ◌∷◌, map, drop, Bool, Err, refl, sym, ap, subst, ◌∙◌, arith}
 use Rattle.std.specs.List.{AllByRecursion}
@@ -179,7 +180,7 @@ unnamed_terms = col 0 0 ∷ lit Null ∷ col 0 1 ∷ col 0 2 ∷ col 0 3 ∷ lit
 pub cast_unnamed : (k : Naming) → cast_row incident_4 (unnamed_row k) ≡ unnamed_row k
 cast_unnamed k = rw (cast_int k.number, cast_int k.source, cast_int k.revision, cast_null) refl
 
--- these incidents in the table, beside all else of a state
+-- these incidents in the table, with all else of a state
 abbrev pub Unnamed : List Row → core.State → Database → Type 0
 Unnamed rows s = HoldsAnew incident_step rows (under 4 (drop 1 (parts_3 s)))
 

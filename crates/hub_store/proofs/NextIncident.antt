@@ -1,4 +1,4 @@
--- The query of the next incident of version 1, while the table of the lines stands beside its tables.
+-- The query of the next incident of version 1, with the table of lines after its tables.
 use Rattle.std.proofs.Common.{◌≡◌, ◌≢◌, inl, inr, ℕ, pos, List, [], ◌∷◌, map, codes, nat_lt, true, false, IsSome, Option, Result, IfOk, refl, sym, ap, subst, ◌∙◌}
 use Rattle.std.proofs.lemmas.Bool.{true≢false}
 use Rattle.std.proofs.lemmas.Result.{IfOk-weaker}
@@ -97,7 +97,7 @@ next_whole number = (refl, refl, refl, refl)
 next_accepted : (number : ℕ) → accepts_program beside_item [] next_query (Int (pos number) ∷ []) ≡ true
 next_accepted number = refl
 
--- nothing refuses it but a limit on steps
+-- it fails only for a limit on steps
 unrefused : (limit : Option ℕ) (db : Database) (number : ℕ) (e : Error) → db.schema ≡ beside_item → RefusesQuery limit db (program next_query) (Int (pos number) ∷ []) e → IsSome limit
 unrefused limit db number e known (inl h) = absurd (true≢false (sym (next_accepted number) ∙ subst (λ k. accepts_program k [] next_query (Int (pos number) ∷ []) ≡ false) known h.1))
 unrefused limit db number e known (inr (inl (is, inl none))) = absurd none
@@ -110,7 +110,7 @@ next_fails g number old new e s items it holds other =
     reason_after (state g old) (state g it.mid) (state g new) _ it.survives it.is_open
     (query_fails next_incident (Int (pos number) ∷ []) (state g it.mid) (state g new) beside_item known next_query heads next_is (next_whole number) next_plain.1 e (unrefused (state g it.mid).step_limit (state g it.mid).now number e known) other it.fails)
 
--- the row that it shows, if there is one, can be read
+-- the row that it shows, if any, can be read
 pub next_reads : {S : Type 0} (g : store.Ghosts S) (number : ℕ) (old new : Held S) (rows : List Row) (s : core.State) (items : List Row) → HasShown g next_incident (Int (pos number) ∷ []) old new rows → HasTexts s → AreTaken s → HoldsBeside items s (state g old).now → ReadsFirst rows
 next_reads g number old new rows s items it has taken holds =
     let answer = next_answer g (Int (pos number) ∷ []) old new rows holds.parts.known it in

@@ -1,4 +1,4 @@
--- An INSERT of a row that has its own number, into a table with one key beside it, is refused for nothing but a limit on steps.
+-- An INSERT of a row with its own number, into a table with one other key, fails only for a limit on steps.
 use Rattle.std.proofs.Common.{◌≡◌, ◌≢◌, inl, inr, ℕ, ◌||◌, ◌==◌, ◌/◌, not, if◌then◌else◌, List, [], ◌∷◌, map, drop, length, Bool, true, false, Err, refl, sym, ap, subst, ◌∙◌, arith}
 use Rattle.std.proofs.lemmas.Bool.Decides.{nat_tests}
 use Rattle.std.specs.List.{AllByRecursion, list_all}
@@ -47,14 +47,16 @@ use Rattle.hub_store.proofs.Lists.{came_in, has_permuted}
 use Rattle.hub_store.proofs.Standing.{OneApart, pairs_permuted}
 use Rattle.hub_store.proofs.WriteCauses.{Breaks, IsWritable, insert_stops}
 
--- the table at this place of the schema has one key beside its number, in which no two rows are the same: of a schema that is written out each field but the last is `refl`
+-- The table at this place of the schema has one key beside its number, in which no two rows are the same. For a schema
+-- that is written out each field but the last is `refl`.
 pub record IsKeyed (schema : Schema) (table : Table) (at : ℕ) (key : List ℕ) (same : Row → Row → Bool) : Type 0 where
   pub writable : IsWritable schema table at
   pub own : list_all (λ (i : Index). not (i.table == table.tree) || bytes_eq i.columns key) schema.indexes ≡ true
   pub refers : table.references ≡ []
   pub unique : (t : Table) → t.tree ≡ table.tree → (rows : List Row) → Pairwise (OneApart same) rows → AllByRecursion (λ row. is_unique_in schema t rows row ≡ true) rows
 
--- the row keeps the rules of the table, has a number, and can be stored: of a row that is written out the first fields are `refl`
+-- The row keeps the rules of the table, has a number, and can be stored. For a row that is written out the first fields
+-- are `refl`.
 pub record IsFitRow (schema : Schema) (table : Table) (key : List ℕ) (row : Row) : Type 0 where
   pub typed : (db : Trees) → passes Datatype schema db table row ≡ true
   pub present : (db : Trees) → passes NotNull schema db table row ≡ true
@@ -114,7 +116,7 @@ module _ (schema : Schema) (table : Table) (at : ℕ) (key : List ℕ) (same : R
     unbroken (inr (other, inl is, big)) = sized (subst (IsOversized schema table) is big)
     unbroken (inr (other, inr none, big)) = none
 
-  -- the row fails for a reason alone
+  -- the row fails only for a reason
   pub number_fails : (text : List ℕ) (params : Row) (terms : List Term) (width : ℕ) → command_of (understood schema text) ≡ Insert at (Values terms width) → IsWhole text params (understood schema text) → accepts_terms terms (stamped table params) ≡ true
       → value_rows (stamped table params) width (length terms / width) terms ≡ row ∷ [] → cast_row table row ≡ row
       → (rows : List Row) (old new : State) (e : Error) → old.now.schema ≡ schema → IsDatabase old.now → IsPermutation rows (old.now.trees table.tree) → AllByRecursion (NumbersApart row) rows → Pairwise (OneApart same) (row ∷ rows)

@@ -1,4 +1,4 @@
--- The incidents of version 1, as a migration reads them: the texts of their documents read back.
+-- The incidents of version 1 as a migration reads them: the texts of their documents read back.
 use Rattle.std.proofs.Common.{◌≡◌, ◌<◌, ◌+◌, ◌≤◌, ℕ, pos, List, [], ◌∷◌, ◌++◌, map, filter, find, take, slice_get, Bool, true, false, cond, nat_lt, nat_le, nat_cmp, Option, Some, None, Ok, refl, sym, ap, subst, ◌∙◌, arith}
 use Rattle.std.specs.List.{AllByRecursion}
 use Rattle.std.specs.Str.{IsUtf8, is_utf8}
@@ -106,7 +106,7 @@ not_past m n h = grind (arith, nat_tests)
 not_over : (m n : ℕ) → m < n → n ≤ m → ⊥
 not_over m n h k = omega (arith, h, k)
 
--- none is up to a number below all
+-- none is up to a number that is below all
 pub none_up_to : (m k : ℕ) (is : List Incident) → m ≤ k → CountsFrom incident_number k is → filter (λ (i : Incident). nat_le i.naming.number m) is ≡ []
 none_up_to m k is low counts = filter_none _ is (all_weaker (λ (i : Incident). k < i.naming.number) (λ (i : Incident). nat_le i.naming.number m ≡ false) (λ i h. beyond m i.naming.number (omega (arith, low, h))) is (numbers_above incident_number k is counts))
 
@@ -118,7 +118,7 @@ found_above n k (x ∷ is) i counts found = go (λ e. found_above n (k + 1) is i
     go more true above e = let same : x ≡ i = cc in subst (λ (j : Incident). k < j.naming.number) same (omega (arith, counts.0))
     go more false above e = let high = more e in omega (arith, high)
 
--- with the next above a number it is one more
+-- with the next above a number there is one more
 pub up_to_next : (n k : ℕ) (is : List Incident) (i : Incident) → CountsFrom incident_number k is → find (λ (j : Incident). nat_lt n j.naming.number) is ≡ Some i
     → filter (λ (j : Incident). nat_le j.naming.number i.naming.number) is ≡ filter (λ (j : Incident). nat_le j.naming.number n) is ++ i ∷ []
 up_to_next n k [] i counts found = absurd cc
@@ -137,7 +137,7 @@ up_to_next n k (x ∷ is) i counts found = go (λ e. up_to_next n (k + 1) is i c
         let low : x.naming.number ≤ n = not_past n x.naming.number above in
         rw (within x.naming.number i.naming.number (omega (arith, counts.0, high)), within x.naming.number n low) (ap (λ l. x ∷ l) (more e))
 
--- where none is above a number it is all
+-- if none is above a number, these are all
 pub up_to_all : (n : ℕ) (is : List Incident) → find (λ (j : Incident). nat_lt n j.naming.number) is ≡ None → filter (λ (j : Incident). nat_le j.naming.number n) is ≡ is
 up_to_all n [] found = refl
 up_to_all n (x ∷ is) found = go (λ e. up_to_all n is e) (nat_lt n x.naming.number) refl found

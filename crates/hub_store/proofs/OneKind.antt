@@ -13,7 +13,7 @@ use Rattle.hub_store.proofs.Compare.{is_same, equal_texts}
 use Rattle.hub_store.proofs.Found.{always, filter_rows}
 use Rattle.hub_store.proofs.PairSets.{is_other_kind, some_set}
 
--- the set is named so, and the rest of the row passes
+-- the row has the name of the set, and the rest of it passes
 abbrev pub is_of : List ℕ → (Row → Bool) → Row → Bool
 is_of kind test r = is_same (column r 0) (Text kind) && test r
 
@@ -34,7 +34,7 @@ module _ (kind : List ℕ) (test : Row → Bool) where
       filter_rows (pair_row kind) (is_of kind test) (λ p. test (pair_row kind p)) (λ p. ap (λ b. b && test (pair_row kind p)) (equal_texts kind kind ∙ itself)) pairs
       ∙ sym (filter_rows (pair_row kind) test (λ p. test (pair_row kind p)) (λ p. refl) pairs)
 
-  -- a query by the name of a set sees that set alone
+  -- a query by the name of a set sees only that set
   pub kind_alone : (at : ℕ) (sets : List PairSet) (pairs : List Pair) → slice_get sets at ≡ Some (kind, pairs) → bytes_eq kind kind ≡ true → list_all (is_other_kind kind) (take at sets ++ drop (suc at) sets) ≡ true →
       filter (is_of kind test) (rows_of_pairs sets) ≡ filter test (map (pair_row kind) pairs)
   kind_alone at [] pairs is itself others = absurd cc

@@ -1,4 +1,4 @@
--- What an opening gives, by what the version's question left.
+-- What an opening returns, by what the query for the version left.
 use Rattle.std.proofs.Common.{◌≡◌, ℕ, Some}
 use Rattle.sqlite.specs.State.{State, HasCleanDisk, Survives}
 use Rattle.hub_store.specs.declared.sql_shelf.OpenFault.{OpenFault}

@@ -1,4 +1,4 @@
--- A list that was put in order is the one that rises.
+-- A list that was sorted is the one that rises.
 use Rattle.std.proofs.Common.{◌≡◌, suc, List, [], ◌∷◌, false, refl, sym, ap, ◌∙◌, arith, add-one, true≢false}
 use Rattle.std.specs.List.Sorted.{IsPermutation, IsSortedBy}
 use Rattle.std.specs.declared.cmp.Ordering.{Ordering}
@@ -55,7 +55,7 @@ module _ {X K : Type 0} {R : K → K → Ordering} (total : IsTotalOrder R) (key
   both [] h k = tt
   both (y ∷ ys) h k = (all_both _ _ _ (below y) ys h.0 k.0, both ys h.1 k.1)
 
-  -- what sorting makes of the elements of a list that rises is that list
+  -- sorting the elements of a list that rises returns that list
   pub sorted_as : (xs ys : List X) → Rises R key xs → IsPermutation xs ys → IsSortedBy (λ x y. is_lt (R (key x) (key y))) ys → ys ≡ xs
   unfolding Apart
   sorted_as xs ys up same sorted =

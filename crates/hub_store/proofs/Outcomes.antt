@@ -1,4 +1,4 @@
--- What a query and a statement leave, whatever they answer.
+-- What a query and a statement leave, whatever they return.
 use Rattle.std.proofs.Common.{◌≡◌, ◌⊎◌, inl, inr, ℕ, List, false, Option, None, Some, Err, IsTrue, sym, ap, subst, ◌∙◌}
 use Rattle.sqlite_value.specs.Order.{Row}
 use Rattle.sqlite_schema.specs.declared.command.Command.TheVariants.{Select}

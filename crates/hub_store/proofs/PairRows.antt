@@ -13,7 +13,7 @@ use Rattle.hub_store.specs.inner.ShownPairs.{ShowsNumber}
 use Rattle.hub_store.specs.Pairs.{Pair}
 use Rattle.hub_store.proofs.Finding.{reads_first}
 
--- a row is shown where there is an element
+-- a row is shown if there is an element
 pub any_alone : {X : Type 0} (shown : X → Row) (o : Option X) (rows : List Row) → rows ≡ map shown (option_to_list o) → not (length rows == 0) ≡ is_some o
 any_alone {X = X} shown o rows is = ap (λ l. not (length l == 0)) is ∙ go o
   where
@@ -40,7 +40,7 @@ module _ {X : Type 0} (shown : X → Row) (number : X → ℕ) (first : (x : X) 
 pub reads_alone : {X : Type 0} (shown : X → Row) (o : Option X) (rows : List Row) (r : Result (Option X) Error) → rows ≡ map shown (option_to_list o) → IfOk r (λ found. ShowsFirst (IsShownBy shown) rows found) → IfOk r (λ found. found ≡ o)
 reads_alone shown o rows r is = reads_first shown o rows r (subst (λ l. IsPermutation l rows) is (IsPermutation-refl rows))
 
--- ---- pairs as the elements that they stand for
+-- ---- pairs as their elements
 
 pub found_pair : {X : Type 0} (pair : X → Pair) (q : Pair → Bool) (xs : List X) → find q (map pair xs) ≡ option_map pair (find (λ x. q (pair x)) xs)
 found_pair pair q [] = refl

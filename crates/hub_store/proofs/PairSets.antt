@@ -1,4 +1,4 @@
--- Five sets in one table, by a column that names the set.
+-- Five sets in one table, told apart by a column with the set's name.
 use Rattle.std.proofs.Common.{◌≡◌, ℕ, zero, suc, pos, List, [], ◌∷◌, ◌++◌, map, filter, take, drop, slice_get, Bool, true, false, not, ◌&&◌, ◌==◌, Some, refl, sym, ap, subst, ◌∙◌}
 use Rattle.std.specs.List.{list_all}
 use Rattle.std.specs.Str.{bytes_eq}
@@ -15,7 +15,7 @@ use Rattle.hub_store.proofs.Found.{filter_all, filter_rows}
 pub some_set : (x y : PairSet) → Some x ≡ Some y → x ≡ y
 some_set x y e = cc
 
--- ---- a pair comes in
+-- ---- a pair is put
 
 pub pair_in : (at : ℕ) (sets after : List PairSet) (kind : List ℕ) (one : Pair) (pairs more : List Pair) → slice_get sets at ≡ Some (kind, pairs) → after ≡ take at sets ++ (kind, more) ∷ drop (suc at) sets →
     IsPermutation (one ∷ pairs) more → IsPermutation (pair_row kind one ∷ rows_of_pairs sets) (rows_of_pairs after)
@@ -33,7 +33,7 @@ pair_in at sets after kind one pairs more is now same = subst (λ l. IsPermutati
         IsPermutation-trans _ _ _ (IsPermutation-sym _ _ (IsPermutation-middle (map (pair_row set.0) set.1) (pair_row kind one) (rows_of_pairs rest)))
         (IsPermutation-append_right (map (pair_row set.0) set.1) _ _ (go at rest is))
 
--- ---- pairs go out
+-- ---- pairs are taken
 
 abbrev pub is_pair : ℕ → ℕ → Pair → Bool
 is_pair a b p = p.0.0 == a && p.0.1 == b
@@ -63,7 +63,7 @@ other_sets kind a b (set ∷ sets) others =
     filter-append (λ r. not (is_row kind a b r)) (map (pair_row set.0) set.1) (rows_of_pairs sets)
     ∙ (ap (λ l. l ++ filter (λ r. not (is_row kind a b r)) (rows_of_pairs sets)) (other_set kind a b set (not-true _ both.0)) ∙ ap (λ l. map (pair_row set.0) set.1 ++ l) (other_sets kind a b sets both.1))
 
--- the pair of these numbers goes out of its set alone
+-- the pair of these numbers is taken out of its set only
 pub pair_out : (at : ℕ) (sets after : List PairSet) (kind : List ℕ) (a b : ℕ) (pairs : List Pair) → slice_get sets at ≡ Some (kind, pairs) → bytes_eq kind kind ≡ true →
     after ≡ take at sets ++ (kind, filter (λ p. not (is_pair a b p)) pairs) ∷ drop (suc at) sets → list_all (is_other_kind kind) (take at sets ++ drop (suc at) sets) ≡ true →
     filter (λ r. not (is_row kind a b r)) (rows_of_pairs sets) ≡ rows_of_pairs after

@@ -53,7 +53,7 @@ one_of n (q ∷ qs) p p' rs old new apart kept change are =
     let both = and_parts _ _ apart in
     (same_rows (held q) old new (kept.0 (differ q.table.tree n both.0)) are.0, one_of n qs p p' rs old new both.1 kept.1 change are.1)
 
--- the rows of one part change: of parts that are written out, `refl` finds the two premises
+-- The rows of one part change. For parts that are written out, `refl` proves the two premises.
 pub changes : (qs : List Part) (p : Part) (rs : List Part) (rows : List Row) (old new : Database) (edit : Edit) → edit.table.tree ≡ p.table.tree → are_apart p.table.tree (qs ++ rs) ≡ true → schema_of (qs ++ p ∷ rs) ≡ schema_of (qs ++ with_rows rows p ∷ rs)
     → new.schema ≡ schema_of (qs ++ p ∷ rs) → IsDatabase new → Applies (schema_of (qs ++ p ∷ rs)) Enforced old.trees edit new.trees → (IsHeld old.trees (held p) → IsHeld new.trees (held (with_rows rows p))) → HoldsParts (qs ++ p ∷ rs) old → HoldsParts (qs ++ with_rows rows p ∷ rs) new
 changes qs p rs rows old new edit is apart same schema sound a change has = record {
@@ -62,12 +62,12 @@ changes qs p rs rows old new edit is apart same schema sound a change has = reco
   means = one_of p.table.tree qs p (with_rows rows p) rs old.trees new.trees apart (subst (λ n. IsKept n old.trees new.trees (qs ++ p ∷ rs)) is a.tables) change has.means;
 }
 
--- the rows of one part stand in another order
+-- the rows of one part are in another order
 pub exchanged_rows : (db : Trees) (qs : List Part) (p : Part) (rs : List Part) (more : List Row) → IsPermutation p.rows more → AreHeld db (qs ++ p ∷ rs) → AreHeld db (qs ++ with_rows more p ∷ rs)
 exchanged_rows db [] p rs more same are = (permuted db p.table.tree p.seen p.rows more same are.0, are.1)
 exchanged_rows db (q ∷ qs) p rs more same are = (are.0, exchanged_rows db qs p rs more same are.1)
 
--- a part at its place among the others: of parts that are written out, each field is `refl`
+-- A part at its place among the others. For parts that are written out, each field is `refl`.
 pub record Stands (qs : List Part) (p : Part) (rs : List Part) (at : ℕ) : Type 0 where
   pub listed : slice_get (schema_of (qs ++ p ∷ rs)).tables at ≡ Some p.table
   pub uncounted : p.table.is_counted ≡ false
@@ -82,7 +82,7 @@ module _ (qs : List Part) (p : Part) (rs : List Part) (at : ℕ) (stands : Stand
   pub puts_whole : (terms : List Term) (width : ℕ) → command_of (understood (schema_of (qs ++ p ∷ rs)) sql) ≡ Insert at (Values terms width) → IsDatabase new.now
   puts_whole terms width is = (inserted (schema_of (qs ++ p ∷ rs)) p.table at stands.listed stands.uncounted stands.timeless stands.alone sql params old new has.known plain count h terms width is).whole
 
-  -- one row is put, which the columns take as it is
+  -- one row is put, which the columns accept as it is
   pub puts : (terms : List Term) (width : ℕ) → command_of (understood (schema_of (qs ++ p ∷ rs)) sql) ≡ Insert at (Values terms width) → (row : Row) → value_rows (stamped p.table params) width (length terms / width) terms ≡ row ∷ [] → cast_row p.table row ≡ row
       → (shown : Row) → ((rows : List Row) → p.seen (with_rowid Chosen rows row) ≡ shown) → (more : List Row) → IsPermutation (shown ∷ p.rows) more → HoldsParts (qs ++ with_rows more p ∷ rs) new.now
   puts terms width is row rows cast shown shows more same =
@@ -94,7 +94,7 @@ module _ (qs : List Part) (p : Part) (rs : List Part) (at : ℕ) (stands : Stand
       changes qs p rs more old.now new.now _ refl stands.apart (stands.same more) c.schema_is c.whole a
       (λ one. permuted new.now.trees p.table.tree p.seen (shown ∷ p.rows) more same (subst (λ r. IsHeld new.now.trees (held (with_rows (r ∷ p.rows) p))) (shows before) (comes_in old.now.trees new.now.trees p.table p.seen p.rows _ a one))) has
 
-  -- several rows are put, which the columns take as they are
+  -- several rows are put, which the columns accept as they are
   pub puts_all : (terms : List Term) (width : ℕ) → command_of (understood (schema_of (qs ++ p ∷ rs)) sql) ≡ Insert at (Values terms width) → (rows : List Row) → value_rows (stamped p.table params) width (length terms / width) terms ≡ map bare rows → map (cast_row p.table) (map bare rows) ≡ map bare rows
       → ((before : List Row) → map p.seen (numbered Chosen before (map bare rows)) ≡ rows) → (more : List Row) → IsPermutation (rows ++ p.rows) more → HoldsParts (qs ++ with_rows more p ∷ rs) new.now
   puts_all terms width is rows given cast shows more same =
@@ -106,7 +106,7 @@ module _ (qs : List Part) (p : Part) (rs : List Part) (at : ℕ) (stands : Stand
       changes qs p rs more old.now new.now _ refl stands.apart (stands.same more) c.schema_is c.whole a
       (λ one. permuted new.now.trees p.table.tree p.seen (rows ++ p.rows) more same (subst (λ l. IsHeld new.now.trees (held (with_rows (l ++ p.rows) p))) (shows before) (come_in old.now.trees new.now.trees p.table p.seen p.rows _ a one))) has
 
-  -- the rows that pass the tests are taken out
+  -- the rows that pass the tests are removed
   pub takes : (terms : List Term) → command_of (understood (schema_of (qs ++ p ∷ rs)) sql) ≡ Delete at (program (one_table p.table.tree terms (col 1 0 ∷ []))) → (k : Row → Bool) → ((r : Row) → keeps terms params r ≡ k (p.seen r))
       → (left : List Row) → filter (λ r. not (k r)) p.rows ≡ left → HoldsParts (qs ++ with_rows left p ∷ rs) new.now
   takes terms is k same left gone =

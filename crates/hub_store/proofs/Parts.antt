@@ -17,7 +17,7 @@ use Rattle.hub_store.proofs.Drops.{Dropped}
 abbrev pub AreHeld : Trees → List Part → Type 0
 AreHeld db ps = AllByRecursion (IsHeld db) (map held ps)
 
--- a table with the rows that it had holds what it held
+-- a table with the same rows holds the same
 pub same_rows : (h : Holding) (old new : Trees) → new h.tree ≡ old h.tree → IsHeld old h → IsHeld new h
 same_rows h old new same is = record {
   shaped = subst (IsShaped table_shape) (sym same) is.shaped;
@@ -42,7 +42,7 @@ and_one : (ps : List Part) (p : Part) (db : Trees) → AreHeld db ps → IsHeld 
 and_one [] p db are one = (one, tt)
 and_one (q ∷ ps) p db are one = (are.0, and_one ps p db are.1 one)
 
--- DROP of one part: of parts that are written out, `refl` finds the premise
+-- DROP of one part. For parts that are written out, `refl` proves the premise.
 pub drops : (qs : List Part) (p : Part) (rs : List Part) (old new : Database) → without_table (schema_of (qs ++ p ∷ rs)) p.table.tree ≡ schema_of (qs ++ rs)
     → Dropped (schema_of (qs ++ p ∷ rs)) p.table.tree old new → HoldsParts (qs ++ p ∷ rs) old → HoldsParts (qs ++ rs) new
 drops qs p rs old new left d has = record {

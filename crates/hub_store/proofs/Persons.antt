@@ -1,4 +1,4 @@
--- The person whom a query finds.
+-- The person that a query finds.
 use Rattle.std.proofs.Common.{ℕ, List, [], ◌∷◌, map, refl, subst, ◌∙◌}
 use Rattle.std.specs.Option.{option_to_list}
 use Rattle.std.specs.Str.{bytes_eq}

@@ -1,4 +1,5 @@
--- Where each table of the newest version stands, by its name among the parts: the meaning of a text, and what a statement changes, cite these and no number.
+-- The place of each table of the newest version, by its name among the parts. The meaning of a text, and what a
+-- statement changes, cite these and no number.
 use Rattle.std.proofs.Common.{◌≡◌, ℕ, zero, suc, List, [], ◌∷◌, slice_get, Some, unwrap_or, codes, subst}
 use Rattle.std.specs.List.{AllByRecursion, position_from}
 use Rattle.std.specs.Str.{bytes_eq}
@@ -121,6 +122,6 @@ held_among at [] h is all = absurd cc
 held_among {db} zero (x ∷ hs) h is all = let same : x ≡ h = cc in subst (IsHeld db) same all.0
 held_among (suc at) (x ∷ hs) h is all = held_among at hs h is all.1
 
--- of parts that are written out, `refl` finds the premise
+-- for parts that are written out, `refl` proves the premise
 pub held_of : {db : Trees} (s : State) (at : ℕ) (h : Holding) → slice_get (holdings s) at ≡ Some h → Means db s → IsHeld db h
 held_of s at h is means = held_among at (holdings s) h is means

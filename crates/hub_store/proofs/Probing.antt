@@ -1,4 +1,4 @@
--- What a search answers of an incident whose lines came to it, or as many as made it sure.
+-- The result of a search that read an incident's lines, or as many as made it sure.
 use Rattle.std.proofs.Common.{◌≡◌, ℕ, ◌==◌, [], ◌++◌, Bool, true, false, Option, Some, None, unwrap_or, option_map, Ok, append-nil, refl, sym, ap, subst, ◌∙◌}
 use Rattle.std.specs.Option.{option_map_or}
 use Rattle.std.proofs.lemmas.Bool.{true≢false}

@@ -1,4 +1,4 @@
--- What each INSERT, DELETE and UPDATE does under the schema of the hub, as rows.
+-- Each INSERT, DELETE and UPDATE under the schema of the hub, as a change of rows.
 use Rattle.std.proofs.Common.{◌≡◌, ℕ, ℤ, suc, pos, ◌/◌, List, [], ◌∷◌, ◌++◌, map, take, drop, filter, not, length, slice_get, Bool, true, false, if◌then◌else◌, Option, Some, Ok, refl, sym, ap, subst, ◌∙◌}
 use Rattle.std.specs.List.{list_all}
 use Rattle.std.specs.List.Sorted.{IsPermutation}
@@ -36,11 +36,11 @@ use Rattle.hub_store.proofs.Places.{item_place, community_place, gate_place, grp
 
 -- ---- the three kinds of change
 
--- a row was put, which the columns take as it is
+-- a row was put, which the columns accept as it is
 abbrev pub Put : Table → Row → State → State → Type 0
 Put table row old new = (new.now.schema ≡ hub_schema) × Applies hub_schema Enforced old.now.trees (record { table = table; gone = []; news = with_rowid Chosen (old.now.trees table.tree) row ∷ [] }) new.now.trees × IsDatabase new.now
 
--- the rows that pass the tests were taken out
+-- the rows that pass the tests were removed
 abbrev pub Taken : Table → List Term → Row → State → State → Type 0
 Taken table terms params old new = (rows : List Row) × IsAnswer (one_table table.tree terms (col 1 0 ∷ [])) old.now.trees params rows × Changed hub_schema table (ids_of rows) [] old.now new.now
 
@@ -59,7 +59,7 @@ put_one table at listed uncounted timeless alone sql params old new has plain co
     let news = ap (λ all. numbered Chosen (old.now.trees table.tree) (map (cast_row table) all)) rows ∙ ap (λ r. with_rowid Chosen (old.now.trees table.tree) r ∷ []) cast in
     (c.schema_is, subst (λ n. Applies hub_schema Enforced old.now.trees (record { table = table; gone = []; news = n }) new.now.trees) news c.applies, c.whole)
 
--- ---- what the tables hold afterwards, where the changed one stands at a place among them
+-- ---- what the tables hold afterwards, with the changed one at its place among them
 
 module _ (table : Table) (old new : State) (at : ℕ) (before after : List Holding) (seen : Row → Row) (all : List Row) (is : slice_get before at ≡ Some (record { tree = table.tree; seen = seen; rows = all }))
     (others : list_all (is_other table.tree) (take at before ++ drop (suc at) before) ≡ true) (held : AreHeld old.now.trees before) where
@@ -84,7 +84,7 @@ module _ {X : Type 0} (row : X → Row) (k : X → Bool) (f : X → X) (xs : Lis
       one_changes old.now.trees new.now.trees _ exchanged.2.applies at before after _ (holding_by_number table.tree row (map (λ x. if k x then f x else x) xs)) is now others held
       (exchanges row k f xs old.now.trees new.now.trees table terms project params exchanged.0 exchanged.1 exchanged.2.applies same made)
 
--- ---- tests of the first columns of a row, past its rowid
+-- ---- tests of the first columns of a row, without its rowid
 
 pub past_one : (u : Value) (r : Row) → keeps (is_param 1 0 ∷ []) (u ∷ []) r ≡ begins 0 (u ∷ []) (drop 1 r)
 past_one u [] = refl
@@ -102,7 +102,7 @@ pub past_four : (u v w x : Value) (r : Row) → keeps (is_param 1 0 ∷ is_param
 past_four u v w x [] = refl
 past_four u v w x (y ∷ r) = refl
 
--- ---- rows come in
+-- ---- rows are put
 
 pub puts_org : (old new : State) (number : ℕ) (name : List ℕ) → old.now.schema ≡ hub_schema → (count : ℕ) → Executes put_org (Int (pos number) ∷ Text name ∷ []) old new (Ok count) → Put orgs (Int (pos number) ∷ Null ∷ Text name ∷ []) old new
 puts_org old new number name has count h = put_one orgs org_place refl refl refl (λ tree olds news. refl) put_org _ old new has put_org_plain count h _ _ put_org_is _ refl (rw (cast_int number, cast_null) refl)
@@ -137,7 +137,7 @@ pub puts_line : (old new : State) (incident place depth : ℕ) (name : List ℕ)
     → Put items (Null ∷ Int (pos incident) ∷ Int (pos place) ∷ Int (pos depth) ∷ Text name ∷ flag in_array ∷ Int (pos kind) ∷ Text text ∷ []) old new
 puts_line old new incident place depth name in_array kind text has count h = put_one items item_place refl refl refl (λ tree olds news. refl) put_line _ old new has put_line_plain count h _ _ put_line_is _ refl (rw (cast_int incident, cast_int place, cast_int depth, cast_flag in_array, cast_int kind, cast_null) refl)
 
--- ---- rows go out
+-- ---- rows are removed
 
 pub takes_pair : (old new : State) (params : Row) → old.now.schema ≡ hub_schema → (count : ℕ) → Executes take_pair params old new (Ok count) → Taken pairs (is_param 1 0 ∷ is_param 2 1 ∷ is_param 3 2 ∷ []) params old new
 takes_pair old new params has count h = deleted hub_schema pairs pair_place refl refl refl (λ tree olds news. refl) take_pair params old new has take_pair_plain count h _ take_pair_is

@@ -34,7 +34,7 @@ items_then n place (l ∷ ls) ms =
 rows_then : (n place : ℕ) (ls ms : Lines) → map item_row (items_from n place (ls ++ ms)) ≡ map item_row (items_from n place ls) ++ map item_row (items_from n (place + length ls) ms)
 rows_then n place ls ms = ap (map item_row) (items_then n place ls ms) ∙ map-append item_row (items_from n place ls) (items_from n (place + length ls) ms)
 
--- where the first are in, the others come in behind them
+-- after the first lines the others are put
 pub more_then : (n place : ℕ) (ls ms : Lines) (items more : List Row) → HasMore n place (ls ++ ms) items more → HasMore n (place + length ls) ms (map item_row (items_from n place ls) ++ items) more
 more_then n place ls ms items more same =
     let first = map item_row (items_from n place ls) in
@@ -58,7 +58,7 @@ puts_then a b c x result n place ls ms one two = record {
       fails_then (one.moved s items mid (IsPermutation-refl mid)) two.goes (two.cause s mid more (more_then n place ls ms items more same) can);
 }
 
--- the first lines stand where all do
+-- the table takes the first lines if it takes all
 first_stand : (n place : ℕ) (ls ms : Lines) (items more : List Row) → HasMore n place (ls ++ ms) items more → CanStand more → CanStand (map item_row (items_from n place ls) ++ items)
 first_stand n place ls ms items more same can =
     let mid = map item_row (items_from n place ls) ++ items in
@@ -76,7 +76,7 @@ puts_more a b c x result n place at i ls l low is behind one two =
     let long : length (take i ls) ≡ i = length-take-le i ls (omega (arith, low)) in
     subst (λ all. PutsLines n place all a c result) (sym longer) (puts_then_at a b c x result n place at (take i ls) (l ∷ []) (behind ∙ ap (λ k. place + k) (sym long)) one two)
 
--- what is passed on of a call that failed before the last lines
+-- a failure before the last lines is the failure of all
 pub puts_not : {T U : Type 0} (a b : State) (e : Error) (result : Result U Error) (n place : ℕ) (ls ms : Lines) → IsErrAnd result (λ y. y ≡ e) → PutsLines {T = T} n place ls a b (Err e) → PutsLines n place (ls ++ ms) a b result
 puts_not {T} {U} a b e result n place ls ms is puts =
     let own : Goes a b result = record { kept = puts.goes.kept; inside = λ _ _. only_err _ result is; survives = puts.goes.survives } in

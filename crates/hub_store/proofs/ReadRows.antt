@@ -65,7 +65,7 @@ module _ (schema : Schema) (text : List ℕ) (tree : ℕ) (project : List Term) 
         subst (λ (d : Database). IsAnswer query d.trees [] found) has.same.0.now_is
         (subst (λ t. IsAnswer query t [] found) (overlaid (state g has.mid).now.trees) ((reads_as text [] (state g has.mid) (state g new) schema still_known (Select (program query) heads) it.command plain it.unlisted found has.shown).answer Null))
 
-  -- nothing refuses it but a limit on steps
+  -- it fails only for a limit on steps
   unrefused : (limit : Option ℕ) (db : Database) (e : Error) → db.schema ≡ schema → RefusesQuery limit db (program query) [] e → IsSome limit
   unrefused limit db e known (inl h) = absurd (true≢false (sym it.accepted ∙ subst (λ k. accepts_program k [] query [] ≡ false) known h.1))
   unrefused limit db e known (inr (inl (is, inl none))) = absurd none

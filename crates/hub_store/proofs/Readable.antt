@@ -1,4 +1,4 @@
--- The text that asks for the version is read where there is the column.
+-- The text that asks for the version can be compiled if there is the column.
 use Rattle.std.proofs.Common.{◌≡◌, ◌<◌, ◌+◌, ◌^◌, ◌≤◌, ◌==◌, inl, inr, ℕ, zero, suc, List, [], ◌∷◌, Bool, true, false, cond, nat_le, count_by, is_some, slice_get, option_map, Some, None, Ok, Err, refl, sym, ap, subst, ◌∙◌, add-one, eq-eqb, arith}
 use Rattle.std.specs.List.{find}
 use Rattle.std.proofs.lemmas.Bool.{true≢false}
@@ -39,7 +39,7 @@ passes_counted p [] x h is = absurd h
 passes_counted p (y ∷ xs) x (inl same) is = omega (arith, sum_by-cons (λ x. cond (p x) 1 0) y xs, ap {B = ℕ} (λ b. cond b 1 0) (ap p (sym same) ∙ is))
 passes_counted p (y ∷ xs) x (inr later) is = omega (arith, sum_by-cons (λ x. cond (p x) 1 0) y xs, passes_counted p xs x later is)
 
--- what alone passes is found
+-- an element is found if it alone passes
 lone_found : {X : Type 0} (p : X → Bool) (xs : List X) (x : X) → count_by p xs ≡ 1 → Has xs x → p x ≡ true → find p xs ≡ Some x
 lone_found p [] x one h is = absurd h
 lone_found p (y ∷ xs) x one h is = go (p y) refl (sym (sum_by-cons (λ x. cond (p x) 1 0) y xs) ∙ one) h (λ one h. lone_found p xs x one h is)
@@ -80,7 +80,7 @@ understood_as schema c e = go (compiled schema version_text) e
     go (Ok d) e = e
     go (Err fault) e = absurd cc
 
--- where there is the column, the text is read
+-- if there is the column, the text is read
 pub read_there : (db : Database) → IsDatabase db → is_some (version_column db.schema) ≡ true → (c : Compiled) × (understood db.schema version_text ≡ Ok c)
 read_there db sound there =
     with_place db.schema there (λ at place table column hub alone has listed called inside.
@@ -92,7 +92,7 @@ read_there db sound there =
     let it = reads db.schema at place table column has listed called inside (typed_by db.schema table.tree (place_of table place) (row_classes table) class'.0 known class'.1) in
     (it.0, understood_as db.schema it.0 it.1))
 
--- with no limit on steps nothing refuses what is understood
+-- without a limit on steps nothing that is understood is refused
 pub never_refused : (db : Database) → is_some (version_column db.schema) ≡ true → (c : Compiled) (e : Error) → compiled db.schema version_text ≡ Ok c → RefusesToRead None c.command db [] e → ⊥
 never_refused db there c e is refuses =
     with_place db.schema there (λ at place table column hub alone has listed called inside.

@@ -1,4 +1,4 @@
--- Reads one after another in a transaction, and what is made of them.
+-- Several reads in a transaction, and what is made of them.
 use Rattle.std.proofs.Common.{inl, Result, Ok, Err, IfOk, sym, ap, subst, ◌∙◌}
 use Rattle.sqlite.specs.declared.error.Error.{Error}
 use Rattle.sqlite.specs.Effect.{Database}
@@ -19,7 +19,7 @@ if_ok_both : {T : Type 0} (r : Result T Error) (P : Type 0) (Q : T → Type 0) �
 if_ok_both (Ok x) P Q one two = (one, two)
 if_ok_both (Err e) P Q one two = tt
 
--- the second after an Ok of the first
+-- the second read, after an Ok of the first
 pub read_then : {T U : Type 0} (a b c : State) (R : core.State → T → Type 0) (Q : core.State → U → Type 0) (x : T) (result : Result U Error) → IsReadInside a b R (Ok x) → IsReadInside b c Q result → IsReadInside a c (λ s y. R s x × Q s y) result
 read_then a b c R Q x result one two = record {
   survives = survives_on a b c one.survives two.survives;
@@ -37,7 +37,7 @@ read_then a b c R Q x result one two = record {
       if_ok_both result (R s x) (Q s) (one.right before s holds sound) (two.right clean s (subst (λ d. Holds d s) (sym same.0.now_is) holds) sound);
 }
 
--- what was made of the value that was read, or that nothing was
+-- what was made of the value that was read, or of none
 pub read_made : {T U : Type 0} (a b : State) (R : core.State → T → Type 0) (Q : core.State → U → Type 0) (x : T) (result : Result U Error) → IsReadInside a b R (Ok x) → ((s : core.State) → IsSound s → R s x → IfOk result (Q s)) → IsReadInside a b Q result
 read_made a b R Q x result read makes = record { survives = read.survives; kept = read.kept; same = λ clean knows. on_any result _ (read.same clean knows); right = λ clean s holds sound. makes s sound (read.right clean s holds sound) }
 
@@ -45,11 +45,11 @@ read_made a b R Q x result read makes = record { survives = read.survives; kept 
 pub read_gives : {T U : Type 0} (a b : State) (R : core.State → T → Type 0) (Q : core.State → U → Type 0) (x : T) (y : U) → IsReadInside a b R (Ok x) → ((s : core.State) → IsSound s → R s x → Q s y) → IsReadInside a b Q (Ok y)
 read_gives a b R Q x y = read_made a b R Q x (Ok y)
 
--- a failure is right of every state
+-- a failure is right in every state
 pub read_fails : {T U : Type 0} (a b : State) (R : core.State → T → Type 0) (Q : core.State → U → Type 0) (e : Error) → IsReadInside {T = T} a b R (Err e) → IsReadInside {T = U} a b Q (Err e)
 read_fails a b R Q e read = record { survives = read.survives; kept = read.kept; same = λ _ _. tt; right = λ _ _ _ _. tt }
 
--- the same answer, told in other words
+-- the same answer in other words
 pub read_turned : {T : Type 0} (a b : State) (R Q : core.State → T → Type 0) (result : Result T Error) → IsReadInside a b R result → ((s : core.State) (x : T) → IsSound s → R s x → Q s x) → IsReadInside a b Q result
 read_turned a b R Q (Ok x) read makes = read_gives a b R Q x x read (λ s. makes s x)
 read_turned a b R Q (Err e) read makes = read_fails a b R Q e read

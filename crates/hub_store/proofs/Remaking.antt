@@ -1,4 +1,4 @@
--- What the statements that make a table anew do, whatever the parts are.
+-- The statements that make a table anew, for any parts.
 use Rattle.std.proofs.Common.{◌≡◌, ◌≢◌, inl, inr, ℕ, ◌+◌, ◌<◌, ◌≤◌, zero, suc, List, [], ◌∷◌, ◌++◌, map, flat_map, take, drop, length, get_or, None, Some, Result, Ok, Err, IfOk, IfErr, OnOk, OnErr, IsTrue, take-append-drop, refl, sym, ap, ap₂, subst, ◌∙◌, arith}
 use Rattle.std.specs.List.Sorted.{IsPermutation}
 use Rattle.std.proofs.lemmas.List.{take_more, map-append, at_drop_more}
@@ -38,7 +38,7 @@ use Rattle.hub_store.proofs.Inside.{goes_asked}
 use Rattle.hub_store.proofs.PartRows.{exchanged_rows}
 use Rattle.hub_store.proofs.Steps.{on_ok}
 
--- ---- DROP of one part, to which nothing refers: of parts that are written out, `refl` finds the last premise
+-- ---- DROP of one part, to which nothing refers: for parts that are written out, `refl` proves the last premise
 
 module _ {S : Type 0} (g : store.Ghosts S) (qs : List Part) (p : Part) (rs : List Part) (text : List ℕ) (at : ℕ) (it : IsDropping (schema_of (qs ++ p ∷ rs)) text at p.table) (left : without_table (schema_of (qs ++ p ∷ rs)) p.table.tree ≡ schema_of (qs ++ rs)) where
   pub drops_leave : Leaves g text [] (HoldsParts (qs ++ p ∷ rs)) (HoldsParts (qs ++ rs))
@@ -75,7 +75,7 @@ same_indexes (q ∷ qs) p rows = ap (λ is. indexes_of q.table ++ is) (same_inde
 same_schema : (qs : List Part) (p : Part) (rows : List Row) → schema_of (qs ++ p ∷ []) ≡ schema_of (qs ++ record p { rows = rows } ∷ [])
 same_schema qs p rows = ap₂ (λ (ts : List Table) (is : List Index). record { tables = ts; indexes = is; views = [] }) (same_tables qs p rows) (same_indexes qs p rows)
 
--- they stand in any order
+-- they may be in any order
 pub anew_permuted : (step : Step) (ps : List Part) (db : Database) (rows more : List Row) → IsPermutation rows more → HoldsAnew step rows ps db → HoldsAnew step more ps db
 anew_permuted step ps db rows more same has =
     let others = apart_from step.table.name ps in
@@ -91,7 +91,7 @@ has_at [] i x low is = absurd (omega (arith, low))
 has_at (y ∷ xs) zero x low is = inl is
 has_at (y ∷ xs) (suc i) x low is = inr (has_at xs i x (omega (arith, low)) is)
 
--- and behind it are the others
+-- and after it are the others
 pub rest_at : (xs : List Row) (i : ℕ) (x : Row) → i < length xs → x ≡ get_or xs i x → IsPermutation (x ∷ take i xs ++ drop (i + 1) xs) xs
 rest_at xs i x low is =
     let whole : take i xs ++ x ∷ drop (i + 1) xs ≡ xs = ap (λ y. take i xs ++ y ∷ drop (i + 1) xs) is ∙ (sym (at_drop_more (λ l. take i xs ++ l) xs i x low) ∙ take-append-drop i xs) in
@@ -129,7 +129,7 @@ keeps_row g text row step ps rows more leaves same old new result goes ran =
 pub asked_goes : {S : Type 0} (g : store.Ghosts S) (text : List ℕ) (old new : Held S) (found : List Row) → Survives (state g old) (state g new) (λ _. ⊥) → (HasCleanDisk (state g new) → HasShown g text [] old new found) → Goes {T = Unit {0}} (state g old) (state g new) (Ok tt)
 asked_goes g text old new found survives shown = goes_asked g text [] old new found (Ok tt) survives shown
 
--- what was held before the rows were read still is
+-- what held before the rows were read holds afterwards
 pub asked_makes : {S : Type 0} (g : store.Ghosts S) (text : List ℕ) (old new : Held S) (Before : Database → Type 0) (rows found : List Row) → ShowsOf g text Before rows → Survives (state g old) (state g new) (λ _. ⊥) → (HasCleanDisk (state g new) → HasShown g text [] old new found)
     → Makes {T = Unit {0}} (state g old) (state g new) Before Before (Ok tt)
 asked_makes g text old new Before rows found shows survives shown = record {
@@ -152,7 +152,7 @@ bound_more items new v row at low read pushed so_far =
     ∙ (ap (λ x. map bound_value (take at row) ++ bound_value x ∷ []) read
     ∙ (sym (map-append bound_value (take at row) (column row at ∷ [])) ∙ ap (map bound_value) (sym (take_more row at Null low))))))
 
--- the table was made where there is no row
+-- the table was made without a row
 pub made_bare : {T : Type 0} (old new : State) (step : Step) (ps : List Part) (result : Result T Error) → Makes old new (HoldsParts ps) (HoldsAnew step [] ps) result → FailsOnly old new (HoldsParts ps) result → Creates old new (HoldsParts ps) (HoldsParts (made_anew step [] ps)) result
 made_bare old new step ps result makes fails = record {
   makes = record { goes = makes.goes; made = λ clean inside before. on_ok result _ _ (λ (has : HoldsAnew step [] ps new.now). has.parts) (makes.made clean inside before) };

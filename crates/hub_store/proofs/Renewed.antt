@@ -1,4 +1,4 @@
--- What a migration gives, by what the version's question left and then the steps.
+-- What a migration returns, by what the query for the version left and then the steps.
 use Rattle.std.proofs.Common.{◌≡◌, ◌≢◌, ◌≤◌, ◌⊎◌, inl, inr, ℕ, Bool, true, false, IsTrue, IsSome, Some, refl, sym, subst, ◌∙◌, arith}
 use Rattle.std.proofs.lemmas.Bool.{true≢false}
 use Rattle.sqlite_trees.specs.Tree.{Trees}
@@ -38,7 +38,7 @@ survives_more a b P Q f s = record {
 one_version : (db : Database) (v w : ℕ) → version_of db ≡ Some v → version_of db ≡ Some w → v ≡ w
 one_version db v w is also = let both = sym is ∙ also in cc
 
--- the newest is no older one
+-- the newest version isn't an older one
 newest_only : (db : Database) (v : ℕ) → IsTrue (is_older v) → version_of db ≡ Some v → version_of db ≡ Some newest → ⊥
 newest_only db v older is also = true≢false (sym (subst (λ w. IsTrue (is_older w)) (one_version db v newest is also) older))
 
@@ -49,7 +49,7 @@ keeps_on a b c p q = record {
   committed = λ up. q.committed up ∙ p.committed (q.was_open up);
 }
 
--- a reason that comes up after a call that wrote nothing is one of both
+-- a reason that arises after a call that wrote nothing is a reason for both
 reason_on : (a b c : State) → Survives a b (λ _. ⊥) → HasCleanDisk b → b.faults ≤ c.faults → HasReason b c → HasReason a c
 reason_on a b c s clean more (inl h) = inl (omega (arith, s.counts, h))
 reason_on a b c s clean more (inr (inr limited)) = inr (inr (subst IsSome s.limit limited))
@@ -59,7 +59,7 @@ reason_on a b c s clean more (inr (inl shut)) = go a.is_open refl
     go false is = inr (inl is)
     go true is = elim (s.closes clean is) [ inl still ↦ absurd (true≢false (sym still ∙ shut)) | inr fell ↦ inl (omega (arith, fell, more)) ]
 
--- how a fault of the store is told says nothing of the tables
+-- a fault of the store says nothing of the tables
 pub store_fault : (db : Database) (fault : ShelfFault) → IsMigrationFault db (opened_as fault)
 store_fault db shelf.NoMemory = tt
 store_fault db shelf.Failed = tt
@@ -110,7 +110,7 @@ module _ (old mid : State) (asked : Survives old mid (λ _. ⊥)) (kept : HasCle
     early : Survives mid new (IsRenewedFrom found mid) → HasCleanDisk new → HasCleanDisk mid
     early survives clean = omega (arith, survives.clean)
 
-    -- a state that is held as an older version is held as the one that the store tells
+    -- a state that is held as an older version is held as the version of the store
     as_told : HasCleanDisk mid → (v : ℕ) → IsTrue (is_older v) → (s : core.State) → HasAs v old s → HasAs found mid s
     as_told clean v older s has =
         let k = kept clean in

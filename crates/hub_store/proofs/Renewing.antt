@@ -1,4 +1,4 @@
--- Why a store of an older version, which stands for a state, is not brought to the newest.
+-- Why a store of an older version that stands for a state isn't brought to the newest.
 use Rattle.std.proofs.Common.{◌≡◌, ◌≤◌, inl, inr, ℕ, Bool, true, false, is_some, IsTrue, refl, sym, subst}
 use Rattle.sqlite_trees.specs.declared.store.Store as store
 use Rattle.sqlite_schema.specs.Names.{same_name}
@@ -26,7 +26,7 @@ there v old s older has up =
     let now = has_now {v = v} old s has up in
     (subst (λ k. is_some (version_column k) ≡ true) (sym now.known) (column_there v (older_is v older)), λ still. (now.whole, (has.holds still).whole))
 
--- the question whether it answers fails for a reason, whatever is undone then
+-- asking whether the store answers fails for a reason, whatever is undone then
 pub probe_fails : {S : Type 0} (g : store.Ghosts S) (v : ℕ) (old : Held S) (probed end : State) (s : core.State) → IsTrue (is_older v) → HasAs v (state g old) s
     → (IsTrue (is_some (version_column (state g (record old { in_transaction = true })).now.schema)) → IsLive (state g (record old { in_transaction = true })) → HasReason (state g (record old { in_transaction = true })) probed)
     → probed.faults ≤ end.faults → HasReason (state g old) end

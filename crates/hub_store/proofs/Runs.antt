@@ -24,7 +24,7 @@ has_now {v} old s has up = subst (λ d. HoldsAs v d s) (sym (has.settled up)) (h
 pub knows : (old : State) (s : core.State) → Has old s → Knows old
 knows old s has up = (has_now old s has up).known
 
--- a transaction has begun on a store that answers
+-- a transaction began on a store that answers
 pub ready : {S : Type 0} {v : ℕ} (g : store.Ghosts S) (old : Held S) (probed : State) (s : core.State) → HasAs v (state g old) s
     → IsTrue (state g old).is_open × IsUnchanged (state g (record old { in_transaction = true })) probed
     → HoldsAs v probed.now s × IsTrue probed.in_transaction

@@ -1,4 +1,4 @@
--- Lines that a table takes: parts of them, the same in another order, and none of their rows clash.
+-- The lines that a table takes: parts of them, the same in another order, and no conflict between their rows.
 use Rattle.std.proofs.Common.{◌≡◌, inl, inr, ◌+◌, ◌<◌, ◌^◌, ◌&&◌, ◌||◌, not, List, [], ◌∷◌, ◌++◌, map, Bool, true, false, refl, sym, ap, subst, ◌∙◌, arith}
 use Rattle.std.specs.List.{AllByRecursion, list_any}
 use Rattle.std.specs.List.Sorted.{IsPermutation}
@@ -62,7 +62,7 @@ module _ (same : Row → Row → Bool) where
   pairs_before [] ys p = tt
   pairs_before (x ∷ xs) ys p = (all_before (OneApart same x) xs ys p.0, pairs_before xs ys p.1)
 
--- what differs as it is seen differs
+-- rows that differ as they are seen differ
 pub pairs_seen : (same full : Row → Row → Bool) (seen : Row → Row) → ((a b : Row) → full a b ≡ same (seen a) (seen b)) → (rows : List Row) → Pairwise (OneApart same) (map seen rows) → Pairwise (OneApart full) rows
 pairs_seen same full seen as_seen [] p = tt
 pairs_seen same full seen as_seen (r ∷ rows) p = (each rows p.0, pairs_seen same full seen as_seen rows p.1)
@@ -71,7 +71,7 @@ pairs_seen same full seen as_seen (r ∷ rows) p = (each rows p.0, pairs_seen sa
     each [] all = tt
     each (x ∷ rs) all = ((as_seen r x ∙ all.0.0, as_seen x r ∙ all.0.1), each rs all.1)
 
--- ---- no clash
+-- ---- no conflict
 
 true_not : (b : Bool) → b ≡ true → not b ≡ false
 true_not true e = refl
@@ -121,7 +121,7 @@ stand_behind xs ys can = record {
   few = omega (arith, can.few, length-append xs ys);
 }
 
--- the first names stand, with one of them in front
+-- the table takes the first names, with one of them in front
 pub first_names : (kept : Naming → Row) (new : Row) (before rows rest : List Row) → IsPermutation (new ∷ before) rows → CanName kept (rows ++ rest) → CanName kept (new ∷ before)
 first_names kept new before rows rest is can =
     let back = IsPermutation-sym (new ∷ before) rows is in

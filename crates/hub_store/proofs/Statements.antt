@@ -1,4 +1,4 @@
--- What a statement of one table does, whatever the table is.
+-- A statement on one table, for any table.
 use Rattle.std.proofs.Common.{◌≡◌, ◌⊎◌, inl, inr, ℕ, ℤ, ◌/◌, List, [], ◌∷◌, ◌++◌, map, filter, flat_map, drop, length, slice_get, Bool, true, false, cond, Some, None, Option, Ok, Err, Result, MatchBool, refl, sym, ap, unwrap_or, nat_le, ◌^◌, subst, subst₂, ◌∙◌}
 use Rattle.std.specs.List.{list_all}
 use Rattle.std.proofs.Math.Path.{fun_ext}
@@ -83,12 +83,12 @@ overlaid db = fun_ext (λ t. ap (λ (o : Option (List Row)). unwrap_or o (db t))
 pub same_ok : {B E : Type 0} {a b : B} → ◌≡◌ {A = Result B E} (Ok a) (Ok b) → a ≡ b
 same_ok e = cc
 
--- a part that gave a value did not stop on the way
+-- a part that gave a value did not stop before
 pub went : {B E R : Type 0} {b : B} {Stops : E → Type 0} → ((stop : E) × Stops stop × (Ok b ≡ Err stop)) ⊎ R → R
 went (inl stopped) = absurd (let e = stopped.2 in cc)
 went (inr on) = on
 
--- which of the two, where the test is false
+-- which of the two, if the test is false
 pub other_one : (b : Bool) (A B : Type 0) → b ≡ false → MatchBool b A B → B
 other_one b A B e h = subst (λ b. MatchBool b A B) e h
 

@@ -1,4 +1,4 @@
--- Loops over what was read, by what is left to go over.
+-- Loops over what was read, by what remains.
 use Rattle.std.proofs.Common.{◌≡◌, ℕ, ◌+◌, ◌<◌, ◌≤◌, List, [], ◌∷◌, ◌++◌, map, drop, length, get_or, Bool, true, false, ◌||◌, Option, Some, None, option_map, append_assoc, refl, sym, ap, ◌∙◌}
 use Rattle.std.specs.List.{list_any, filter_map, cons_option}
 use Rattle.std.proofs.lemmas.List.{at_drop_more, drop_all, append-nil}
@@ -42,11 +42,11 @@ module _ {X : Type 0} (test : X → Bool) (xs : List X) (i : ℕ) (x e : X) (tot
   at_next : (test x || list_any test (drop (i + 1) xs)) ≡ total
   at_next = ap (λ y. list_any test (y ∷ drop (i + 1) xs)) is ∙ (sym (at_drop_more (list_any test) xs i e low) ∙ so_far)
 
-  -- one that fails is passed over
+  -- an element that fails is skipped
   pub passed_over : false ≡ test x → list_any test (drop (i + 1) xs) ≡ total
   passed_over fails = ap (λ b. b || list_any test (drop (i + 1) xs)) fails ∙ at_next
 
-  -- one that passes settles the answer
+  -- one that passes decides the answer
   pub settled : true ≡ test x → true ≡ total
   settled passes = ap (λ b. b || list_any test (drop (i + 1) xs)) passes ∙ at_next
 

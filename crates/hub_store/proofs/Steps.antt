@@ -1,4 +1,4 @@
--- Statements one after another in a transaction.
+-- Several statements in a transaction.
 use Rattle.std.proofs.Common.{◌≡◌, ◌≢◌, ℕ, List, Result, Ok, Err, OnOk, OnErr, IfErr, IsErrAnd, IsTrue, inl, refl, sym, subst, ◌∙◌, arith}
 use Rattle.std.proofs.lemmas.Result.{IfErr-weaker}
 use Rattle.sqlite_value.specs.Order.{Row}
@@ -48,7 +48,7 @@ made_by g text params old new Before After result goes ran does = record {
   made = λ clean inside before. on_ok result (HasRun g text params old new) _ (λ (it : HasRun g text params old new). does (state g it.mid) it.count it.executes (subst Before (sym it.same.0.now_is) before)) (ran clean inside);
 }
 
--- a text that was refused has a reason, where what refuses it has
+-- a text that was refused has a reason, if what refuses it has one
 pub fails_by : {S : Type 0} (g : store.Ghosts S) (text : List ℕ) (params : Row) (old new : Held S) (Before : Database → Type 0) {T : Type 0} (result : Result T Error) →
     (HasCleanDisk (state g new) → IsTrue (state g old).in_transaction → IfErr result (HasFailed g text params old new)) →
     ((mid : State) (e : Error) → ExecutesInside 0 text params mid (state g new) (Err e) → Before mid.now → e ≢ SqliteFailure code.OutOfMemory → HasReason mid (state g new)) → FailsOnly (state g old) (state g new) Before result
@@ -57,7 +57,7 @@ fails_by g text params old new Before result failed why = record {
       (λ e h other. reason_after (state g old) (state g h.mid) (state g new) _ h.survives h.is_open (why (state g h.mid) e h.executes (subst Before (sym h.now) before) other)) (failed clean inside);
 }
 
--- the same, where each failure has a reason
+-- the same, if each failure has a reason
 pub created_by : {S : Type 0} (g : store.Ghosts S) (text : List ℕ) (params : Row) (old new : Held S) (Before After : Database → Type 0) {T : Type 0} (result : Result T Error) → Goes (state g old) (state g new) result →
     (HasCleanDisk (state g new) → IsTrue (state g old).in_transaction → OnOk result (HasRun g text params old new)) → (HasCleanDisk (state g new) → IsTrue (state g old).in_transaction → IfErr result (HasFailed g text params old new)) →
     ((mid : State) (count : ℕ) → Executes text params mid (state g new) (Ok count) → Before mid.now → After (state g new).now) →
@@ -67,7 +67,7 @@ created_by g text params old new Before After result goes ran failed does why = 
   cause = (fails_by g text params old new Before result failed why).cause;
 }
 
--- the second after an Ok of the first
+-- the second statement, after an Ok of the first
 pub makes_then : {T U : Type 0} (a b c : State) (P Q R : Database → Type 0) (x : T) (result : Result U Error) → Makes a b P Q (Ok x) → Makes b c Q R result → Makes a c P R result
 makes_then a b c P Q R x result one two = record {
   goes = record {

@@ -39,11 +39,11 @@ use Rattle.hub_store.proofs.Runs.{has_now}
 use Rattle.hub_store.proofs.Steps.{clean_before, survives_on}
 use Rattle.hub_store.proofs.Texts.{lines_of_incident, lines_of_incident_is, lines_of_incident_plain}
 
--- what is seen is what was committed, as outside a transaction
+-- outside a transaction the rows seen are the committed ones
 abbrev IsSettled : State → Type 0
 IsSettled s = IsTrue s.is_open → s.now ≡ s.committed
 
--- the rows that the query has given so far show these lines, at the places 1, 2, 3 and so on
+-- the rows that the query has given so far show these lines, with the places 1, 2, 3 and so on
 pub record IsFeeding {S : Type 0} (g : store.Ghosts S) (n : ℕ) (old now : Held S) (ls : Lines) : Type 0 where
   pub survives : Survives (state g old) (state g now) (λ _. ⊥)
   pub given : List Row
@@ -101,7 +101,7 @@ module _ {S : Type 0} (g : store.Ghosts S) (n : ℕ) (old : Held S) where
   the_lines None = refl
   the_lines (Some i) = refl
 
-  -- where the rows given and more are the answer
+  -- if the rows given and those that remain are the answer
   listed : (mid now : Held S) (ls : Lines) (it : IsFeeding g n old mid ls) (more : List Row) (s : core.State) → Has (state g old) s → IsUnchanged (state g old) (state g mid) → Shown lines_of_incident (Int (pos n) ∷ []) (state g mid) (state g now) (it.given ++ more) → it.given ++ more ≡ map placed_shown (placed_from 1 (lines_of n s))
   listed mid now ls it more s has same shown =
       let holds = has_now (state g old) s has same.0.was_open in
@@ -124,7 +124,7 @@ module _ {S : Type 0} (g : store.Ghosts S) (n : ℕ) (old : Held S) where
         lines_are (lines_of n s) ls (subst (λ l. ShowsAll ShowsPlaced l (placed_from 1 ls)) (sym (append-nil it.given) ∙ rows) it.shows);
   }
 
-  -- ---- rows that are let go before the last
+  -- ---- rows that are dropped before the last
 
   ends_in : (k : Command) (db : Database) (params : Row) (names : List (List ℕ)) → k ≡ Select (program lines_query) names → EndsIn k db params
   ends_in k db params names is = subst (λ c. EndsIn c db params) (sym is) tt

@@ -1,4 +1,4 @@
--- What the shelf says of what the connection did.
+-- What the shelf promises, by what the connection did.
 use Rattle.std.proofs.Common.{◌≡◌, ℕ, inl, inr, Option, Result, Ok, Err, IfOk, OnOk, OnErr, sym, subst}
 use Rattle.sqlite_trees.specs.declared.store.Store as store
 use Rattle.sqlite_trees.specs.View.{doubt}
@@ -39,7 +39,7 @@ module _ {S : Type 0} (g : store.Ghosts S) where
   abbrev pub may_remain : Shelved S → Option core.State → Type 0
   may_remain d left = MayLeave (state g d.conn) left
 
--- a read of the connection is a read of the shelf, and keeps what is kept
+-- a read of the connection is a read of the shelf, and keeps the kept part
 pub read_keeps : {S : Type 0} (g : store.Ghosts S) (conn : Held S) (failures : ℕ) (kept : Option Reader) (old : Shelved S) (now : Held S) (count : ℕ) {T : Type 0} (Right : core.State → T → Type 0) (outcome : Result T Error) (result : Result T ShelfFault)
     → seen conn failures kept ≡ old → IsReadOutside (state g conn) (state g now) Right outcome → HasCause failures count result
     → IsRead (has g) (doubts g) (failed g) (may_remain g) old (seen now count kept) result
@@ -52,7 +52,7 @@ read_keeps {S} g conn failures kept old now count Right outcome result same answ
       crash = λ clean left may. leaves_no_more (state g conn) (state g now) left answers.survives clean may;
     })
 
--- what was found is right, where it is told
+-- what was found is right, if it is returned
 pub read_value : {S : Type 0} (g : store.Ghosts S) (conn : Held S) (failures : ℕ) (kept : Option Reader) (old : Shelved S) (new : Held S) {T : Type 0} (Right : core.State → T → Type 0) (outcome : Result T Error) (result : Result T ShelfFault)
     → seen conn failures kept ≡ old → IsReadOutside (state g conn) (state g new) Right outcome → IfOk result (λ x. outcome ≡ Ok x) → HasCleanDisk (state g new) → (s : core.State) → ShelfHas g old s → IfOk result (Right s)
 read_value {S} g conn failures kept old new Right outcome (Ok x) same answers told clean s has =

@@ -1,4 +1,5 @@
--- What each text means under the schema.
+-- What each text means under the schema. A text is written in the function that runs it and once more here, and its
+-- meaning is computed.
 use Rattle.std.proofs.Common.{◌≡◌, ◌+◌, List, ℕ, [], ◌∷◌, codes, false, refl}
 use Rattle.sqlite_value.specs.declared.value.Value.TheVariants.{Null}
 use Rattle.sqlite_sql.specs.Term.{Term, lit, col}
@@ -12,7 +13,7 @@ use Rattle.hub_store.specs.Pairs.{put_pair, take_pair}
 use Rattle.hub_store.proofs.Forms.{is_param, is_above, by_column, one_table, ordered_by, program}
 use Rattle.hub_store.proofs.Places.{community_place, community_tree, gate_place, gate_tree, grp_place, grp_tree, hub_place, incident_place, incident_tree, item_place, item_tree, org_place, org_tree, pair_place, pair_tree, permission_place, permission_tree, person_place, person_tree, recipient_place, recipient_tree}
 
--- ---- rows come in
+-- ---- rows are put
 
 abbrev pub put_version : List ℕ
 put_version = codes "INSERT INTO hub (version) VALUES (?1)"
@@ -117,7 +118,7 @@ put_naming_plain = (refl, refl)
 abbrev pub put_naming_2 : List ℕ
 put_naming_2 = codes "INSERT INTO incident (number, source, ident, revision) VALUES (?1, ?2, ?3, ?4)"
 
--- the columns of a line are the parameters from a place on, behind the incident's
+-- the columns of a line are the parameters from a place on, after the incident's
 abbrev pub line_terms : ℕ → List Term
 line_terms at = lit Null ∷ col 0 0 ∷ col 0 at ∷ col 0 (at + 1) ∷ col 0 (at + 2) ∷ col 0 (at + 3) ∷ col 0 (at + 4) ∷ col 0 (at + 5) ∷ []
 
@@ -132,7 +133,7 @@ pub put_line_plain : IsPlain (understood hub_schema put_line)
 unfolding understood everything
 put_line_plain = (refl, refl)
 
--- ---- rows go out
+-- ---- rows are removed
 
 pub take_pair_is : command_of (understood hub_schema take_pair) ≡ Delete pair_place (program (one_table pair_tree (is_param 1 0 ∷ is_param 2 1 ∷ is_param 3 2 ∷ []) (col 1 0 ∷ [])))
 unfolding understood everything

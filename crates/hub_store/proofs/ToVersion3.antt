@@ -1,4 +1,4 @@
--- What the texts of the step to version 3 do.
+-- The texts of the step to version 3.
 use Rattle.std.proofs.Common.{◌≡◌, inl, ℕ, pos, List, [], ◌∷◌, ◌++◌, map, drop, take, Ok, Err, codes, refl, sym, ap, subst}
 use Rattle.std.proofs.lemmas.List.Sorted.{IsPermutation-refl, IsPermutation-sym}
 use Rattle.std.proofs.lemmas.List.{map-append}
@@ -41,7 +41,7 @@ use Rattle.hub_store.proofs.Remaking.{drops_leave, drops_fail, creates_leave, cr
 abbrev schema_2 : Schema
 schema_2 = schema_by 2
 
--- the tables of version 2, whatever version stands there
+-- the tables of version 2, under any version
 abbrev pub tables : List Row → core.State → List Part
 tables version s = hub_part version ∷ drop 1 (parts_2 s)
 

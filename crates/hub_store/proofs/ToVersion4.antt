@@ -1,4 +1,4 @@
--- What the texts of the step to version 4 do.
+-- The texts of the step to version 4.
 use Rattle.std.proofs.Common.{◌≡◌, inl, ℕ, pos, List, [], ◌∷◌, ◌++◌, map, drop, take, Ok, Err, codes, refl, sym, ap, ap₂, subst}
 use Rattle.std.specs.List.{AllByRecursion}
 use Rattle.std.specs.List.Sorted.{IsPermutation}
@@ -50,7 +50,7 @@ use Rattle.hub_store.proofs.NamingCauses.{Unnamed, put_unnamed, unnamed_terms, c
 abbrev schema_3 : Schema
 schema_3 = schema_by 3
 
--- the tables of version 3, whatever version stands there
+-- the tables of version 3, under any version
 abbrev pub tables : List Row → core.State → List Part
 tables version s = hub_part version ∷ drop 1 (parts_3 s)
 
@@ -122,7 +122,7 @@ puts_row g s row is rows old new count h has =
     } in
     subst (λ r. Unnamed (without_community r ∷ rows) s (state g new).now) (sym is.1) put
 
--- ---- they stand in the new table, in whatever order they are read
+-- ---- the new table takes them, in whatever order they are read
 
 as_unnamed : (is : List Incident) → map without_community (map naming_shown_2 (naming_in is)) ≡ map (λ (i : Incident). unnamed_row i.naming) is
 as_unnamed [] = refl

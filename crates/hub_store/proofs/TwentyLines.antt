@@ -49,7 +49,7 @@ is_plain : IsPlain (understood hub_schema put_twenty)
 unfolding understood everything
 is_plain = (refl, refl)
 
--- the schema while version 1 is left
+-- the schema while version 1 is being left
 abbrev beside : Schema
 beside = schema_of (with_items [] empty)
 
@@ -92,7 +92,7 @@ is_whole_beside : (n place : ℕ) (ls : Lines) → length ls ≡ 20 → IsWhole 
 unfolding understood everything
 is_whole_beside n place ls long = (refl, refl, ap suc (lines_long place ls ∙ ap (λ k. 6 * k) long), refl)
 
--- twenty lines fail for a reason alone
+-- twenty lines fail only for a reason
 pub twenty_fail : (n place : ℕ) (ls : Lines) → length ls ≡ 20 → (s : State) (items more : List Row) → HasMore n place ls items more → CanStand more
     → (old new : sql.State) (e : Error) → ExecutesInside 0 put_twenty (Int (pos n) ∷ placed_lines place ls) old new (Err e) → HoldsBeside items s old.now → e ≢ SqliteFailure code.OutOfMemory → HasReason old new
 twenty_fail n place ls long s items more same can old new e h has other =

@@ -82,7 +82,7 @@ module _ {X : Type 0} (row : X → Row) (P : X → Type 0) (one : (a b : X) → 
   pub same_set : {K : Type 0} {R : K → K → Ordering} → IsTotalOrder R → (key : X → K) (xs ys : List X) → Rises R key xs → Rises R key ys → AllByRecursion P xs → AllByRecursion P ys → IsPermutation (map row xs) (map row ys) → xs ≡ ys
   same_set total key xs ys up vp all also same = same_rising total key xs ys up vp (members xs ys all also same) (members ys xs also all (IsPermutation-sym _ _ same))
 
--- ---- the row of an element is of no other
+-- ---- the row of an element is that of no other
 
 role_of : ℕ → Role
 role_of zero = Administrator

@@ -1,4 +1,4 @@
--- The statements that take the version and put another, whatever tables stand behind it, are refused for nothing but a limit on steps.
+-- The statements that take the version and put another, with any tables after it, fail only for a limit on steps.
 use lib.Ieee.{is_nan}
 use Rattle.std.proofs.Common.{◌≡◌, ◌≢◌, inl, inr, ℕ, ◌==◌, pos, List, [], ◌∷◌, map, drop, length, nat_lt, Bool, true, false, not, ◌||◌, ◌&&◌, IsSome, Option, Ok, Err, codes, refl, sym, ap, subst, ◌∙◌, arith}
 use Rattle.std.specs.List.{AllByRecursion, list_all}
@@ -62,7 +62,7 @@ and_false : (b : Bool) → (b && false) ≡ false
 and_false true = refl
 and_false false = refl
 
--- what holds no row has none
+-- a table without a row holds none
 no_row : (rows : List Row) → IsPermutation [] (map (drop 1) rows) → rows ≡ []
 no_row [] same = refl
 no_row (r ∷ rows) same = absurd (let long = length_permutation [] (map (drop 1) (r ∷ rows)) same in cc)

@@ -1,4 +1,4 @@
--- A store that holds a state as a version does tells that version.
+-- A store that holds a state in a version has that version.
 use Rattle.std.proofs.Common.{◌≡◌, ◌==◌, ◌⊎◌, inl, inr, ℕ, pos, List, [], ◌∷◌, map, drop, Bool, true, false, eqb-true, Some, IsTrue, refl, sym, subst, ap, ◌∙◌, arith}
 use Rattle.std.specs.List.Sorted.{IsPermutation}
 use Rattle.std.proofs.lemmas.Bool.Decides.{nat_tests}
@@ -15,7 +15,7 @@ use Rattle.hub_store.specs.Opening.{newest, is_older}
 use Rattle.hub_store.specs.Versions.{hub_of, versions_by, only_u32, version_of}
 use Rattle.hub_store.proofs.Compare.{column_past}
 
--- the one row of the table, whose rowid says nothing
+-- the one row of the table, whose rowid means nothing
 one_version : (v : ℕ) (rows : List Row) → IsPermutation ((Int (pos v) ∷ []) ∷ []) (map (drop 1) rows) → map (λ r. column r 1) rows ≡ Int (pos v) ∷ []
 one_version v rows same = go rows (one_permutation (Int (pos v) ∷ []) (map (drop 1) rows) same)
   where

@@ -1,4 +1,4 @@
--- What two rows of the version's query tell of all rows.
+-- What two rows of the version's query say of all rows.
 use Rattle.std.proofs.Common.{◌≡◌, ℕ, pos, negsuc, List, [], ◌∷◌, map, filter, take, Bool, true, false, cond, ◌==◌, eqb-true, Option, Some, None, is_some, slice_get, option_and_then, inl, inr, Ok, codes, refl, sym, ap, subst, ◌∙◌, arith}
 use Rattle.std.specs.List.{position_from}
 use Rattle.std.specs.List.Sorted.{IsPermutation}
@@ -33,7 +33,7 @@ no_version (Real x) y more = refl
 no_version (Text t) y more = refl
 no_version (Blob b) y more = refl
 
--- with no test no row is dropped
+-- without a test no row is dropped
 all_kept : (rows : List Row) → filter (keeps [] []) rows ≡ rows
 all_kept [] = refl
 all_kept (r ∷ rows) = ap (λ l. r ∷ l) (all_kept rows)
@@ -43,7 +43,7 @@ empty_permutation : {X : Type 0} (xs : List X) → IsPermutation [] xs → xs �
 empty_permutation [] h = refl
 empty_permutation (x ∷ xs) h = absurd (omega (arith, length_permutation [] (x ∷ xs) h))
 
--- two of the rows tell as much as all, in whatever order
+-- two of the rows say as much as all, in any order
 from_two : (place : ℕ) (rows all : List Row) → IsPermutation (map (λ r. column r place ∷ []) rows) all → only_u32 (map (λ r. column r 0) (take 2 all)) ≡ only_u32 (map (λ r. column r place) rows)
 from_two place [] all same = ap (λ (l : List Row). only_u32 (map (λ r. column r 0) (take 2 l))) (empty_permutation all same)
 from_two place (r ∷ []) all same = ap (λ (l : List Row). only_u32 (map (λ r. column r 0) (take 2 l))) (one_permutation (column r place ∷ []) all same)
@@ -89,7 +89,7 @@ with_place schema there k =
     let column = in_list _ table.columns place.0 called in
     k at place.0 table column.0 hub it.1 has (subst (λ (t : Table). slice_get schema.tables at ≡ Some t) it.0 listed) called column.1)))
 
--- where there is the column, an answer to the text tells the version of the tables
+-- if there is the column, an answer to the text gives the version of the tables
 pub version_told : (db : Database) (c : Compiled) (rows : List Row) → is_some (version_column db.schema) ≡ true → compiled db.schema version_text ≡ Ok c → Reads c.command db [] rows → only_u32 (map (λ r. column r 0) rows) ≡ version_of db
 version_told db c rows there is read =
     with_place db.schema there (λ at place table title hub alone has listed called inside.

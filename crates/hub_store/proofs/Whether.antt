@@ -17,11 +17,11 @@ use Rattle.hub_store.proofs.Finding.{Once, only_one}
 use Rattle.hub_store.proofs.Forms.{one_table}
 use Rattle.hub_store.proofs.Statements.{keeps, shows, selected}
 
--- rows show whether an element passes
+-- there are rows exactly if an element passes
 pub any_shown : {X : Type 0} (shown : X → Row) (q : X → Bool) (xs : List X) (rows : List Row) → IsPermutation (map shown (filter q xs)) rows → not (length rows == 0) ≡ list_any q xs
 any_shown shown q xs rows same = ap (λ n. not (n == 0)) (length_permutation _ rows same ∙ length-map (filter q xs) shown) ∙ some_having q xs
 
--- a query of a table shows a row if one passes, by what is seen of it
+-- a query of a table shows a row exactly if one passes, as it is seen
 pub table_shows : (db : Trees) (h : Holding) (terms project : List Term) (params : Row) (p : Row → Bool) (rows : List Row) → ((r : Row) → keeps terms params r ≡ p (h.seen r)) → IsHeld db h → IsAnswer (one_table h.tree terms project) db params rows
     → not (length rows == 0) ≡ list_any p h.rows
 table_shows db h terms project params p rows same held a =
@@ -31,7 +31,7 @@ table_shows db h terms project params p rows same held a =
     ∙ sym (any_map p h.seen stored)
     ∙ sym (list_any-IsPermutation p h.rows (map h.seen stored) held.same)
 
--- the same by the elements that the rows stand for
+-- the same by the elements of the rows
 pub set_shows : {X : Type 0} (db : Trees) (tree : ℕ) (seen : Row → Row) (row : X → Row) (xs : List X) (q : X → Bool) (terms project : List Term) (params : Row) (p : Row → Bool) (rows : List Row)
     → ((r : Row) → keeps terms params r ≡ p (seen r)) → ((x : X) → p (row x) ≡ q x) → IsHeld db (record { tree = tree; seen = seen; rows = map row xs }) → IsAnswer (one_table tree terms project) db params rows
     → not (length rows == 0) ≡ list_any q xs

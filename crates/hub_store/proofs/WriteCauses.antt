@@ -1,4 +1,5 @@
--- A write to one table, where no table refers to another, stops for a limit on steps, for a rule, or at a row that can't be stored.
+-- A write to one table, with no table referring to another, stops for a limit on steps, for a rule, or at a row that
+-- can't be stored.
 use Rattle.std.proofs.Common.{◌≡◌, ◌≢◌, ◌⊎◌, inl, inr, ℕ, suc, zero, ◌/◌, List, [], ◌∷◌, length, length-append, Bool, true, false, cond, IsSome, Option, Some, None, slice_get, Ok, Err, Result, sym, ap, subst, ◌∙◌, arith}
 use Rattle.std.specs.List.{AllByRecursion}
 use Rattle.std.proofs.lemmas.Bool.{true≢false}
@@ -39,7 +40,7 @@ stays_off b c e = ap (λ b. cond b c false) e
 abbrev pub Breaks : Schema → Trees → Edit → Type 0
 Breaks schema db edit = ((why : Refusal) × IsRefused schema Enforced db edit why) ⊎ ((row : Row) × Has edit.news row × IsOversized schema edit.table row)
 
--- of a schema that is written out each field is `refl`
+-- for a schema that is written out each field is `refl`
 pub record IsWritable (schema : Schema) (table : Table) (at : ℕ) : Type 0 where
   pub listed : slice_get schema.tables at ≡ Some table
   pub uncounted : table.is_counted ≡ false

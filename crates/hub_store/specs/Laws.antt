@@ -1,4 +1,4 @@
--- What is found by opening what a stop left.
+-- What an open finds of what a stop left.
 use Rattle.std.specs.Prelude.{◌≡◌, Option, IfSome}
 use Rattle.sqlite_trees.specs.Tree.{Trees}
 use Rattle.sqlite_trees.specs.declared.store.Store as store
@@ -13,8 +13,8 @@ pub record FindsTrees (c : State) (db : Trees) : Type 0 where
   pub live : IsLive c
   pub trees : c.committed.trees ≡ db
 
--- One connection finds what a stop of another one left, whether that stands for a state or for none: it is among what could be
--- left there, and where it is a state, the one that finds it has it.
+-- One connection finds what a stop of another one left. That is among what could be left there, and if it stands for a
+-- state, the connection that finds it has that state.
 abbrev pub WhatIsLeftIsFound : {S T : Type 0} → store.Ghosts S → store.Ghosts T → Type 0
 WhatIsLeftIsFound {S} {T} g h =
     (old : Held S) (new : Held T) (db : Trees) (left : Option core.State) → (state g old).may_leave db →

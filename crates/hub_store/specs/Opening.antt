@@ -1,4 +1,4 @@
--- What an opening gives, and why a store is not opened.
+-- What an opening returns, and why a store isn't opened.
 use Rattle.std.specs.Prelude.{◌≡◌, ◌≢◌, ◌⊎◌, ◌↔◌, ◌&&◌, nat_lt, ℕ, Bool, false, Option, Some, None, IsTrue}
 use Rattle.sqlite_trees.specs.Tree.{Trees}
 use Rattle.sqlite.specs.Effect.{Database}
@@ -16,23 +16,25 @@ use Rattle.hub_state.specs.declared.shelf.ShelfFault.TheVariants as shelf
 use Rattle.hub_store.specs.declared.sql_shelf.OpenFault.{OpenFault}
 use Rattle.hub_store.specs.declared.sql_shelf.OpenFault.TheVariants.{NotOurs, WrongVersion, Failed, NoMemory}
 
--- versions from which a store is brought to the newest
+-- a version that a migration brings to the newest
 abbrev pub is_older : ℕ → Bool
 is_older v = nat_lt 0 v && nat_lt v newest
 
--- NotOurs where there is no version, WrongVersion where there is another than the newest; the others say nothing of the tables
+-- NotOurs: the store has no version. WrongVersion: it has another than the newest. The other two say nothing of the
+-- tables.
 abbrev pub IsOpenFault : Database → OpenFault → Type 0
 IsOpenFault db NotOurs = version_of db ≡ None
 IsOpenFault db (WrongVersion n) = (version_of db ≡ Some n) × (n ≢ newest)
 IsOpenFault db Failed = Unit {0}
 IsOpenFault db NoMemory = Unit {0}
 
--- how a fault of the store is told of an opening
+-- the fault of an opening for a shelf's fault
 abbrev pub opened_as : ShelfFault → OpenFault
 opened_as shelf.NoMemory = NoMemory
 opened_as shelf.Failed = Failed
 
--- The store is of the newest version and keeps its last commit, and so its content; no failure is counted yet, and nothing was written.
+-- The store is of the newest version. It keeps its last commit, and so its content. No failure is counted, and nothing
+-- was written.
 pub record IsOpened (old new : State) (failures : ℕ) : Type 0 where
   pub version : HasCleanDisk new → version_of old.now ≡ Some newest
   pub kept : HasCleanDisk new → KeepsCommitted old new
@@ -40,7 +42,8 @@ pub record IsOpened (old new : State) (failures : ℕ) : Type 0 where
   pub begun : failures ≡ 0
   pub survives : Survives old new (λ _. ⊥)
 
--- The store isn't opened, for this reason. It keeps its last commit, whatever store it is, and so its content. Nothing was written.
+-- The store isn't opened, for this reason. It keeps its last commit, whatever store it is, and so its content. Nothing
+-- was written.
 pub record IsRefused (old new : State) (fault : OpenFault) : Type 0 where
   pub why : HasCleanDisk new → IsOpenFault old.now fault
   pub cause : HasCleanDisk new → fault ≡ Failed → HasReason old new
@@ -50,24 +53,24 @@ pub record IsRefused (old new : State) (fault : OpenFault) : Type 0 where
 
 -- ---- a store brought to the newest version
 
--- as at an opening, but an older version is no fault
+-- the same for a migration, for which an older version is no fault
 abbrev pub IsMigrationFault : Database → OpenFault → Type 0
 IsMigrationFault db (WrongVersion n) = (version_of db ≡ Some n) × (n ≢ newest) × (is_older n ≡ false)
 IsMigrationFault db fault = IsOpenFault db fault
 
--- the store tells a version from which it is brought to the newest
+-- the store has a version that a migration brings to the newest
 abbrev pub IsOld : Database → Type 0
 IsOld db = (v : ℕ) × IsTrue (is_older v) × (version_of db ≡ Some v)
 
--- what was committed is the newest version with the content that there was in this one
+-- the trees are the newest version with the content of this version
 abbrev pub IsRenewedFrom : ℕ → State → Trees → Type 0
 IsRenewedFrom v old left = (s : core.State) → HasAs v old s → TreesHold left s
 
--- the same of whichever version there was
+-- the same for each older version
 abbrev pub IsRenewed : State → Trees → Type 0
 IsRenewed old left = (v : ℕ) → IsTrue (is_older v) → IsRenewedFrom v old left
 
--- tables of this version are brought to the newest
+-- the tables of this version were brought to the newest
 pub record IsBrought (found : ℕ) (old new : State) (failures : ℕ) : Type 0 where
   pub was_open : HasCleanDisk new → IsTrue old.is_open
   pub content : HasCleanDisk new → (s : core.State) → HasAs found old s → Has new s
@@ -77,14 +80,15 @@ pub record IsBrought (found : ℕ) (old new : State) (failures : ℕ) : Type 0 w
   pub begun : failures ≡ 0
   pub survives : Survives old new (IsRenewedFrom found old)
 
--- they are not, and the last commit stands
+-- they weren't, and the last commit stays
 pub record IsNotBrought (found : ℕ) (old new : State) (fault : OpenFault) : Type 0 where
   pub why : (fault ≡ Failed) ⊎ (fault ≡ NoMemory)
   pub cause : HasCleanDisk new → fault ≡ Failed → (s : core.State) → HasAs found old s → AreTaken s → HasReason old new
   pub kept : HasCleanDisk new → KeepsCommitted old new
   pub survives : Survives old new (IsRenewedFrom found old)
 
--- The store was of the newest version or an older one, is of the newest now with the content as it was, and no failure is counted yet.
+-- The store was of the newest version or an older one. It is of the newest now, with the same content, and no failure
+-- is counted.
 pub record IsMigrated (old new : State) (failures : ℕ) : Type 0 where
   pub version : HasCleanDisk new → (version_of old.now ≡ Some newest) ⊎ IsOld old.now
   pub content : HasCleanDisk new → (s : core.State) → Has old s → Has new s
@@ -94,22 +98,24 @@ pub record IsMigrated (old new : State) (failures : ℕ) : Type 0 where
   -- from here on a crash leaves the newest version with that content, and nothing else
   pub durable : HasCleanDisk new → (v : ℕ) → IsTrue (is_older v) → (s : core.State) → HasAs v old s →
       (left : Option core.State) → MayLeave new left ↔ (left ≡ Some s)
-  -- over the newest version nothing changes
+  -- if it was of the newest version, nothing changes
   pub same : HasCleanDisk new → version_of old.now ≡ Some newest → KeepsCommitted old new
   pub begun : failures ≡ 0
-  -- a crash on the way leaves what it could have left before, or the newest version with that content
+  -- a crash before may leave what it could have left before, or the newest version with that content
   pub survives : Survives old new (IsRenewed old)
   pub unwritten : HasCleanDisk new → version_of old.now ≡ Some newest → Survives old new (λ _. ⊥)
 
--- The store isn't brought there, for this reason, and keeps its last commit, whatever store it is, and so its version and its content.
+-- The store wasn't brought to the newest version, for this reason. It keeps its last commit, whatever store it is, and
+-- so its version and its content.
 pub record IsUnmigrated (old new : State) (fault : OpenFault) : Type 0 where
   pub why : HasCleanDisk new → IsMigrationFault old.now fault
   pub cause : HasCleanDisk new → fault ≡ Failed → HasReason old new ⊎ IsOld old.now
-  -- of an older version that stands for a state it is Failed only for a reason too, where a store takes the rows that are new in the newest
+  -- an older version that stands for a state is Failed only for a reason too, if SQLite takes the rows that the
+  -- migration puts
   pub failed : HasCleanDisk new → fault ≡ Failed → (v : ℕ) → IsTrue (is_older v) → (s : core.State) →
       HasAs v old s → AreTaken s → HasReason old new
   pub kept : HasCleanDisk new → KeepsCommitted old new
   pub content : HasCleanDisk new → (v : ℕ) → (s : core.State) → HasAs v old s → HasAs v new s
-  -- a crash leaves what it could have left before, or, of an older version, the newest with that content
+  -- a crash may leave what it could have left before, or, for an older version, the newest with that content
   pub survives : Survives old new (IsRenewed old)
   pub unwritten : HasCleanDisk new → ¬ IsOld old.now → Survives old new (λ _. ⊥)

@@ -1,4 +1,4 @@
-//! Edits, all in one transaction.
+//! Making edits, all in one transaction.
 
 ghost use Rattle.std.specs.Prelude.{◌≡◌, false, OnOk, OnErr};
 ghost use Rattle.sqlite.specs.State.{HasCleanDisk, Survives};
@@ -33,7 +33,7 @@ fn make_all<S: Alter>(
     Ok(())
 }
 
-/// Makes all edits in one transaction, or none. Nothing is asked of the store after the commit.
+/// Makes all edits in one transaction, or none. The store isn't asked anything after the commit.
 pub(crate) fn apply<S: Alter>(
     conn: &mut Connection<S>,
     alloc: Global,
@@ -50,7 +50,7 @@ pub(crate) fn apply<S: Alter>(
         (s : State) → Has (state S.Store conn.old) s → TreesHold left (with_edits edits.now s)) }
 {
     let mut tx = conn.transaction();
-    // a store that is shut is not asked to commit
+    // a shut store must not be asked to commit
     probe(&mut tx)?;
     make_all(&mut tx, alloc, edits)?;
     tx.commit()

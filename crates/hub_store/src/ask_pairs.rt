@@ -1,4 +1,4 @@
-//! Queries of one of the sets in the table of pairs.
+//! Queries of one set in the table of pairs.
 
 ghost use Rattle.std.specs.Prelude.{◌≡◌, map};
 ghost use Rattle.std.specs.Option.{option_to_list};
@@ -30,7 +30,7 @@ pub(crate) fn ask_between<S: Alter>(
     Ok(rows)
 }
 
-/// The second number and the third value of the pairs with this first number, by the second.
+/// The second number and the third value of each pair with this first number, in the order of the second.
 pub(crate) fn ask_from<S: Alter>(
     tx: &mut Transaction<'_, S>,
     kind: PairKind,
@@ -49,7 +49,7 @@ pub(crate) fn ask_from<S: Alter>(
     Ok(rows)
 }
 
-/// The first number and the third value of the pairs with this second number, by the first.
+/// The first number and the third value of each pair with this second number, in the order of the first.
 pub(crate) fn ask_to<S: Alter>(
     tx: &mut Transaction<'_, S>,
     kind: PairKind,

@@ -4,7 +4,7 @@ ghost use Rattle.std.specs.Prelude.{◌≡◌};
 ghost use Rattle.std.specs.List.{list_any};
 ghost use Rattle.hub_store.specs.inner.ShownPairs.{AreRising, is_one_of};
 
-/// Whether the number is one of these, which rise; it is found by halving.
+/// Whether the number is one of these, which rise. It is found by binary search.
 pub(crate) fn is_among(number: u32, numbers: &[u32]) -> bool
     ensures { AreRising numbers.now → result ≡ is_one_of numbers.now number }
 {

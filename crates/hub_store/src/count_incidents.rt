@@ -8,7 +8,7 @@ use crate::counts::number_in;
 use crate::query::ask;
 use sqlite::{Alter, Connection, Error, Transaction};
 
-/// How many incidents there are, in a transaction. They are numbered without a gap.
+/// How many incidents there are, in a transaction: the highest number, as there is no gap.
 pub(crate) fn read_incident_count<S: Alter>(tx: &mut Transaction<'_, S>) -> Result<u32, Error>
     ensures same_reference { tx.new.conn.ghost_name ≡ tx.old.conn.ghost_name }
     ensures read { IsReadInside (state S.Store tx.old.conn.now)

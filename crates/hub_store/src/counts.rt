@@ -1,4 +1,4 @@
-//! How many rows there are of what has a number: the highest number, as a sound state has no gap.
+//! Counts of what is numbered: the highest number, as a sound state has no gap. Nothing is counted by a scan.
 
 ghost use Rattle.std.specs.Prelude.{◌≡◌, length, IfOk};
 ghost use Rattle.sqlite.specs.Held.{state};
@@ -8,7 +8,7 @@ ghost use Rattle.hub_store.specs.inner.FirstShown.{ShowsNumberOrZero};
 use crate::query::ask;
 use sqlite::{Alter, Error, Row, Transaction};
 
-/// The number that the first row shows; 0 where there is none.
+/// The number in the first row, and 0 if there is no row.
 pub(crate) fn number_in(rows: &[Row]) -> Result<u32, Error>
     ensures { IfOk result (λ number. ShowsNumberOrZero rows.now number) }
 {

@@ -1,4 +1,4 @@
-//! A new store.
+//! Making a new store.
 
 ghost use Rattle.std.specs.Prelude.{◌≡◌, ◌≢◌, false, OnOk, OnErr, IfErr};
 ghost use Rattle.sqlite.specs.State.{HasCleanDisk, Survives};
@@ -20,7 +20,9 @@ use crate::to_version_2::make_tables_2;
 use crate::version::NEWEST;
 use sqlite::{Alter, Connection, Error, ErrorCode, Transaction};
 
-/// Makes the tables of each version from those of the one before.
+/// Makes the tables of each version from those of the version before. A new table gets a tree above all others, so a
+/// table that a version makes anew has another tree than one CREATE would give it. By the same steps a new store and a
+/// migrated one have one schema.
 fn make_newest<S: Alter>(tx: &mut Transaction<'_, S>) -> Result<(), Error>
     ensures same_reference { tx.new.conn.ghost_name ≡ tx.old.conn.ghost_name }
     ensures made { Creates (state S.Store tx.old.conn.now) (state S.Store tx.new.conn.now)
@@ -40,10 +42,11 @@ fn make_in<S: Alter>(tx: &mut Transaction<'_, S>) -> Result<(), Error>
     make_tables(tx)?;
     make_tables_2(tx)?;
     make_newest(tx)?;
+    // at the end, so that a store that was cut off has no version
     put_version(tx, NEWEST)
 }
 
-/// Makes the tables and the version in one transaction, where there is no table yet.
+/// Makes the tables and the version in one transaction, if there is no table yet.
 pub(crate) fn make_store<S: Alter>(conn: &mut Connection<S>) -> Result<(), Error>
     requires { conn.old.in_transaction ≡ false }
     ensures idle { conn.new.in_transaction ≡ false }

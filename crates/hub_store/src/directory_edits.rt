@@ -1,4 +1,4 @@
-//! Edits of the directory, each by one statement.
+//! Edits of the directory, with one statement each.
 
 ghost use Rattle.std.specs.Prelude.{◌≡◌, pos, [], ◌∷◌, IsTrue, OnOk};
 ghost use Rattle.sqlite_value.specs.declared.value.Value.TheVariants.{Int, Text};

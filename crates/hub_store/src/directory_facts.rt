@@ -1,4 +1,5 @@
-//! The facts of the directory's own commands, over the tables.
+//! The facts of the directory's own commands, over the tables. `circle_rows` has them over rows in memory; all other
+//! facts are made of look-ups, once for both.
 
 ghost use Rattle.std.specs.Prelude.{◌≡◌, ◌&&◌, false};
 ghost use Rattle.sqlite.specs.Held.{state};
@@ -257,7 +258,7 @@ fn count<S: Alter>(tx: &mut Transaction<'_, S>, command: &CircleCommand) -> Resu
     }
 }
 
-// What stands is asked first: each command asks it, so an Ok tells that the store is open.
+// What `stands` asks comes first: each command asks it, so Ok means that the store is open.
 fn read_facts<S: Alter>(
     tx: &mut Transaction<'_, S>,
     alloc: Global,
@@ -287,7 +288,7 @@ fn read_facts<S: Alter>(
     })
 }
 
-/// What there is to know about the actor's command.
+/// The facts of the actor's command.
 pub(crate) fn find_circle_facts<S: Alter>(
     conn: &mut Connection<S>,
     alloc: Global,

@@ -1,4 +1,4 @@
-//! How a failure of the store is told.
+//! Faults of the store as a shelf's faults.
 
 ghost use Rattle.std.specs.Prelude.{◌≡◌, ◌<◌, ◌+◌, ◌↔◌, IfOk, IsErrOf};
 ghost use Rattle.hub_state.specs.Shelves.{HasCause, last_count};
@@ -6,7 +6,7 @@ ghost use Rattle.hub_state.specs.Shelves.{HasCause, last_count};
 use hub_state::ShelfFault;
 use sqlite::{Error, ErrorCode};
 
-/// Want of memory is told apart from all else.
+/// Returns `NoMemory` for want of memory, and `Failed` for all else.
 pub(crate) fn fault_of(error: Error) -> ShelfFault
     ensures { (result ≡ ShelfFault.NoMemory) ↔ (error ≡ Error.SqliteFailure ErrorCode.OutOfMemory) }
 {
@@ -16,7 +16,7 @@ pub(crate) fn fault_of(error: Error) -> ShelfFault
     }
 }
 
-/// Tells want of memory from a failure of the store, which is counted.
+/// Turns the store's error into a shelf's fault. Counts it unless it is want of memory.
 pub(crate) fn count_failure<T: Drop>(
     failures: &mut u64,
     outcome: Result<T, Error>,

@@ -1,4 +1,4 @@
-//! The lines of an incident, fed to a pass as they come.
+//! Feeding a pass with the lines of an incident, one at a time.
 
 ghost use Rattle.std.specs.Prelude.{◌≡◌, false, IsTrue, None, OnOk};
 ghost use Rattle.sqlite.specs.Held.{state};
@@ -11,7 +11,7 @@ use redact::RowPass;
 use sqlite::{Alter, Connection, Error, Row, params};
 use std::alloc::Global;
 
-/// A row that shows no line or stands at another place, and a line that may not come there, are strange.
+/// Fails with `STRANGE` if the row shows no line or has another place, or if the line may not come there.
 fn feed_row(alloc: Global, pass: &mut RowPass, place: u64, row: &Row) -> Result<(), Error>
     requires { pass.old.fed.fault ≡ None }
     ensures { OnOk result (TakesRow pass.old place row.now pass.new) }
@@ -23,8 +23,8 @@ fn feed_row(alloc: Global, pass: &mut RowPass, place: u64, row: &Row) -> Result<
     }
 }
 
-/// Feeds a pass with the lines of an incident, by their places, one at a time. Outside a transaction, as in one nothing is known of
-/// what an error leaves.
+/// Feeds a pass with the lines of an incident, one at a time, in the order of their places. It asks outside a
+/// transaction, since in one nothing is known of what an error leaves.
 pub(crate) fn feed_rows<S: Alter>(
     conn: &mut Connection<S>,
     alloc: Global,

@@ -1,4 +1,4 @@
-//! What organisations arranged, and whose clients they are.
+//! What organisations arranged, and the organisations whose client one is.
 
 ghost use Rattle.std.specs.Prelude.{◌≡◌};
 ghost use Rattle.sqlite.specs.Held.{state};
@@ -13,7 +13,7 @@ use circle::directory::Handling;
 use sqlite::{Alter, Error, Transaction};
 use std::alloc::Global;
 
-/// How the source arranged that the organisation handles what is marked `default`, in a transaction.
+/// The handling of `default` that the source arranged with the organisation, in a transaction.
 pub(crate) fn read_arranged<S: Alter>(
     tx: &mut Transaction<'_, S>,
     alloc: Global,
@@ -29,7 +29,7 @@ pub(crate) fn read_arranged<S: Alter>(
     first(alloc, &rows)
 }
 
-/// The organisations whose client this one is, by number, in a transaction.
+/// The organisations whose client this one is, in the order of their numbers, in a transaction.
 pub(crate) fn read_orgs_whose_client<S: Alter>(
     tx: &mut Transaction<'_, S>,
     alloc: Global,

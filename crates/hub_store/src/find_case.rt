@@ -1,4 +1,4 @@
-//! What an incident is judged by, beside its document.
+//! The case of an incident: what it is judged by, without its document.
 
 ghost use Rattle.std.specs.Prelude.{◌≡◌, false};
 ghost use Rattle.sqlite.specs.Held.{state};
@@ -15,7 +15,7 @@ use policy::{Case, Gates};
 use sqlite::{Alter, Connection, Error, Transaction};
 use std::alloc::Global;
 
-/// Whether one of the gates stands at the root.
+/// Whether one of the gates is at the root.
 fn has_root_gate(gates: &Gates) -> bool {
     gates
         .as_slice()
@@ -23,7 +23,8 @@ fn has_root_gate(gates: &Gates) -> bool {
         .any(|gate| gate.path.tokens().is_empty())
 }
 
-/// The gates of an incident. One without a gate at its root isn't the hub's work: it would be open to everybody.
+/// The gates of an incident. Fails if none is at its root: the others would let everybody pass, and a sound state has
+/// one there. Looking the gates up for a request of the source doesn't fail, so that it can set the missing one.
 fn read_rooted_gates<S: Alter>(
     tx: &mut Transaction<'_, S>,
     alloc: Global,
@@ -40,7 +41,7 @@ fn read_rooted_gates<S: Alter>(
     Ok(gates)
 }
 
-/// The gates and the permissions of an incident, beside what it is known by.
+/// The gates and the permissions of an incident, with its naming.
 fn read_policy<S: Alter>(
     tx: &mut Transaction<'_, S>,
     alloc: Global,
@@ -80,7 +81,7 @@ fn read_case<S: Alter>(
     }
 }
 
-/// What an incident is judged by, beside its document; none where it is missing.
+/// The case of an incident. None if it is missing.
 pub(crate) fn find_case<S: Alter>(
     conn: &mut Connection<S>,
     alloc: Global,

@@ -12,7 +12,7 @@ use crate::read_pairs::read_firsts;
 use sqlite::{Alter, Connection, Error, Transaction};
 use std::alloc::Global;
 
-/// The communities of the organisation, by number, in a transaction.
+/// The communities of the organisation, in the order of their numbers, in a transaction.
 pub(crate) fn read_communities<S: Alter>(
     tx: &mut Transaction<'_, S>,
     alloc: Global,

@@ -28,7 +28,7 @@ fn read_document<S: Alter>(
     document_in(alloc, &rows)
 }
 
-/// The document of an incident; none where it is missing.
+/// The document of an incident. None if it is missing.
 pub(crate) fn find_document<S: Alter>(
     conn: &mut Connection<S>,
     alloc: Global,

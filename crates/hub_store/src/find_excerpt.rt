@@ -1,4 +1,4 @@
-//! What a reader is served of an incident.
+//! What a reader may see of an incident.
 
 ghost use Rattle.std.specs.Prelude.{◌≡◌, false, None, option_map, IfOk};
 ghost use Rattle.sqlite.specs.Held.{state};
@@ -13,7 +13,7 @@ use redact::{Excerpt, RowPass};
 use sqlite::{Alter, Connection, Error};
 use std::alloc::Global;
 
-/// What a reader is served of the lines that came to a pass.
+/// The excerpt of the lines that came to a pass.
 fn finish_pass(pass: RowPass) -> Result<Option<Excerpt>, Error>
     requires { pass.fed.fault ≡ None }
     ensures { IfOk result (λ found.
@@ -25,7 +25,7 @@ fn finish_pass(pass: RowPass) -> Result<Option<Excerpt>, Error>
     }
 }
 
-/// What a reader of this standing is served of an incident that is judged by this case: of its lines, as they come.
+/// What a reader of this standing may see of an incident that is judged by this case, made of its lines as they come.
 pub(crate) fn find_excerpt<S: Alter>(
     conn: &mut Connection<S>,
     alloc: Global,
@@ -38,7 +38,7 @@ pub(crate) fn find_excerpt<S: Alter>(
     ensures answers { IsReadOutside (state S.Store conn.old) (state S.Store conn.new) (λ s found.
         option_map told_by found ≡ served_of_incident incident case standing s) result }
 {
-    // outside a transaction what is seen is what was committed
+    // for the proof: outside a transaction the rows seen are the committed ones
     let settled = conn.is_autocommit();
     prove!(settled);
     let mut pass = RowPass::new(alloc, case, standing)?;

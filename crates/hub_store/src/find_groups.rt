@@ -23,7 +23,7 @@ use policy::Numbers;
 use sqlite::{Alter, Connection, Error, Transaction, params};
 use std::alloc::{AllocError, Global};
 
-/// The groups of which an organisation is a member, by number, and those of them that are active.
+/// The groups of which an organisation is a member, in the order of their numbers, and those that are active.
 #[derive(Drop)]
 pub(crate) struct GroupsJoined {
     pub(crate) all: Numbers,
@@ -43,7 +43,7 @@ pub(crate) fn read_has_group_member<S: Alter>(
     read_has_pair(tx, PairKind::GroupMember, group, org)
 }
 
-/// The organisation's rows among the members of groups.
+/// The organisation's rows in the set of members of groups.
 fn read_memberships<S: Alter>(
     tx: &mut Transaction<'_, S>,
     alloc: Global,
@@ -102,7 +102,7 @@ fn push_joined(
     Ok(())
 }
 
-/// The groups of which the organisation is a member, by number.
+/// The groups of which the organisation is a member, in the order of their numbers.
 fn read_groups<S: Alter>(
     tx: &mut Transaction<'_, S>,
     alloc: Global,
@@ -139,7 +139,7 @@ fn active_numbers(alloc: Global, groups: &[JoinedGroup]) -> Result<Vec<u32>, All
         .collect(alloc)
 }
 
-/// The groups of which the organisation is a member, and those of them that are active, in a transaction.
+/// The groups of which the organisation is a member, and those that are active, in a transaction.
 pub(crate) fn read_groups_joined<S: Alter>(
     tx: &mut Transaction<'_, S>,
     alloc: Global,
@@ -179,7 +179,7 @@ pub(crate) fn has_group_member<S: Alter>(
     found
 }
 
-/// The groups of which the person's organisation is a member, by number.
+/// The groups of which the person's organisation is a member, in the order of their numbers.
 pub(crate) fn find_groups<S: Alter>(
     conn: &mut Connection<S>,
     alloc: Global,

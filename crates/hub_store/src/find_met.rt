@@ -17,7 +17,7 @@ use redact::{Probe, Want};
 use sqlite::{Alter, Connection, Error};
 use std::alloc::Global;
 
-/// Whether an incident meets the want, to a search to which its lines came, or as many as made it sure.
+/// Whether an incident meets the want, by a search that read all its lines, or as many as made the result sure.
 fn is_met(probe: Probe) -> Result<bool, Error>
     requires unfaulted { probe.fed.fault ≡ None }
     requires sure { probe.met ≡ true → IsSure probe.want probe.fed.lines probe.case probe.standing }
@@ -25,7 +25,7 @@ fn is_met(probe: Probe) -> Result<bool, Error>
         (n : ℕ) (s : State) → IsSound s → AreFirst n s probe →
         met ≡ met_by_incident n probe.case probe.standing probe.want s) }
 {
-    // what is sure of the lines that came is so of the document, whose lines are an outline
+    // what is sure of the lines read is sure of the document, whose lines are an outline
     lines_are_an_outline();
     match probe.finish() {
         Ok(met) => Ok(met),
@@ -33,7 +33,8 @@ fn is_met(probe: Probe) -> Result<bool, Error>
     }
 }
 
-/// Whether an incident that is judged by this case meets a want, for a reader of this standing: by its lines, as they come.
+/// Whether an incident that is judged by this case meets a want, for a reader of this standing. It reads the lines as
+/// they come.
 pub(crate) fn find_met<S: Alter>(
     conn: &mut Connection<S>,
     alloc: Global,
@@ -48,7 +49,7 @@ pub(crate) fn find_met<S: Alter>(
         (state S.Store conn.new) (λ s met. met ≡
         met_by_incident incident case standing want s) result }
 {
-    // outside a transaction what is seen is what was committed
+    // for the proof: outside a transaction the rows seen are the committed ones
     let settled = conn.is_autocommit();
     prove!(settled);
     let mut probe = Probe::new(alloc, case, standing, want)?;

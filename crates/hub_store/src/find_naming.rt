@@ -1,4 +1,4 @@
-//! What an incident is known by, beside its document.
+//! The naming of an incident: what it is known by, without its document.
 
 ghost use Rattle.std.specs.Prelude.{◌≡◌, false};
 ghost use Rattle.sqlite.specs.Held.{state};
@@ -11,7 +11,7 @@ use hub_state::Naming;
 use sqlite::{Alter, Connection, Error, Transaction, params};
 use std::alloc::Global;
 
-/// What an incident is known by, in a transaction.
+/// The naming of an incident, in a transaction.
 pub(crate) fn read_naming<S: Alter>(
     tx: &mut Transaction<'_, S>,
     alloc: Global,
@@ -29,7 +29,7 @@ pub(crate) fn read_naming<S: Alter>(
     first(alloc, &rows)
 }
 
-/// What an incident is known by, beside its document; none where it is missing.
+/// The naming of an incident. None if it is missing.
 pub(crate) fn find_naming<S: Alter>(
     conn: &mut Connection<S>,
     alloc: Global,

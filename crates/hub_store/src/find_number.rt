@@ -1,4 +1,4 @@
-//! The number of an incident by its ident.
+//! The number of an incident by its source and its ident.
 
 ghost use Rattle.std.specs.Prelude.{◌≡◌, false, option_map};
 ghost use Rattle.sqlite.specs.Held.{state};

@@ -1,4 +1,4 @@
-//! What has a number, by its number.
+//! Organisations, communities and persons by their numbers.
 
 ghost use Rattle.std.specs.Prelude.{◌≡◌, false};
 ghost use Rattle.sqlite.specs.Held.{state};

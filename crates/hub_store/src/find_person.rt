@@ -28,7 +28,7 @@ pub(crate) fn read_person<S: Alter>(
     first(alloc, &rows)
 }
 
-/// The person with this key, active or not.
+/// The person with this key, active or suspended. None if there is none.
 pub(crate) fn find_person<S: Alter>(
     conn: &mut Connection<S>,
     alloc: Global,

@@ -1,4 +1,4 @@
-//! What a reader has of its own.
+//! The part of a standing that doesn't depend on the incident.
 
 ghost use Rattle.std.specs.Prelude.{◌≡◌, false};
 ghost use Rattle.sqlite.specs.Held.{state};
@@ -55,7 +55,7 @@ fn read_reader<S: Alter>(
     }
 }
 
-/// What the person of this number has of its own as a reader; none where it is missing.
+/// The reader's own part of a standing, for the person of this number. None if it is missing.
 pub(crate) fn find_reader<S: Alter>(
     conn: &mut Connection<S>,
     alloc: Global,

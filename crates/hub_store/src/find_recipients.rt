@@ -1,4 +1,4 @@
-//! To whom an incident is addressed.
+//! The recipients of an incident.
 
 ghost use Rattle.std.specs.Prelude.{◌≡◌, false};
 ghost use Rattle.sqlite.specs.Held.{state};
@@ -11,7 +11,7 @@ use hub_state::Recipients;
 use sqlite::{Alter, Connection, Error, Transaction, params};
 use std::alloc::Global;
 
-/// To whom an incident is addressed, in a transaction.
+/// The recipients of an incident, in a transaction.
 pub(crate) fn read_recipients<S: Alter>(
     tx: &mut Transaction<'_, S>,
     alloc: Global,
@@ -31,7 +31,7 @@ pub(crate) fn read_recipients<S: Alter>(
     Ok(Recipients::new(recipients))
 }
 
-/// To whom an incident is addressed.
+/// The recipients of an incident.
 pub(crate) fn find_recipients<S: Alter>(
     conn: &mut Connection<S>,
     alloc: Global,

@@ -30,7 +30,7 @@ fn read_sharing<S: Alter>(
     }
 }
 
-/// How an incident is shared, beside its gates and permissions; none where it is missing.
+/// The naming and the recipients of an incident. None if it is missing.
 pub(crate) fn find_sharing<S: Alter>(
     conn: &mut Connection<S>,
     alloc: Global,

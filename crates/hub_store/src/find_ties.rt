@@ -74,7 +74,8 @@ fn read_others<S: Alter>(
     })
 }
 
-/// Whether the community that is named is one of the organisation's, which rise; where none is, whether it shares one.
+/// Whether the community that is named is one of the organisation's, which rise. If none is named, whether it shares
+/// one.
 fn is_peer(own: &[u32], named: Option<u32>, shares: bool) -> bool
     ensures { AreRising own.now → result ≡ spec.is_peer own.now named shares }
 {
@@ -84,7 +85,7 @@ fn is_peer(own: &[u32], named: Option<u32>, shares: bool) -> bool
     }
 }
 
-/// How an organisation of these communities, which rise, stands to a source.
+/// How an organisation with these communities, which rise, stands to a source.
 fn ties_with(
     own: &[u32],
     others: &Others,
@@ -104,7 +105,7 @@ fn ties_with(
     }
 }
 
-/// The same, where its communities are known.
+/// The same if its communities are known.
 fn read_ties_of<S: Alter>(
     tx: &mut Transaction<'_, S>,
     alloc: Global,
@@ -123,7 +124,7 @@ fn read_ties_of<S: Alter>(
     Ok(ties_with(own, &others, named, arrangement))
 }
 
-/// The same, where they are read first.
+/// The same if they are read first.
 fn read_own_ties<S: Alter>(
     tx: &mut Transaction<'_, S>,
     alloc: Global,
@@ -159,8 +160,8 @@ fn read_ties<S: Alter>(
     }
 }
 
-/// How an organisation stands to a source and to the community that is named. Its communities are read where they aren't
-/// known.
+/// How an organisation stands to a source and to the community that is named. Reads the organisation's communities
+/// unless they are given.
 pub(crate) fn find_ties<S: Alter>(
     conn: &mut Connection<S>,
     alloc: Global,

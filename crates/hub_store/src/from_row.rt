@@ -7,7 +7,7 @@ ghost use Rattle.hub_store.specs.inner.Shown.{ShowsFirst, ShowsAll};
 use sqlite::{Error, ErrorCode, Row};
 use std::alloc::Global;
 
-/// What a row of a query is read as. A row that the hub didn't write is no value.
+/// What a row of a query is read as. A row that the hub didn't write is an error.
 pub(crate) trait FromRow: Sized {
     // the row shows the value
     ghost shows: { Columns → Self → Type 0 };
@@ -16,13 +16,13 @@ pub(crate) trait FromRow: Sized {
         ensures { IfOk result (λ x. shows row.now x) };
 }
 
-/// What is answered where a row isn't one of the hub's.
+/// The error for a row that isn't one of the hub's.
 pub(crate) const STRANGE: Error = Error::SqliteFailure(ErrorCode::NotADatabase);
 
-/// What is answered for want of memory.
+/// The error for want of memory.
 pub(crate) const NO_MEMORY: Error = Error::SqliteFailure(ErrorCode::OutOfMemory);
 
-/// The first row.
+/// The first row as a value. None if there is no row.
 pub(crate) fn first<T: FromRow>(alloc: Global, rows: &[Row]) -> Result<Option<T>, Error>
     ensures { IfOk result (λ found. ShowsFirst T.FromRow.shows rows.now found) }
 {
@@ -32,7 +32,7 @@ pub(crate) fn first<T: FromRow>(alloc: Global, rows: &[Row]) -> Result<Option<T>
     }
 }
 
-/// All rows, in their order.
+/// All rows as values, in their order.
 pub(crate) fn all<T: FromRow + Drop>(alloc: Global, rows: &[Row]) -> Result<Vec<T>, Error>
     ensures { IfOk result (λ found. ShowsAll T.FromRow.shows rows.now found.items) }
 {

@@ -1,4 +1,4 @@
-//! Whether two numbers stand in a set of pairs, in a transaction.
+//! Whether a set of pairs has two numbers, in a transaction.
 
 ghost use Rattle.std.specs.Prelude.{◌≡◌, IfOk};
 ghost use Rattle.sqlite.specs.Held.{state};

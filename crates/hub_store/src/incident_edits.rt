@@ -1,4 +1,4 @@
-//! Edits of incidents and of what hangs on them; most are one statement.
+//! Edits of incidents and of their gates, recipients and permissions. Most are one statement.
 
 ghost use Rattle.std.specs.Prelude.{◌≡◌, ◌==◌, not, map, filter};
 ghost use Rattle.sqlite.specs.Held.{state};
@@ -22,7 +22,7 @@ use hub_state::{
 use sqlite::{Alter, Error, Transaction, params};
 use std::alloc::Global;
 
-/// The incident without its lines.
+/// Puts the row of an incident without its lines.
 fn insert_incident<S: Alter>(tx: &mut Transaction<'_, S>, incident: &Incident) -> Result<(), Error>
     ensures same_reference { tx.new.conn.ghost_name ≡ tx.old.conn.ghost_name }
     ensures made { (s : State) →
@@ -65,7 +65,7 @@ fn take_lines<S: Alter>(tx: &mut Transaction<'_, S>, incident: u32) -> Result<()
     )
 }
 
-/// The incident, once its lines are gone.
+/// Takes the row of an incident out, whose lines are gone.
 fn remove_incident<S: Alter>(tx: &mut Transaction<'_, S>, number: u32) -> Result<(), Error>
     ensures same_reference { tx.new.conn.ghost_name ≡ tx.old.conn.ghost_name }
     ensures made { (s : State) →

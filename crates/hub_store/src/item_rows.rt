@@ -1,4 +1,4 @@
-//! Rows of the table of lines as lines at their places, and all lines of an incident as its document.
+//! Rows of the table of lines as lines with their places, and all lines of an incident as its document.
 
 ghost use Rattle.std.specs.Prelude.{◌≡◌, ◌↔◌, IfOk};
 ghost use Rattle.hub_store.specs.Items.{kind_number, placed_from};
@@ -44,7 +44,7 @@ impl FromRow for PlacedLine {
     }
 }
 
-/// The line of a row that has to stand at this place: one at another place is strange, as a row before it is missing.
+/// The line of a row, which must have this place. A row with another place is an error, as one before it is missing.
 pub(crate) fn line_at(alloc: Global, place: u64, row: &Row) -> Result<Line, Error>
     ensures { IfOk result (λ line. ShowsPlaced row.now (record { place = place; line = line })) }
 {
@@ -55,7 +55,7 @@ pub(crate) fn line_at(alloc: Global, place: u64, row: &Row) -> Result<Line, Erro
     Ok(found.line)
 }
 
-/// How it is told that lines are no document: want of memory apart from lines out of shape.
+/// The error for lines that are no document: want of memory, or lines out of shape.
 pub(crate) fn error_of(fault: OutlineFault) -> Error
     ensures { (result ≡ Error.SqliteFailure ErrorCode.OutOfMemory) ↔
         (fault ≡ OutlineFault.NoMemory) }
@@ -66,7 +66,7 @@ pub(crate) fn error_of(fault: OutlineFault) -> Error
     }
 }
 
-/// The lines of rows that have to stand at the places 1, 2, 3 and so on.
+/// The lines of rows, which must have the places 1, 2, 3 and so on.
 fn lines_in(alloc: Global, rows: &[Row]) -> Result<Vec<Line>, Error>
     ensures { IfOk result (λ lines. ShowsAll ShowsPlaced rows.now (placed_from 1 lines.items)) }
 {
@@ -78,8 +78,8 @@ fn lines_in(alloc: Global, rows: &[Row]) -> Result<Vec<Line>, Error>
     Ok(lines)
 }
 
-/// The document with the lines that the rows show, whose places have no gap; none where there is no row. Rows out of shape are no
-/// document.
+/// The document of the lines that the rows show, whose places must have no gap. None if there is no row. Fails with
+/// `STRANGE` if the lines are no document.
 pub(crate) fn document_in(alloc: Global, rows: &[Row]) -> Result<Option<Document>, Error>
     ensures { IfOk result (λ found. ShowsLines rows.now found) }
 {

@@ -12,7 +12,7 @@ use circle::releasability::Releasability;
 use sqlite::{Error, Row};
 use std::alloc::Global;
 
-/// A group that an organisation has joined, and whether it may add others to it.
+/// A group of which an organisation is a member, and whether it may add others to it.
 #[derive(Clone, Copy, Debug, PartialEq, Eq)]
 pub(crate) struct Joined {
     pub(crate) group: u32,

@@ -1,4 +1,4 @@
-//! What is kept of the reader that was asked for last.
+//! The reader's own part of a standing, kept for the next question.
 
 ghost use Rattle.std.specs.Prelude.{◌≡◌, IfOk, IfSome, Some};
 ghost use Rattle.hub_store.specs.Shelved.{IsKeptOf};
@@ -14,7 +14,7 @@ fn copied(alloc: Global, numbers: &Numbers) -> Result<Numbers, AllocError>
     Ok(Numbers::new(copy))
 }
 
-/// A copy of what a reader has of its own.
+/// A copy of a reader's part.
 pub(crate) fn copy_of(alloc: Global, reader: &Reader) -> Result<Reader, AllocError>
     ensures { IfOk result (λ copy. copy ≡ reader.now) }
 {
@@ -27,7 +27,7 @@ pub(crate) fn copy_of(alloc: Global, reader: &Reader) -> Result<Reader, AllocErr
     })
 }
 
-/// A copy of it to be kept.
+/// A copy of what was found, to be kept.
 pub(crate) fn kept_copy(alloc: Global, found: &Option<Reader>) -> Result<Option<Reader>, AllocError>
     ensures { IfOk result (λ copy. copy ≡ found.now) }
 {
@@ -37,7 +37,7 @@ pub(crate) fn kept_copy(alloc: Global, found: &Option<Reader>) -> Result<Option<
     }
 }
 
-/// What is kept, if it is of this person.
+/// The kept part, if it is of this person.
 pub(crate) fn kept_of(kept: &Option<Reader>, person: u32) -> Option<&Reader>
     ensures { IfSome result (λ reader.
         (kept.now ≡ Some reader.now) × (reader.now.person.number ≡ person)) }
@@ -48,7 +48,7 @@ pub(crate) fn kept_of(kept: &Option<Reader>, person: u32) -> Option<&Reader>
     }
 }
 
-/// The communities of the organisation, if what is kept is of a person of it.
+/// The communities of the organisation, if the kept part is of a person of it.
 pub(crate) fn communities_kept(kept: &Option<Reader>, org: u32) -> Option<&[u32]>
     ensures { IfSome result (λ ns. IsKeptOf kept.now org ns.now) }
 {

@@ -1,32 +1,36 @@
 //! The hub's shelf over SQL tables.
 //!
-//! To read first: the contracts of [`SqlShelf`]. It is a `Shelf` of `hub_core`: each read is its function of the state that
-//! the tables stand for, and `apply` makes its edits in one transaction, all or none. What a store has, what a crash
-//! leaves of it, and why it isn't opened stand in `specs/`, in this order:
+//! To read first: the contracts of [`SqlShelf`]. It is a `Shelf` of `hub_state`: each read returns its function of the
+//! state that the tables stand for, and `apply` makes its edits in one transaction, all or none. `specs/` says in this
+//! order which state a store has, what a crash leaves of it, and why it isn't opened:
 //!
-//! 1. `Layout`, `Tables` and `Versions`: the parts of each version, its schema, and the version that a store tells.
-//! 2. `Rows`, `Items`, `Values` and `Pairs`: each element of a set as a row, and each line of a document; `Fit`: the limits
-//!    that every row keeps.
-//! 3. `Means`: which state the tables stand for, set by set; `Content`: what a connection has, and what an open after a
-//!    crash may find; `Shelved`: what the shelf has, by its connection and by what it keeps; `Opening` and `Failing`: why a
-//!    store isn't opened; `Laws`: what is found of what a crash left.
+//! 1. `Layout`, `Tables` and `Versions`: the parts of each version, its schema, and the version of a store.
+//! 2. `Rows`, `Items`, `Values` and `Pairs`: each element of a set as a row, and each line of a document; `Fit`: the
+//!    limits that every row keeps.
+//! 3. `Means`: which state the tables stand for, set by set; `Content`: which state a connection has, and what an open
+//!    after a crash may find; `Shelved`: the state of the shelf, by its connection and by what it keeps; `Opening` and
+//!    `Failing`: why a store isn't opened; `Laws`: what an open finds of what a crash left.
 //!
-//! The rooms, in the way of the data:
+//! The modules, by what they do:
 //!
-//! - `tables`, `to_version_2`, `remake`, `next_version`, `set_version`, `create` and `version`: a new store, the step to each version,
-//!   and the version of a store that is there; `migrate` and `old_rows`: a store of an older version, brought to the newest;
-//! - `pair_kind`, `numbers`, `from_row`, `person_rows`, `joined_rows`, `incident_rows`, `item_rows`: values as rows, and rows as values;
-//! - `statement` and `query`: a text that is prepared and run, and asked in a transaction; `any_row`, `ask_pairs`,
-//!   `read_pairs`: the queries that several of these ask;
-//! - `find_person`, `find_numbered`, `find_number`, `find_naming`, `find_document`, `find_excerpt`, `find_met`, `find_gates`, `find_recipients`,
-//!   `find_permissions`, `find_case`, `find_sharing`, `find_groups`, `find_communities`, `find_arranged`, `find_reader`, `find_ties`,
-//!   `list_entries`, `has_row`, `has_pair`, `common_numbers`: what is looked up; `kept_reader`: what of it is kept;
-//! - `feed_rows`: the lines of an incident, fed to the pass of an excerpt as they come; `probe_rows`: to a search, until it is sure;
-//! - `counts`, `count_incidents`, `directory_facts`: what the facts of a request want;
-//! - `directory_edits`, `put_naming`, `put_lines`, `incident_edits` and `apply`: the edits, each by its statements, in one
-//!   transaction;
-//! - `sql_shelf`: [`SqlShelf`], made, opened, brought up to date and released, its look-ups and its reads; `failures`: how a
-//!   failure of the store is told, and counted; `laws`: the law of what a crash leaves.
+//! - `tables`, `to_version_2`, `remake`, `next_version`, `set_version`, `create` and `version`: a new store, the step
+//!   to each version, and the version of a store; `migrate` and `old_rows`: bringing a store of an older version to the
+//!   newest;
+//! - `pair_kind`, `numbers`, `from_row`, `person_rows`, `joined_rows`, `incident_rows`, `item_rows`: values as rows,
+//!   and rows as values;
+//! - `statement` and `query`: preparing a text and running or asking it in a transaction; `any_row`, `ask_pairs`,
+//!   `read_pairs`: queries that several of these ask;
+//! - `find_person`, `find_numbered`, `find_number`, `find_naming`, `find_document`, `find_excerpt`, `find_met`,
+//!   `find_gates`, `find_recipients`, `find_permissions`, `find_case`, `find_sharing`, `find_groups`,
+//!   `find_communities`, `find_arranged`, `find_reader`, `find_ties`, `list_entries`, `has_row`, `has_pair`,
+//!   `common_numbers`: the look-ups; `kept_reader`: what of them is kept;
+//! - `feed_rows`: the lines of an incident for the pass of an excerpt, one at a time; `probe_rows`: the same for a
+//!   search, until its result is sure;
+//! - `counts`, `count_incidents`, `directory_facts`: what the facts of a request need;
+//! - `directory_edits`, `put_naming`, `put_lines`, `incident_edits` and `apply`: the edits with their statements, in
+//!   one transaction;
+//! - `sql_shelf`: [`SqlShelf`], how it is made, opened, migrated and released, its look-ups and its reads; `failures`:
+//!   how failures of the store are returned and counted; `laws`: the law of what a crash leaves.
 #![tactic(auto)]
 
 mod any_row;

@@ -30,7 +30,7 @@ fn read_entries<S: Alter>(
     all(alloc, &rows)
 }
 
-/// The first so many incidents above a number, by number.
+/// The first `most` incidents above a number, in the order of their numbers.
 pub(crate) fn list_entries<S: Alter>(
     conn: &mut Connection<S>,
     alloc: Global,

@@ -1,4 +1,4 @@
-//! A store of an older version, brought to the newest in one transaction.
+//! Bringing a store of an older version to the newest in one transaction. There is no way back.
 
 ghost use Rattle.std.specs.Prelude.{◌≡◌, ◌≢◌, ◌<◌, ◌≤◌, ◌&&◌, List, [], map, false, OnOk, OnErr, IfOk, IfErr, IsTrue};
 ghost use Rattle.sqlite_value.specs.Order.{Row};
@@ -33,7 +33,7 @@ use hub_state::{Incident, Naming};
 use sqlite::{Alter, Connection, Error, ErrorCode, Transaction, params};
 use std::alloc::Global;
 
-/// Whether it is a version from which a store is brought to the newest.
+/// Whether a migration brings this version to the newest.
 pub(crate) fn is_older(version: u32) -> bool
     ensures { result ≡ spec.is_older version }
 {
@@ -66,8 +66,8 @@ fn read_next<S: Alter>(
     first_incident(alloc, &rows)
 }
 
-/// Puts the lines of the next document, if there is one, keeps what else its row holds, and tells its number. One document at a
-/// time is held in memory.
+/// Puts the lines of the next document, if there is one. Keeps the rest of its row, and returns its number. Only one
+/// document at a time is in memory.
 fn move_next<S: Alter>(
     tx: &mut Transaction<'_, S>,
     alloc: Global,
@@ -95,7 +95,8 @@ fn move_next<S: Alter>(
     Ok(Some(found))
 }
 
-/// Puts the lines of all documents while the table of their texts stands, and hands back what else its rows hold.
+/// Puts the lines of all documents beside the table of their texts, and returns the rest of its rows, which is some
+/// hundred bytes an incident.
 fn move_documents<S: Alter>(
     tx: &mut Transaction<'_, S>,
     alloc: Global,
@@ -123,7 +124,7 @@ fn move_documents<S: Alter>(
     Err(STRANGE)
 }
 
-/// Moves the lines of all documents, and takes the table of their texts away.
+/// Moves the lines of all documents, and drops the table of their texts.
 fn move_lines<S: Alter>(tx: &mut Transaction<'_, S>, alloc: Global) -> Result<Vec<Naming>, Error>
     ensures same_reference { tx.new.conn.ghost_name ≡ tx.old.conn.ghost_name }
     ensures goes { Goes (state S.Store tx.old.conn.now) (state S.Store tx.new.conn.now) result }
@@ -161,7 +162,7 @@ fn put_back<S: Alter>(tx: &mut Transaction<'_, S>, kept: &[Naming]) -> Result<()
     Ok(())
 }
 
-/// The table of the incidents without their texts.
+/// Makes the table of the incidents without their texts.
 fn move_incidents<S: Alter>(tx: &mut Transaction<'_, S>, kept: &[Naming]) -> Result<(), Error>
     ensures same_reference { tx.new.conn.ghost_name ≡ tx.old.conn.ghost_name }
     ensures goes { Goes (state S.Store tx.old.conn.now) (state S.Store tx.new.conn.now) result }
@@ -178,7 +179,7 @@ fn move_incidents<S: Alter>(tx: &mut Transaction<'_, S>, kept: &[Naming]) -> Res
     put_back(tx, kept)
 }
 
-/// From version 1 to version 2.
+/// Brings version 1 to version 2.
 fn to_version_2<S: Alter>(tx: &mut Transaction<'_, S>, alloc: Global) -> Result<(), Error>
     ensures same_reference { tx.new.conn.ghost_name ≡ tx.old.conn.ghost_name }
     ensures goes { Goes (state S.Store tx.old.conn.now) (state S.Store tx.new.conn.now) result }
@@ -194,7 +195,7 @@ fn to_version_2<S: Alter>(tx: &mut Transaction<'_, S>, alloc: Global) -> Result<
     set_version(tx, 2)
 }
 
-/// From version 2 or a later one, step by step.
+/// Brings version 2 or a later one to the newest, step by step.
 fn go_on<S: Alter>(tx: &mut Transaction<'_, S>, alloc: Global, version: u32) -> Result<(), Error>
     ensures same_reference { tx.new.conn.ghost_name ≡ tx.old.conn.ghost_name }
     ensures goes { Goes (state S.Store tx.old.conn.now) (state S.Store tx.new.conn.now) result }
@@ -211,7 +212,7 @@ fn go_on<S: Alter>(tx: &mut Transaction<'_, S>, alloc: Global, version: u32) -> 
     Ok(())
 }
 
-/// Each step leads from one version to the next.
+/// Goes all steps to the newest version. Each leads from one version to the next.
 fn go_steps<S: Alter>(tx: &mut Transaction<'_, S>, alloc: Global, version: u32) -> Result<(), Error>
     ensures same_reference { tx.new.conn.ghost_name ≡ tx.old.conn.ghost_name }
     ensures goes { Goes (state S.Store tx.old.conn.now) (state S.Store tx.new.conn.now) result }
@@ -230,8 +231,8 @@ fn go_steps<S: Alter>(tx: &mut Transaction<'_, S>, alloc: Global, version: u32) 
     }
 }
 
-/// Brings a store from an older version to the newest in one transaction, or leaves it. Nothing is asked of the store after the
-/// commit.
+/// Brings a store from an older version to the newest in one transaction, or leaves it as it is. The store isn't asked
+/// anything after the commit.
 pub(crate) fn renew<S: Alter>(
     conn: &mut Connection<S>,
     alloc: Global,
@@ -256,7 +257,7 @@ pub(crate) fn renew<S: Alter>(
         HasReason (state S.Store conn.old) (state S.Store conn.new)) }
 {
     let mut tx = conn.transaction();
-    // a store that is shut is not asked to commit
+    // a shut store must not be asked to commit
     probe(&mut tx)?;
     go_steps(&mut tx, alloc, version)?;
     tx.commit()

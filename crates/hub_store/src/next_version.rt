@@ -25,7 +25,7 @@ const CREATE_PERMISSIONS: &str =
 const PUT_PERMISSION: &str =
     "INSERT INTO permission (incident, path, kind, target) VALUES (?1, ?2, ?3, ?4)";
 
-/// To version 3: a permission gets a column for its end.
+/// To version 3: a permission gets a column for its end, which is NULL in each old row.
 const PERMISSIONS: Texts = Texts {
     read: READ_PERMISSIONS,
     drop: DROP_PERMISSIONS,
@@ -43,7 +43,7 @@ const CREATE_INCIDENTS: &str =
 const PUT_INCIDENT: &str =
     "INSERT INTO incident (number, source, ident, revision) VALUES (?1, ?2, ?3, ?4)";
 
-/// To version 4: an incident gets a column for the community that it names.
+/// To version 4: an incident gets a column for the community that it names, which is NULL in each old row.
 const INCIDENTS: Texts = Texts {
     read: READ_INCIDENTS,
     drop: DROP_INCIDENTS,
@@ -51,7 +51,7 @@ const INCIDENTS: Texts = Texts {
     put: PUT_INCIDENT,
 };
 
-/// Makes the tables of the next version where those of this one have no row.
+/// Makes the tables of the next version, if those of this one have no row.
 pub(crate) fn make_next<S: Alter>(tx: &mut Transaction<'_, S>, from: u32) -> Result<(), Error>
     ensures same_reference { tx.new.conn.ghost_name ≡ tx.old.conn.ghost_name }
     ensures made { 2 ≤ from → from < newest →
@@ -65,7 +65,7 @@ pub(crate) fn make_next<S: Alter>(tx: &mut Transaction<'_, S>, from: u32) -> Res
     }
 }
 
-/// Brings tables of a version to the next.
+/// Brings the tables of a version to the next.
 pub(crate) fn go_next<S: Alter>(
     tx: &mut Transaction<'_, S>,
     alloc: Global,

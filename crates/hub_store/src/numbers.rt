@@ -1,4 +1,4 @@
-//! The numbers that stand for names in the tables.
+//! The numbers of names in the tables. They make the order of a key the order of SQL.
 
 ghost use Rattle.std.specs.Prelude.{◌≡◌};
 ghost use Rattle.hub_store.specs.Rows as spec;

@@ -39,7 +39,7 @@ fn only_of(mut documents: Vec<Document>) -> Result<Document, Error>
     }
 }
 
-/// What a row holds beside the document. In version 1 no incident names a community.
+/// The naming in a row. In version 1 no incident names a community.
 fn naming_of(row: &Row) -> Result<Naming, Error>
     ensures value { IfOk result (ShowsNaming row.now) }
     ensures cause { (i : OldIncident) → row.now ≡ old_shown i → IsReadable i →
@@ -73,7 +73,7 @@ fn incident_of(alloc: Global, row: &Row) -> Result<Incident, Error>
     Ok(Incident { naming, document })
 }
 
-/// The incident in the first row.
+/// The incident in the first row. None if there is no row.
 pub(crate) fn first_incident(alloc: Global, rows: &[Row]) -> Result<Option<Incident>, Error>
     ensures value { IfOk result (λ found. ShowsFirst ShowsIncident rows.now found) }
     ensures cause { ReadsFirst rows.now → IfErr result IsUnheld }

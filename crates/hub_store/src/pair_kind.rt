@@ -3,7 +3,7 @@
 ghost use Rattle.std.specs.Prelude.{◌≡◌};
 ghost use Rattle.hub_store.specs.inner.PairKinds.{kind_name};
 
-/// A set in the table of pairs: its rows bear its name.
+/// A set in the table of pairs: its rows have its name.
 #[derive(Clone, Copy, Debug, PartialEq, Eq)]
 pub(crate) enum PairKind {
     Client,

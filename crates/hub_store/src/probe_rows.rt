@@ -1,4 +1,4 @@
-//! The lines of an incident, fed to a search as they come, until it is sure.
+//! Feeding a search with the lines of an incident, one at a time, until its result is sure.
 
 ghost use Rattle.std.specs.Prelude.{◌≡◌, false, IsTrue, None, IfOk, OnOk};
 ghost use Rattle.sqlite.specs.Held.{state};
@@ -11,8 +11,8 @@ use redact::Probe;
 use sqlite::{Alter, Connection, Error, Row, params};
 use std::alloc::Global;
 
-/// Whether it is sure with one more line. A row that shows no line or stands at another place, and a line that may not come there,
-/// are strange.
+/// Returns whether the result is sure with one more line. Fails with `STRANGE` if the row shows no line or has another
+/// place, or if the line may not come there.
 fn probe_row(alloc: Global, probe: &mut Probe, place: u64, row: &Row) -> Result<bool, Error>
     requires { probe.old.fed.fault ≡ None }
     ensures { IfOk result (λ answer. ProbesRow probe.old place row.now answer probe.new) }
@@ -24,8 +24,9 @@ fn probe_row(alloc: Global, probe: &mut Probe, place: u64, row: &Row) -> Result<
     }
 }
 
-/// Feeds a search with the lines of an incident, by their places, one at a time. As soon as it is sure, the rest of the rows is let
-/// go. Outside a transaction, as in one nothing is known of what an error leaves.
+/// Feeds a search with the lines of an incident, one at a time, in the order of their places. As soon as its result is
+/// sure, the rest of the rows is dropped. It asks outside a transaction, since in one nothing is known of what an error
+/// leaves.
 pub(crate) fn probe_rows<S: Alter>(
     conn: &mut Connection<S>,
     alloc: Global,

@@ -1,4 +1,4 @@
-//! An incident's row, without its lines.
+//! Putting an incident's row, without its lines.
 
 ghost use Rattle.std.specs.Prelude.{◌≡◌, ◌∷◌, List, IsPermutation};
 ghost use Rattle.sqlite_value.specs.Order.{Row};
@@ -39,7 +39,7 @@ pub(crate) fn put_naming<S: Alter>(
     )
 }
 
-/// Puts the row of version 2, while the store still tells the version before.
+/// Puts the row of version 2, while the store still has the version before.
 pub(crate) fn put_naming_2<S: Alter>(
     tx: &mut Transaction<'_, S>,
     naming: &Naming,

@@ -1,4 +1,4 @@
-//! Numbers of the pairs in one of the sets.
+//! Numbers in the pairs of one set.
 
 ghost use Rattle.std.specs.Prelude.{◌≡◌, map, is_some};
 ghost use Rattle.sqlite.specs.Held.{state};
@@ -12,7 +12,7 @@ use crate::pair_kind::PairKind;
 use sqlite::{Alter, Error, Transaction};
 use std::alloc::Global;
 
-/// Whether there is a pair of these two numbers.
+/// Whether the set has the pair of these two numbers.
 pub(crate) fn read_has_pair<S: Alter>(
     tx: &mut Transaction<'_, S>,
     kind: PairKind,

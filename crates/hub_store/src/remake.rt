@@ -1,4 +1,4 @@
-//! A table made anew, as a step from one version of the tables to the next does it.
+//! Making a table anew, as the step from one version of the tables to the next does.
 
 ghost use Rattle.std.specs.Prelude.{◌≡◌, ◌≢◌, ℕ, List, [], map, IsTrue, IfOk, IfErr, OnOk};
 ghost use Rattle.sqlite_value.specs.Order.{Row as Columns};
@@ -19,20 +19,20 @@ use sqlite::types::ValueRef;
 use sqlite::{Alter, Error, ErrorCode, Row, Transaction};
 use std::alloc::Global;
 
-/// The texts of a step. A table can't be given a column, so it is dropped and made anew; a new table gets a tree above all
-/// others, so a store is brought there by the same statements whether it is new or old.
+/// The texts of a step. A table can't be given a column, so it is dropped and made anew. A new table gets a tree above
+/// all others, so the same statements bring a new store and an old one there.
 pub(crate) struct Texts {
     /// Shows the rows of the old table.
     pub(crate) read: &'static str,
-    /// Drops it.
+    /// Drops the old table.
     pub(crate) drop: &'static str,
-    /// Makes the new one.
+    /// Makes the new table.
     pub(crate) create: &'static str,
-    /// Puts a row that was read into it.
+    /// Puts a row that was read into the new table.
     pub(crate) put: &'static str,
 }
 
-/// The columns of a row, as a statement is given them.
+/// The columns of a row as parameters of a statement.
 fn params_of(alloc: Global, row: &Row) -> Result<Vec<ValueRef<'_>>, Error>
     ensures value { IfOk result (λ params. bound params.items ≡ map bound_value row.now) }
     ensures memory { IfErr result IsUnheld }
@@ -88,7 +88,7 @@ fn put_rows<S: Alter>(
     Ok(())
 }
 
-/// The old table is dropped, and the new one made with no row. The rows of the other tables stay.
+/// Drops the old table and makes the new one without a row. The rows of the other tables stay.
 pub(crate) fn make_anew<S: Alter>(tx: &mut Transaction<'_, S>, texts: &Texts) -> Result<(), Error>
     ensures same_reference { tx.new.conn.ghost_name ≡ tx.old.conn.ghost_name }
     ensures goes { Goes (state S.Store tx.old.conn.now) (state S.Store tx.new.conn.now) result }
@@ -103,7 +103,7 @@ pub(crate) fn make_anew<S: Alter>(tx: &mut Transaction<'_, S>, texts: &Texts) ->
     run(tx, texts.create, &[])
 }
 
-/// Brings the tables to a version by these texts. The version is set first, while all tables are those that stand.
+/// Brings the tables to a version by these texts.
 pub(crate) fn remake<S: Alter>(
     tx: &mut Transaction<'_, S>,
     alloc: Global,
@@ -124,6 +124,7 @@ pub(crate) fn remake<S: Alter>(
         (HoldsParts (under before ps)) result }
 {
     let rows = ask(tx, texts.read, &[])?;
+    // before the table is dropped, while all tables are those of the version before
     set_version(tx, version)?;
     make_anew(tx, texts)?;
     put_rows(tx, alloc, texts.put, &rows)

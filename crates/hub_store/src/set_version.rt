@@ -1,4 +1,4 @@
-//! The version of a store, whatever tables stand behind the one that holds it.
+//! The version of a store, whatever tables come after the one that holds it.
 
 ghost use Rattle.std.specs.Prelude.{◌≡◌, ℕ, List, [], ◌∷◌, IsTrue};
 ghost use Rattle.sqlite.specs.Held.{state};
@@ -21,7 +21,7 @@ fn take_version<S: Alter>(tx: &mut Transaction<'_, S>) -> Result<(), Error>
     run(tx, "DELETE FROM hub", &[])
 }
 
-/// Puts the version where none stands.
+/// Puts the version if there is none.
 pub(crate) fn put_version<S: Alter>(tx: &mut Transaction<'_, S>, version: u32) -> Result<(), Error>
     ensures same_reference { tx.new.conn.ghost_name ≡ tx.old.conn.ghost_name }
     ensures made { (ps : List Part) → IsTrue (are_beside 0 ps) →
@@ -38,7 +38,7 @@ pub(crate) fn put_version<S: Alter>(tx: &mut Transaction<'_, S>, version: u32) -
     )
 }
 
-/// Sets the version. It is taken and put, as its row has no number by which it would be exchanged.
+/// Sets the version. It is taken and put, as its row has no number by which to exchange it.
 pub(crate) fn set_version<S: Alter>(tx: &mut Transaction<'_, S>, version: u32) -> Result<(), Error>
     ensures same_reference { tx.new.conn.ghost_name ≡ tx.old.conn.ghost_name }
     ensures made { (before : ℕ) → (ps : List Part) → IsTrue (are_beside 0 ps) →

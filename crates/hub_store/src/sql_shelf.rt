@@ -18,7 +18,7 @@ use sqlite_schema::schema::Schema;
 use std::alloc::Global;
 use std::marker::Model;
 
-/// Why a store was not opened.
+/// Why a store wasn't opened.
 #[derive(Clone, Copy, Debug, PartialEq, Eq)]
 pub enum OpenFault {
     /// There is no table `hub` of one row whose column `version` holds a `u32`, or another table has its tree.
@@ -30,8 +30,10 @@ pub enum OpenFault {
     NoMemory,
 }
 
-/// The hub's tables in a connection that is in no transaction between two calls. It keeps what the reader that was asked for
-/// last has of its own, until an edit. Contracts see the connection, how often the store has failed, and what is kept.
+/// The hub's tables in a connection, which is in no transaction between two calls. Each look-up is one transaction that
+/// is rolled back, as a read changes nothing and nobody else writes the store. Until an edit it keeps the last reader's
+/// own part of a standing: a page asks for the same reader again and again. Contracts see the connection, the count of
+/// failures, and what is kept.
 #[derive(Drop)]
 pub struct SqlShelf<S: Alter> {
     alloc: Global,
@@ -92,7 +94,7 @@ impl<S: Alter> SqlShelf<S> {
         }
     }
 
-    /// At its last value the count of failures can't rise, so nothing more is asked of the store.
+    /// Fails if the count of failures is at its last value: it can't rise, so the store isn't asked anything more.
     fn may_ask(&self) -> Result<(), ShelfFault>
         ensures asked { OnOk result (self.now.failures < last_count) }
         ensures ended { IfErr result (λ fault.
@@ -104,8 +106,8 @@ impl<S: Alter> SqlShelf<S> {
         Ok(())
     }
 
-    /// Makes the tables, with no row but the version. Where there are tables already it is Failed, and changes nothing. On a
-    /// refusal the connection comes back, with its content.
+    /// Makes the tables, without any row but the version. Fails with `Failed` if there are tables already, and changes
+    /// nothing. If it fails, the connection comes back with its content.
     pub fn create(
         alloc: Global,
         mut conn: Connection<S>,
@@ -128,7 +130,8 @@ impl<S: Alter> SqlShelf<S> {
             HasCleanDisk (state S.Store e.1) → (s : State) → Has (state S.Store conn) s →
             Has (state S.Store e.1) s) }
         ensures idle { IfErr result (λ e. e.1.in_transaction ≡ false) }
-        // After Ok a crash may leave the empty state, and nothing else; otherwise what it could have left before, or that state.
+        // After Ok a crash may leave only the empty state. Otherwise it may leave what it could have left before, or
+        // that state.
         ensures durable { IfOk result (λ shelf.
             HasCleanDisk (state S.Store shelf.conn) → (left : Option State) →
             MayLeave (state S.Store shelf.conn) left ↔ (left ≡ Some empty)) }
@@ -148,8 +151,8 @@ impl<S: Alter> SqlShelf<S> {
         }
     }
 
-    /// Takes a connection whose store holds the hub's tables of the newest version. On a refusal the connection comes back,
-    /// with its content, whatever store it is.
+    /// Takes a connection whose store has the hub's tables of the newest version. If it fails, the connection comes
+    /// back with its content, whatever store it is.
     pub fn open(
         alloc: Global,
         mut conn: Connection<S>,
@@ -171,8 +174,8 @@ impl<S: Alter> SqlShelf<S> {
         }
     }
 
-    /// Sets the connection's limit on the steps of a statement; 0 is no limit. Takes no memory. A statement that would take more
-    /// steps is a failure of the store, and changes nothing.
+    /// Sets the connection's limit on the steps of a statement; 0 is no limit. Takes no memory. A statement that would
+    /// take more steps fails as a failure of the store, and changes nothing.
     pub fn limit_steps(&mut self, steps: u64)
         ensures limited { self.new.conn ≡ record self.old.conn { step_limit = limit_of steps } }
         ensures content { (s : State) → Has (state S.Store self.old.conn) s →
@@ -187,7 +190,7 @@ impl<S: Alter> SqlShelf<S> {
         self.conn.set_step_limit(limit);
     }
 
-    /// Gives the connection back, with the content as it was; takes no memory.
+    /// Returns the connection, with the content as it was. Takes no memory.
     pub fn release(self) -> Connection<S>
         ensures same { result ≡ self.conn }
         ensures idle { result.in_transaction ≡ false }

@@ -1,4 +1,4 @@
-//! A text that is prepared and run.
+//! Preparing a text and running it.
 
 ghost use Rattle.std.specs.Prelude.{◌≡◌, IsTrue, OnOk, IfErr};
 ghost use Rattle.sqlite.specs.State.{HasCleanDisk};

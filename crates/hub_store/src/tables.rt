@@ -1,4 +1,5 @@
-//! The tables of version 1, made one after another. A new store gets those of the newest version from them, as an old one does.
+//! The tables of version 1, made one after another. A new store gets those of the newest version from them, as an old
+//! one does.
 
 ghost use Rattle.std.specs.Prelude.{◌≡◌};
 ghost use Rattle.sqlite.specs.Held.{state};
@@ -75,6 +76,7 @@ fn make_pair<S: Alter>(tx: &mut Transaction<'_, S>) -> Result<(), Error>
 {
     run(
         tx,
+        // the second UNIQUE is the index by which a pair is found from its other end
         "CREATE TABLE pair (kind TEXT NOT NULL, a INTEGER NOT NULL, b INTEGER NOT NULL, value INTEGER, UNIQUE (kind, a, b), UNIQUE (kind, b, a)) STRICT",
         &[],
     )
@@ -128,7 +130,7 @@ fn make_incident<S: Alter>(tx: &mut Transaction<'_, S>) -> Result<(), Error>
     )
 }
 
-/// The tables of the directory.
+/// Makes the tables of the directory.
 fn make_directory<S: Alter>(tx: &mut Transaction<'_, S>) -> Result<(), Error>
     ensures same_reference { tx.new.conn.ghost_name ≡ tx.old.conn.ghost_name }
     ensures made { Creates (state S.Store tx.old.conn.now) (state S.Store tx.new.conn.now)
@@ -141,7 +143,7 @@ fn make_directory<S: Alter>(tx: &mut Transaction<'_, S>) -> Result<(), Error>
     make_grp(tx)
 }
 
-/// The others: those that a later version changes stand last.
+/// Makes the other tables. Those that a later version changes come last.
 fn make_incidents<S: Alter>(tx: &mut Transaction<'_, S>) -> Result<(), Error>
     ensures same_reference { tx.new.conn.ghost_name ≡ tx.old.conn.ghost_name }
     ensures made { Creates (state S.Store tx.old.conn.now) (state S.Store tx.new.conn.now)
@@ -154,7 +156,7 @@ fn make_incidents<S: Alter>(tx: &mut Transaction<'_, S>) -> Result<(), Error>
     make_incident(tx)
 }
 
-/// Makes all tables of version 1, with no row.
+/// Makes all tables of version 1, without any row.
 pub(crate) fn make_tables<S: Alter>(tx: &mut Transaction<'_, S>) -> Result<(), Error>
     ensures same_reference { tx.new.conn.ghost_name ≡ tx.old.conn.ghost_name }
     ensures made { Creates (state S.Store tx.old.conn.now) (state S.Store tx.new.conn.now)

@@ -1,6 +1,6 @@
-//! From version 1 of the tables to version 2: the lines of the documents get a table of their own, and that of the incidents
-//! loses its text. A new table gets a tree above all others, so a store is brought here by the same statements whether it is
-//! new or old.
+//! From version 1 of the tables to version 2: the lines of the documents get a table of their own, and the incidents
+//! lose their texts. An excerpt is made of lines that come one at a time. A new table gets a tree above all others, so
+//! the same statements bring a new store and an old one there.
 
 ghost use Rattle.std.specs.Prelude.{◌≡◌, List, []};
 ghost use Rattle.sqlite_value.specs.Order.{Row};
@@ -33,7 +33,7 @@ pub(crate) fn create_item<S: Alter>(tx: &mut Transaction<'_, S>) -> Result<(), E
     )
 }
 
-/// The rows of the other tables stay.
+/// Drops the table. The rows of the other tables stay.
 pub(crate) fn drop_incident<S: Alter>(tx: &mut Transaction<'_, S>) -> Result<(), Error>
     ensures same_reference { tx.new.conn.ghost_name ≡ tx.old.conn.ghost_name }
     ensures empty { Creates (state S.Store tx.old.conn.now) (state S.Store tx.new.conn.now)
@@ -66,7 +66,7 @@ pub(crate) fn create_incident<S: Alter>(tx: &mut Transaction<'_, S>) -> Result<(
     )
 }
 
-/// The tables of version 2 where those of version 1 have no row.
+/// Makes the tables of version 2, if those of version 1 have no row.
 pub(crate) fn make_tables_2<S: Alter>(tx: &mut Transaction<'_, S>) -> Result<(), Error>
     ensures same_reference { tx.new.conn.ghost_name ≡ tx.old.conn.ghost_name }
     ensures made { Creates (state S.Store tx.old.conn.now) (state S.Store tx.new.conn.now)

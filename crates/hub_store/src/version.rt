@@ -16,7 +16,7 @@ use sqlite_schema::schema::Schema;
 /// The newest version of the tables.
 pub const NEWEST: u32 = 4;
 
-/// Whether just one table has this tree.
+/// Whether exactly one table has this tree.
 fn has_one_table(schema: &Schema, tree: u32) -> bool
     ensures { result ≡ (tables_at schema.now tree == 1) }
 {
@@ -24,7 +24,7 @@ fn has_one_table(schema: &Schema, tree: u32) -> bool
     tables.iter().filter(|table| table.tree == tree).count() == 1
 }
 
-/// Whether there is a table `hub`, which has its tree alone, with a column `version`.
+/// Whether there is a table `hub` with a tree of its own and with a column `version`.
 fn has_version_column(schema: &Schema) -> bool
     ensures { result ≡ is_some (version_column schema.now) }
 {
@@ -39,7 +39,7 @@ fn has_version_column(schema: &Schema) -> bool
     }
 }
 
-/// The u32 in the first column, where there is one row.
+/// The u32 in the first column, if there is one row.
 fn only_number(rows: &[Row]) -> Result<Option<u32>, Error>
     ensures value { IfOk result (λ found. found ≡ only_u32 (map (λ r. column r 0) rows.now)) }
     ensures memory { IfErr result (λ e. e ≡ Error.SqliteFailure ErrorCode.OutOfMemory) }
@@ -56,7 +56,7 @@ fn only_number(rows: &[Row]) -> Result<Option<u32>, Error>
     }
 }
 
-/// A view `hub` is no table, so it isn't asked.
+/// Reads the version, if there is the column. A view `hub` is no table, so it isn't asked.
 fn read_version<S: Alter>(
     tx: &mut Transaction<'_, S>,
     has_column: bool,
@@ -78,10 +78,12 @@ fn read_version<S: Alter>(
         e ≢ Error.SqliteFailure ErrorCode.OutOfMemory →
         HasReason (state S.Store tx.old.conn.now) (state S.Store tx.new.conn.now)) }
 {
+    // SQL finds a table's types by its tree. Were there two tables at one tree, it could refuse the text, so nothing is
+    // asked then.
     if !has_column {
         return Ok(None);
     }
-    // Two rows tell that there are several.
+    // two rows show that there are several, without reading a table of many
     match tx.query_all("SELECT version FROM hub LIMIT 2", &[]) {
         Ok(rows) => only_number(&rows),
         Err(error) => Err(error),
@@ -111,8 +113,8 @@ fn ask_version<S: Alter>(conn: &mut Connection<S>) -> Result<Option<u32>, Error>
     found
 }
 
-/// The version that the one row of the table `hub` holds; none where there is no such table, row or number, or another table
-/// has its tree.
+/// Returns the version in the one row of the table `hub`. None if there is no such table, row or number, or if another
+/// table has its tree.
 pub(crate) fn version<S: Alter>(conn: &mut Connection<S>) -> Result<Option<u32>, ShelfFault>
     requires { conn.old.in_transaction ≡ false }
     ensures idle { conn.new.in_transaction ≡ false }

@@ -1,4 +1,4 @@
--- The tables that a migration fills, beside those that stand: the lines of the documents, the incidents, the permissions.
+-- The tables that a migration fills beside the others: the lines, the incidents, the permissions.
 use Rattle.std.specs.Prelude.{◌≡◌, ◌<◌, ◌^◌, ◌&&◌, ℕ, suc, pos, Bool, false, List, [], ◌∷◌, ◌++◌, length}
 use Rattle.std.specs.List.{AllByRecursion}
 use Rattle.sqlite_value.specs.declared.value.Value.TheVariants.{Null, Int}
@@ -19,28 +19,29 @@ use Rattle.hub_store.specs.Fit.{ShortItem, IsShort}
 use Rattle.hub_store.specs.Layout.{with_items, item_part}
 use Rattle.hub_store.specs.Parts.{HoldsParts}
 
--- the rowids count on from a number, with no gap
+-- the rowids count on from a number without a gap
 abbrev pub AreNumbered : ℕ → List Row → Type 0
 AreNumbered n [] = Unit {0}
 AreNumbered n (r ∷ rows) = (rowid r ≡ Int (pos n)) × AreNumbered (suc n) rows
 
--- these lines beside all tables of version 1, in a table that was made empty
+-- these lines beside all tables of version 1, with rowids from 1
 pub record HoldsBeside (items : List Row) (s : State) (db : Database) : Type 0 where
   pub parts : HoldsParts (with_items items s) db
   pub numbered : AreNumbered 1 (db.trees (item_part items).table.tree)
 
--- as SQL compares them, two rows begin with the same values
+-- two rows have equal values in two columns, as SQL compares them
 abbrev pub begin_alike : ℕ → Row → Row → Bool
 begin_alike at a b = equal Binary (column a at) (column b at) && equal Binary (column a (suc at)) (column b (suc at))
 
+-- the first two columns of two rows differ
 abbrev pub Apart : Row → Row → Type 0
 Apart a b = (begin_alike 0 a b ≡ false) × (begin_alike 0 b a ≡ false)
 
--- the row is that of a line that a store takes
+-- the row is that of a line, and SQLite takes it
 abbrev pub IsShortLine : Row → Type 0
 IsShortLine row = (x : Item) × (row ≡ item_row x) × ShortItem x
 
--- Lines that the table takes: each has a place of its own, is short enough, and the rowids don't run out.
+-- The table takes these lines: each has a place of its own, is short enough, and the rowids suffice.
 pub record CanStand (items : List Row) : Type 0 where
   pub apart : Pairwise Apart items
   pub lines : AllByRecursion IsShortLine items
@@ -48,48 +49,52 @@ pub record CanStand (items : List Row) : Type 0 where
 
 -- ---- the table of the incidents, while it is filled again
 
+-- two rows have different numbers
 abbrev pub NumbersApart : Row → Row → Type 0
 NumbersApart a b = (is_eq (value_cmp (rowid a) (rowid b)) ≡ false) × (is_eq (value_cmp (rowid b) (rowid a)) ≡ false)
 
--- no two have the source and the ident of each other
+-- two rows don't have the same source and ident
 abbrev pub IdentsApart : Row → Row → Type 0
 IdentsApart a b = (begin_alike 2 a b ≡ false) × (begin_alike 2 b a ≡ false)
 
--- the row of an incident, which is short enough, as a version keeps it
+-- the row is that of an incident as a version keeps it, and SQLite takes it
 abbrev pub IsShortNaming : (Naming → Row) → Row → Type 0
 IsShortNaming kept row = (k : Naming) × (row ≡ kept k) × IsShort row × (k.number < 2 ^ 63)
 
--- Incidents that the table of a version takes: no two have one number, or one ident of one source, and each is short enough.
+-- The table of a version takes these incidents: numbers differ, source and ident together differ, and each is short
+-- enough.
 pub record CanName (kept : Naming → Row) (rows : List Row) : Type 0 where
   pub numbers : Pairwise NumbersApart rows
   pub idents : Pairwise IdentsApart rows
   pub namings : AllByRecursion (IsShortNaming kept) rows
 
--- an incident that names no community, as version 4 keeps it
+-- the row of an incident that names no community, as version 4 keeps it
 abbrev pub unnamed_row : Naming → Row
 unnamed_row k = naming_row_2 k ++ Null ∷ []
 
--- the row is what the query of all incidents of version 3 shows
+-- the row is one that the query of all incidents of version 3 shows
 abbrev pub IsShownBefore4 : Row → Type 0
 IsShownBefore4 row = (k : Naming) × (row ≡ naming_shown_2 k)
 
 -- ---- the table of the permissions, while it is filled again
 
--- the row is what the query of all permissions of version 2 shows
+-- the row is one that the query of all permissions of version 2 shows
 abbrev pub IsEndlessRow : Row → Type 0
 IsEndlessRow row = (x : Permission) × (row ≡ endless_row x)
 
--- as SQL compares them, two rows have the same incident, path, kind and target
+-- two rows have the same incident, path, kind and target, as SQL compares them
 abbrev pub granted_alike : Row → Row → Bool
 granted_alike a b = begin_alike 0 a b && begin_alike 2 a b
 
+-- two permissions differ in incident, path, kind or target
 abbrev pub GrantsApart : Row → Row → Type 0
 GrantsApart a b = (granted_alike a b ≡ false) × (granted_alike b a ≡ false)
 
+-- the row is that of a permission without an end, and SQLite takes it under a rowid
 abbrev pub IsShortGrant : Row → Type 0
 IsShortGrant row = (x : Permission) × (row ≡ without_end (endless_row x)) × IsShort (Null ∷ row)
 
--- Permissions that the table takes: each is of its own, is short enough, and the rowids don't run out.
+-- The table takes these permissions: they differ, each is short enough, and the rowids suffice.
 pub record CanGrant (permissions : List Row) : Type 0 where
   pub apart : Pairwise GrantsApart permissions
   pub grants : AllByRecursion IsShortGrant permissions

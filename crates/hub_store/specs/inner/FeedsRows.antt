@@ -1,4 +1,4 @@
--- A pass that is fed the lines of an incident as a query gives their rows.
+-- A pass that reads the lines of an incident from the rows of a query, one at a time.
 use Rattle.std.specs.Prelude.{◌≡◌, ℕ, [], ◌∷◌, ◌++◌, None, unwrap_or}
 use Rattle.sqlite_value.specs.Order.{Row}
 use Rattle.iodef_tree.specs.declared.line.Line.{Line}
@@ -12,7 +12,7 @@ use Rattle.hub_store.specs.inner.Shown.{ShowsPlaced}
 abbrev pub IsUnfed : PassState → Type 0
 IsUnfed pass = pass.fed ≡ record { lines = []; fault = None }
 
--- more lines came, each without a fault
+-- more lines came, none with a fault
 pub record HasTaken (old new : PassState) : Type 0 where
   pub case : new.case ≡ old.case
   pub standing : new.standing ≡ old.standing
@@ -25,6 +25,6 @@ pub record TakesRow (old : PassState) (place : ℕ) (row : Row) (new : PassState
   pub shown : ShowsPlaced row (record { place = place; line = line })
   pub lines : new.fed.lines ≡ old.fed.lines ++ line ∷ []
 
--- the lines of the document; none of one that is missing
+-- the lines of the incident's document; none if it is missing
 abbrev pub lines_of : ℕ → State → Lines
 lines_of n s = unwrap_or (document_of n s) []

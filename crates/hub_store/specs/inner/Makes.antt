@@ -11,23 +11,23 @@ use Rattle.sqlite.specs.State.{State, HasCleanDisk}
 use Rattle.hub_store.specs.Failing.{HasReason}
 use Rattle.hub_store.specs.Keeps.{Goes}
 
--- the tables of the schema are there, with no row; the database obeys them, where there is any
+-- the schema is this one and its tables have no row; the database obeys them, if there are any
 pub record HasEmpty (schema : Schema) (db : Database) : Type 0 where
   pub known : db.schema ≡ schema
   pub whole : schema.tables ≢ [] → IsDatabase db
   pub empty : AllByRecursion (λ (t : Table). db.trees t.tree ≡ []) schema.tables
 
--- Nothing is committed, and where the one held before, the other holds after an Ok.
+-- Nothing is committed. If `Before` held before, `After` holds after Ok.
 pub record Makes {T : Type 0} (old new : State) (Before After : Database → Type 0) (result : Result T Error) : Type 0 where
   pub goes : Goes old new result
   pub made : HasCleanDisk new → IsTrue old.in_transaction → Before old.now → OnOk result (After new.now)
 
--- Where this held before, it fails only for a reason, or for want of memory.
+-- If this held before, it fails only for a reason or for want of memory.
 pub record FailsOnly {T : Type 0} (old new : State) (Before : Database → Type 0) (result : Result T Error) : Type 0 where
   pub cause : HasCleanDisk new → IsTrue old.in_transaction → Before old.now →
       IfErr result (λ e. e ≢ SqliteFailure code.OutOfMemory → HasReason old new)
 
--- The same, and where the one held before, it fails only for a reason.
+-- The same as Makes, and if `Before` held, it fails only for a reason or for want of memory.
 pub record Creates {T : Type 0} (old new : State) (Before After : Database → Type 0) (result : Result T Error) : Type 0 where
   pub makes : Makes old new Before After result
   pub cause : HasCleanDisk new → IsTrue old.in_transaction → Before old.now →

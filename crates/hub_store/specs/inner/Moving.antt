@@ -1,4 +1,5 @@
--- What a migration has moved of the documents of version 1, which it reads one after another, by the numbers of their incidents.
+-- What a migration has moved of version 1: it reads the documents one after another, in the order of their incidents'
+-- numbers.
 use Rattle.std.specs.Prelude.{◌≡◌, ◌<◌, ◌≤◌, ◌^◌, IsUtf8, ℕ, nat_lt, nat_le, List, [], ◌∷◌, ◌++◌, map, filter, find, Option, Some, None, Ok}
 use Rattle.std.specs.List.{AllByRecursion}
 use Rattle.sqlite_value.specs.declared.value.Value.TheVariants.{Text}
@@ -17,18 +18,19 @@ use Rattle.hub_store.specs.inner.Shown.{naming_shown_2}
 use Rattle.hub_store.specs.Items.{items_in, item_row}
 use Rattle.hub_store.specs.inner.Beside.{HoldsBeside}
 
--- an incident of version 1, which names no community, as its row shows it: its text reads as its document, and as no other beside it
+-- The row is that of an incident of version 1, whose text reads as its document and no other.
 abbrev pub ShowsIncident : Row → Incident → Type 0
 ShowsIncident row i =
     (k : Naming) → (text : List ℕ) → k.community ≡ None → row ≡ naming_shown_2 k ++ Text text ∷ [] →
     (i.naming ≡ k) × (reading text ≡ Ok (i.document ∷ []))
 
--- the same without its document, and its document alone
+-- the same for the incident without its document
 abbrev pub ShowsNaming : Row → Naming → Type 0
 ShowsNaming row naming =
     (k : Naming) → (text : List ℕ) → k.community ≡ None → row ≡ naming_shown_2 k ++ Text text ∷ [] →
     naming ≡ k
 
+-- the same for the document alone
 abbrev pub ShowsDocument : Row → Lines → Type 0
 ShowsDocument row document =
     (k : Naming) → (text : List ℕ) → row ≡ naming_shown_2 k ++ Text text ∷ [] →
@@ -38,7 +40,7 @@ ShowsDocument row document =
 abbrev pub old_shown : Incident → Row
 old_shown i = naming_shown_2 i.naming ++ Text (document_text i.document) ∷ []
 
--- its columns can be read
+-- these columns can be read back
 pub record IsReadable (i : Incident) : Type 0 where
   pub number : i.naming.number < 2 ^ 32
   pub source : i.naming.source < 2 ^ 32
@@ -47,34 +49,35 @@ pub record IsReadable (i : Incident) : Type 0 where
   pub text : IsUtf8 (document_text i.document)
   pub back : reading (document_text i.document) ≡ Ok (i.document ∷ [])
 
--- the first row, if there is one, is that of an incident that can be read
+-- the first row, if there is one, is that of an incident that can be read back
 abbrev pub ReadsFirst : List Row → Type 0
 ReadsFirst [] = Unit {0}
 ReadsFirst (row ∷ rows) = (i : Incident) × (row ≡ old_shown i) × IsReadable i
 
--- A sound state, of whose documents each has a text in UTF-8, so that it reads back, and whose incidents name no community.
+-- The state is sound, each document's text is UTF-8, so that it reads back, and no incident names a community.
 pub record HasTexts (s : State) : Type 0 where
   pub sound : IsSound s
   pub texts : AllByRecursion FitIncident s.incidents
   pub unnamed : NoneNamesCommunity s
 
--- what is kept of the incidents beside their documents
+-- the namings of these incidents: all that is kept of them without their documents
 abbrev pub naming_in : List Incident → List Naming
 naming_in = map (λ (i : Incident). i.naming)
 
--- the first above a number
+-- the first incident above a number
 abbrev pub incident_above : ℕ → State → Option Incident
 incident_above n s = find (λ (i : Incident). nat_lt n i.naming.number) s.incidents
 
+-- the incidents up to a number
 abbrev pub incidents_up_to : ℕ → State → List Incident
 incidents_up_to n s = filter (λ (i : Incident). nat_le i.naming.number n) s.incidents
 
--- the lines of the documents up to a number are put, and what else their rows hold is kept
+-- the lines of the documents up to a number are put, and the namings of their incidents are kept
 pub record HoldsMoved (number : ℕ) (kept : List Naming) (db : Database) (s : State) : Type 0 where
   pub moved : HoldsBeside (map item_row (items_in (incidents_up_to number s))) s db
   pub are_kept : kept ≡ naming_in (incidents_up_to number s)
 
--- A step moved the incident that was found, which has a greater number; where none was found, all are moved.
+-- A step moved the incident that was found, which has a greater number. If none was found, all are moved.
 abbrev pub HoldsNext : ℕ → List Naming → Option ℕ → Database → State → Type 0
 HoldsNext number kept (Some found) db s = HoldsMoved found kept db s × (number < found) × (found ≤ INCIDENT_LIMIT)
 HoldsNext number kept None db s = HoldsMoved number kept db s × (incidents_up_to number s ≡ s.incidents)

@@ -1,4 +1,4 @@
--- A search that is fed the lines of an incident as a query gives their rows, until it is sure.
+-- A search that reads the lines of an incident from the rows of a query, one at a time, until its result is sure.
 use Rattle.std.specs.Prelude.{◌≡◌, ℕ, Bool, true, false, [], ◌∷◌, ◌++◌, None}
 use Rattle.sqlite_value.specs.Order.{Row}
 use Rattle.iodef_tree.specs.declared.line.Line.{Line}
@@ -13,7 +13,7 @@ pub record IsUnprobed (probe : ProbeState) : Type 0 where
   pub fed : probe.fed ≡ record { lines = []; fault = None }
   pub met : probe.met ≡ false
 
--- more lines came, each without a fault; where true was answered, it is sure
+-- More lines came, none with a fault. After true the result is sure.
 pub record HasProbed (old new : ProbeState) : Type 0 where
   pub case : new.case ≡ old.case
   pub standing : new.standing ≡ old.standing
@@ -29,7 +29,7 @@ pub record ProbesRow (old : ProbeState) (place : ℕ) (row : Row) (answer : Bool
   pub shown : ShowsPlaced row (record { place = place; line = line })
   pub lines : new.fed.lines ≡ old.fed.lines ++ line ∷ []
 
--- the lines that came are the first of the document's, and all of them unless true was answered
+-- the lines that came are the first of the document's, and all of them unless true was returned
 pub record AreFirst (n : ℕ) (s : State) (probe : ProbeState) : Type 0 where
   pub others : Lines
   pub lines : lines_of n s ≡ probe.fed.lines ++ others

@@ -11,11 +11,11 @@ use Rattle.hub_store.specs.Keeps.{Goes}
 use Rattle.hub_store.specs.inner.Makes.{Makes, FailsOnly}
 use Rattle.hub_store.specs.inner.Beside.{HoldsBeside, CanStand}
 
--- The second rows are the first and those of the lines, of which the first has this place.
+-- The second rows are the first and those of the lines, which begin at this place.
 abbrev pub HasMore : ℕ → ℕ → Lines → List Row → List Row → Type 0
 HasMore incident place lines items more = IsPermutation (map item_row (items_from incident place lines) ++ items) more
 
--- The lines come in, between two statements of an edit, or between version 1 and version 2.
+-- The lines are put between two statements of an edit, or between version 1 and version 2.
 pub record PutsLines {T : Type 0} (incident place : ℕ) (lines : Lines) (old new : State) (result : Result T Error) : Type 0 where
   pub goes : Goes old new result
   pub edited : (s : core.State) → (incidents items more : List Row) →
@@ -23,6 +23,6 @@ pub record PutsLines {T : Type 0} (incident place : ℕ) (lines : Lines) (old ne
       Makes old new (λ db. HoldsBetween items incidents db s) (λ db. HoldsBetween more incidents db s) result
   pub moved : (s : core.State) → (items more : List Row) → HasMore incident place lines items more →
       Makes old new (HoldsBeside items s) (HoldsBeside more s) result
-  -- lines that the table takes fail only for a reason
+  -- putting lines that the table takes fails only for a reason
   pub cause : (s : core.State) → (items more : List Row) → HasMore incident place lines items more →
       CanStand more → FailsOnly old new (HoldsBeside items s) result

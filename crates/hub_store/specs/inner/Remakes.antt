@@ -1,4 +1,4 @@
--- A table that is made anew by texts: what each of them does, whatever the tables are.
+-- Making a table anew by four texts: what each text does, for any list of parts.
 use Rattle.std.specs.Prelude.{◌≡◌, ◌≢◌, ℕ, List, [], ◌∷◌, ◌++◌, map, None, Ok, Err, IsTrue, IsPermutation}
 use Rattle.sqlite_value.specs.Order.{Row}
 use Rattle.sqlite_trees.specs.declared.store.Store as store
@@ -25,28 +25,29 @@ pub record StepTexts : Type 0 where
   pub create : List ℕ
   pub put : List ℕ
 
+-- the bytes of the texts
 abbrev pub told : Texts → StepTexts
 told texts = record { read = texts.read.now; drop = texts.drop.now; create = texts.create.now; put = texts.put.now }
 
--- the text, run where the one is held, leaves the other
+-- running the text where `Before` holds leaves `After`
 abbrev pub Leaves : {S : Type 0} → store.Ghosts S → List ℕ → Row → (Before After : Database → Type 0) → Type 0
 Leaves {S} g text params Before After =
     (old new : Held S) → (count : ℕ) → Executes text params (state g old) (state g new) (Ok count) →
     Before (state g old).now → After (state g new).now
 
--- run where this is held, it fails only for a reason, or for want of memory
+-- running it where this holds fails only for a reason or for want of memory
 abbrev pub FailsForReason : {S : Type 0} → store.Ghosts S → List ℕ → Row → (Before : Database → Type 0) → Type 0
 FailsForReason {S} g text params Before =
     (old new : Held S) → (e : Error) → ExecutesInside 0 text params (state g old) (state g new) (Err e) →
     Before (state g old).now → e ≢ SqliteFailure code.OutOfMemory → HasReason (state g old) (state g new)
 
--- the query, asked where this is held, changes nothing and shows these rows, in some order
+-- asking the query where this holds changes nothing and shows these rows, in some order
 abbrev pub ShowsOf : {S : Type 0} → store.Ghosts S → List ℕ → (Before : Database → Type 0) → List Row → Type 0
 ShowsOf {S} g text Before rows =
     (old new : Held S) → (found : List Row) → HasShown g text [] old new found → Before (state g old).now →
     IsUnchanged (state g old) (state g new) × IsPermutation rows found
 
--- asked where this is held, it fails only for a reason, or for want of memory
+-- asking it where this holds fails only for a reason or for want of memory
 abbrev pub IsRefusedForReason : {S : Type 0} → store.Ghosts S → List ℕ → (Before : Database → Type 0) → Type 0
 IsRefusedForReason {S} g text Before =
     (old new : Held S) → (e : Error) → HasRefused g text [] old new e → Before (state g old).now →
@@ -54,12 +55,12 @@ IsRefusedForReason {S} g text Before =
 
 -- ---- the table of a step, made anew among these parts
 
--- It holds these rows; where none has a number of its own, the rowids count from 1.
+-- The new table holds these rows. If its rows have no number of their own, the rowids count from 1.
 pub record HoldsAnew (step : Step) (rows : List Row) (ps : List Part) (db : Database) : Type 0 where
   pub parts : HoldsParts (made_anew step rows ps) db
   pub numbered : step.table.key ≡ None → AreNumbered 1 (db.trees (next_tree (schema_of (apart_from step.table.name ps))))
 
--- the old table is dropped, and the new one made, with no row
+-- the old table is dropped, and the new one made without a row
 pub record MakeAnew {S : Type 0} (g : store.Ghosts S) (texts : StepTexts) (step : Step) (ps : List Part) : Type 0 where
   pub drops : Leaves g texts.drop [] (HoldsParts ps) (HoldsParts (apart_from step.table.name ps))
   pub creates : Leaves g texts.create [] (HoldsParts (apart_from step.table.name ps)) (HoldsAnew step [] ps)
@@ -72,13 +73,13 @@ PutsEach g text step rows ps =
     (row : Row) → Has rows row → (held : List Row) →
     Leaves g text (map bound_value row) (HoldsAnew step held ps) (HoldsAnew step (step.row row ∷ held) ps)
 
--- where some of these rows are kept, one more fails only for a reason
+-- with some of these rows put, one more fails only for a reason
 abbrev pub TakesEach : {S : Type 0} → store.Ghosts S → List ℕ → Step → List Row → List Part → Type 0
 TakesEach g text step rows ps =
     (row : Row) → (held rest : List Row) → IsPermutation (row ∷ held ++ rest) rows →
     FailsForReason g text (map bound_value row) (HoldsAnew step (map step.row held) ps)
 
--- The texts lead from parts under a version to the same parts under another, with the table made anew for these rows.
+-- The texts lead from parts under one version to the same parts under another, with the table made anew of these rows.
 pub record Remakes {S : Type 0} (g : store.Ghosts S) (texts : StepTexts) (step : Step) (before version : ℕ) (ps : List Part) (rows : List Row) : Type 0 where
   pub beside : IsTrue (are_beside 0 ps)
   pub reads : ShowsOf g texts.read (HoldsParts (under before ps)) rows

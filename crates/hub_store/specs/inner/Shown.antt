@@ -18,7 +18,7 @@ use Rattle.hub_store.specs.Rows.{role_number}
 use Rattle.hub_store.specs.Items.{placed_shown, placed_from}
 use Rattle.hub_store.specs.declared.item_rows.PlacedLine.{PlacedLine}
 
--- the row shows no other value than this
+-- the row shows this value and no other
 abbrev pub IsShownBy : {X : Type 0} → (X → Row) → Row → X → Type 0
 IsShownBy {X} shown row x = (y : X) → row ≡ shown y → x ≡ y
 
@@ -38,43 +38,49 @@ ShowsAll shows (row ∷ rows) (x ∷ xs) = shows row x × ShowsAll shows rows xs
 
 -- ---- the columns that the queries name
 
+-- the columns of a person
 abbrev pub person_shown : Person → Row
 person_shown p =
     Int (pos p.number) ∷ Int (pos p.org) ∷ Text p.name ∷ Int (pos (role_number p.role)) ∷ flag p.active ∷ flag p.nominated ∷ []
 
+-- the columns of an incident as it is listed
 abbrev pub entry_shown : Entry → Row
 entry_shown e = Int (pos e.number) ∷ Int (pos e.revision) ∷ Int (pos e.source) ∷ []
 
--- in versions 1 to 3
+-- the columns of a naming in versions 1 to 3
 abbrev pub naming_shown_2 : Naming → Row
 naming_shown_2 k = Int (pos k.number) ∷ Int (pos k.source) ∷ Text k.ident ∷ Int (pos k.revision) ∷ []
 
+-- the columns of a naming
 abbrev pub naming_shown : Naming → Row
 naming_shown k =
     Int (pos k.number) ∷ Int (pos k.source) ∷ Text k.ident ∷ Int (pos k.revision) ∷ number_or_null k.community ∷ []
 
+-- the columns of a gate
 abbrev pub gate_shown : Gate → Row
 gate_shown g = Text (pointer_text g.path) ∷ Int (pos g.level) ∷ number_or_null g.group ∷ []
 
+-- the columns of a recipient
 abbrev pub target_shown : Target → Row
 target_shown target = Int (pos (target_key target).0) ∷ Int (pos (target_key target).1) ∷ []
 
+-- the columns of a permission
 abbrev pub permission_shown : Permission → Row
 permission_shown x =
     Text (pointer_text x.path) ∷ Int (pos (grantee_key x.grantee).0) ∷ Int (pos (grantee_key x.grantee).1) ∷ moment_or_null x.until ∷ []
 
--- the row stands at this place, whatever else it has, and shows no other line
+-- the row has this place, whatever else it has, and shows no other line
 abbrev pub ShowsPlaced : Row → PlacedLine → Type 0
 ShowsPlaced shown placed = (column shown 0 ≡ Int (pos placed.place)) × IsShownBy placed_shown shown placed
 
--- all rows stand at the places 1, 2, 3 and so on, and the lines that they show are the document; it is none where there is no row
+-- All rows have the places 1, 2, 3 and so on, and show the lines of the document. There is none if there is no row.
 abbrev pub ShowsLines : List Row → Option Lines → Type 0
 ShowsLines [] None = Unit {0}
 ShowsLines [] (Some lines) = ⊥
 ShowsLines (row ∷ rows) None = ⊥
 ShowsLines (row ∷ rows) (Some lines) = ShowsAll ShowsPlaced (row ∷ rows) (placed_from 1 lines)
 
--- the case of an incident with this number, by what it is known by
+-- the case of an incident with this number and this naming
 abbrev pub IsCase : Naming → ℕ → State → Case → Type 0
 IsCase k n s case = (case.source ≡ k.source) × (case.community ≡ k.community) ×
     (case.gates ≡ its_gates n s.gates) × (case.permissions ≡ its_permissions n s.permissions)

@@ -37,7 +37,7 @@ impl<S: Alter> SqlShelf<S> {
     ghost use Rattle.hub_store.specs.Content.{MayLeave};
     ghost use Rattle.hub_store.specs.Shelved.{ShelfHas};
 
-    /// Reads what a reader has of its own, and keeps it in the place of what is kept.
+    /// Reads the reader's own part of a standing, and keeps it in place of the one that is kept.
     fn read_reader(&mut self, person: u32) -> Result<Option<Reader>, ShelfFault>
         requires { self.old.failures < last_count }
         ensures { Reads (λ shelf s. ShelfHas S.Store shelf s)

@@ -1,4 +1,4 @@
-//! Tables of an older version, brought to the newest.
+//! Bringing tables of an older version to the newest.
 
 ghost use Rattle.std.specs.Prelude.{◌≡◌, false, None, IfOk, IfErr, IsTrue};
 
@@ -35,9 +35,9 @@ impl<S: Alter> SqlShelf<S> {
         }
     }
 
-    /// Takes a connection whose store holds the hub's tables of the newest version or an older one, and makes them the
-    /// newest in one transaction, with the content as it was. Over the newest nothing changes. On a refusal the
-    /// connection comes back, with its content and in its version, whatever store it is.
+    /// Takes a connection whose store has the hub's tables of the newest version or an older one, and brings them to
+    /// the newest in one transaction, with the same content. Nothing changes if they are of the newest. If it fails,
+    /// the connection comes back with its content and its version, whatever store it is.
     pub fn migrate(
         alloc: Global,
         mut conn: Connection<S>,

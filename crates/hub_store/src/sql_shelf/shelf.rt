@@ -108,7 +108,7 @@ impl<S: Alter> Shelf for SqlShelf<S> {
 
     fn apply(&mut self, edits: &[Edit]) -> Result<(), ShelfFault> {
         self.may_ask()?;
-        // Before the edits, so that nothing is kept that no longer stands, whatever comes of them.
+        // before the edits: whatever their outcome, nothing is kept that may have changed
         self.kept = None;
         let made = apply(&mut self.conn, self.alloc, edits);
         count_failure(&mut self.failures, made)

@@ -15,7 +15,7 @@ use Rattle.hub_store.proofs.MovedOn.{tables_of_1, texts_of_1, held_as_2, rows_of
 use Rattle.hub_store.proofs.Steps.{on_ok, clean_before, fails_then, fails_passed}
 use Rattle.hub_store.proofs.migrate.to_version_2.Goals as goal
 
--- the tables of version 2 behind that of the version
+-- the tables of version 2 after that of the version
 abbrev behind : List Row → State → List Part
 behind items s = drop 1 (tables_2 1 items (map named_row_2 s.incidents) s)
 
