@@ -27,7 +27,7 @@ one_asked has doubts failed may_remain old new now asked reply steps clean = λ 
     let one : Asked = (now, asked.0, asked.1) in
     (one ∷ [], reply ∷ [], step.0, omega arith, (step.0, step.1, refl), step.2, left_behind_one (may_remain old) (may_remain new) s step.0 one reply step.1 (steps.durable clean s here sound) (steps.crash clean s here sound))
 
--- one connection asks one thing at most
+-- one connection makes at most one request
 pub serves_run : {D : Type 0} (has : D → State → Type 0) (doubts failed : D → ℕ) (may_remain : D → Option State → Type 0) (old new : D) (now : ℤ)
     (before after written now_written : Option (List ℕ)) (result : Result Served ServeFault)
     → Serves (λ asked reply. Steps has doubts failed may_remain old now asked reply new) (new ≡ old) before after written now_written result

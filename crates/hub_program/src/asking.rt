@@ -1,4 +1,4 @@
-//! One thing that is asked of the hub over a store.
+//! One request to the hub over a store.
 ghost use Rattle.std.specs.Prelude.{◌≡◌};
 ghost use Rattle.hub_core.specs.State.{State};
 ghost use Rattle.hub_core.specs.Sound.{IsSound};
@@ -19,7 +19,7 @@ use std::alloc::Global;
 use std::io::{Read, Write};
 use std::time::Clock;
 
-/// What the hub replies to who has this line as key.
+/// Returns the hub's reply to the caller whose key is this line.
 pub fn reply_to<Sh: Shelf>(
     alloc: Global,
     hub: &mut Hub<Sh>,
@@ -34,8 +34,8 @@ pub fn reply_to<Sh: Shelf>(
     hub.answer(alloc, now, &line_key(line), request)
 }
 
-/// The reply to who has the first line of the input as key, at the present moment. It knows no more of the shelf than any
-/// shelf promises, which is all that its proof has to carry from call to call.
+/// Returns the reply to the caller whose key is the first line of the input, at the present moment. It is generic in
+/// the shelf, so its proof carries only what every shelf promises.
 pub fn reply_to_input<Sh: Shelf, R: Read, C: Clock>(
     alloc: Global,
     hub: &mut Hub<Sh>,
@@ -48,13 +48,13 @@ pub fn reply_to_input<Sh: Shelf, R: Read, C: Clock>(
     Ok(reply_to(alloc, hub, now, &line, request))
 }
 
-/// Prints the reply, and tells how the program ends with it.
+/// Prints the reply, and returns the program's outcome.
 fn print_reply<W: Write>(alloc: Global, writer: &mut W, reply: &Reply) -> Result<Status, Fault> {
     print(writer, reply_lines(alloc, reply)?.as_str())?;
     Ok(status_of(reply))
 }
 
-/// Asks this at the present moment for who has the first line of the input as key, and prints the reply.
+/// Asks the hub at the present moment, with the first line of the input as the caller's key, and prints the reply.
 pub fn ask<R: Read, W: Write>(
     rt: &HostRuntime,
     store: &str,

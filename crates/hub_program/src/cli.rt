@@ -12,7 +12,8 @@ use std::env::Args;
 use std::io;
 use std::io::{Read, Write};
 
-/// Does what the words of the program's start say, its name first. One that isn't UTF-8 is usage.
+/// Does what the words of the program's start say, its name first. A word that isn't UTF-8 is a usage error, as no word
+/// of the program is one; so a store's path must be UTF-8.
 pub fn cli_start<R: Read, W: Write, E: Write>(
     rt: &HostRuntime,
     words: io::Result<Args>,
@@ -26,7 +27,7 @@ pub fn cli_start<R: Read, W: Write, E: Write>(
     }
 }
 
-/// The words behind the program's name.
+/// The words after the program's name.
 fn words_behind(alloc: Global, words: io::Result<Args>) -> io::Result<Vec<String>> {
     Ok(words?.skip(1).collect(alloc)?)
 }
@@ -41,7 +42,7 @@ fn refuse_words<E: Write>(alloc: Global, error: &io::Error, errors: &mut E) -> S
     }
 }
 
-/// Does what the words say, which are those behind the program's name; no words act as `mark`.
+/// Does what the words after the program's name say. Without words it does `mark`.
 pub fn cli_run<R: Read, W: Write, E: Write>(
     rt: &HostRuntime,
     words: &[String],

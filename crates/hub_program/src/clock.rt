@@ -3,7 +3,8 @@
 use crate::fault::Fault;
 use std::time::{Clock, SystemTime, UNIX_EPOCH};
 
-/// The seconds since 1970, where the clock can be read and stands there or later.
+/// Returns the seconds since the beginning of 1970 (UTC). Fails with `ReadFailed` if the clock can't be read or is
+/// before that.
 pub fn seconds<C: Clock>(clock: &C) -> Result<i64, Fault> {
     let Ok(now) = SystemTime::now(clock) else {
         return Err(Fault::ReadFailed);

@@ -6,7 +6,7 @@ ghost use Rattle.hub_program.specs.declared.fault.Fault.TheVariants.{NoMemory};
 use crate::status::Status;
 use std::alloc::{AllocError, AllocFailed};
 
-/// Why a store's file isn't opened, where the system tells it.
+/// Why a store's file isn't opened, if the system says so.
 #[derive(Clone, Copy, Debug, PartialEq, Eq)]
 pub enum Reason {
     NoSuchFile,
@@ -33,9 +33,9 @@ impl Reason {
 /// Why a command over a store isn't done.
 #[derive(Clone, Copy, Debug, PartialEq, Eq)]
 pub enum Fault {
-    /// The name or the digest is none.
+    /// The name or the digest is invalid.
     BadArgument,
-    /// The file holds no store of the hub.
+    /// The file has no store of the hub.
     NotOurs,
     /// The store's tables are of a version that the command doesn't take.
     WrongVersion,
@@ -52,7 +52,7 @@ pub enum Fault {
 }
 
 impl Fault {
-    /// The fault's name.
+    /// Returns the fault's name, as it is printed.
     pub fn name(self) -> &'static str
         ensures { result.now ≡ fault_name self }
     {
@@ -68,7 +68,7 @@ impl Fault {
         }
     }
 
-    /// Why the store's file isn't opened, where the system tells it.
+    /// Returns why the store's file isn't opened, if the system says so.
     pub fn reason(self) -> Option<Reason>
         ensures { result ≡ reason_of self }
     {
@@ -78,7 +78,7 @@ impl Fault {
         }
     }
 
-    /// How the program ends for it.
+    /// Returns the program's outcome for the fault.
     pub fn status(self) -> Status
         ensures { result ≡ fault_status self }
     {

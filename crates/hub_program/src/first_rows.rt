@@ -41,8 +41,8 @@ fn first_edits(alloc: Global, name: Name, key: [u8; 32]) -> Result<Vec<Edit>, Al
     Ok(edits)
 }
 
-/// Puts organisation 1 of this name, and its administrator, whose key has this SHA-256, into a shelf that has no row, or
-/// leaves the shelf what it has.
+/// Puts organisation 1 with this name, and its administrator, whose key has this SHA-256, into a shelf without rows. If
+/// it fails, the shelf has what it had.
 #[tactic(auto, using(crate::proofs::FirstRows::first_is_sound))]
 pub fn put_first_rows<Sh: Shelf>(
     alloc: Global,

@@ -9,7 +9,7 @@ use std::io::{ErrorKind, Read};
 /// How many bytes of input are read.
 pub const INPUT_LIMIT: usize = 1_048_576;
 
-/// Why the input isn't read; want of memory is told apart.
+/// The fault of a read: `NoMemory` for want of memory, and `ReadFailed` for all else.
 fn read_fault(kind: ErrorKind) -> Fault {
     match kind {
         ErrorKind::OutOfMemory => Fault::NoMemory,
@@ -17,7 +17,7 @@ fn read_fault(kind: ErrorKind) -> Fault {
     }
 }
 
-/// All bytes of the input, where they are within the limit.
+/// Reads all bytes of the input. Fails with `ReadFailed` if there are more than [`INPUT_LIMIT`].
 pub fn read_input<R: Read>(alloc: Global, reader: &mut R) -> Result<Vec<u8>, Fault> {
     let mut bytes = Vec::new(alloc);
     match reader
@@ -34,13 +34,15 @@ pub fn read_input<R: Read>(alloc: Global, reader: &mut R) -> Result<Vec<u8>, Fau
     Ok(bytes)
 }
 
-/// The first line of the input without its newline, where both are within the limit. Nothing is read behind it.
+/// Reads the first line of the input, and returns it without its newline. Fails with `ReadFailed` if it is longer than
+/// [`INPUT_LIMIT`].
 pub fn read_line<R: Read>(alloc: Global, reader: &mut R) -> Result<Vec<u8>, Fault>
     ensures { IfOk result (λ line.
         IsFirstLine (R.remaining reader.old) (R.remaining reader.new) line.items) }
 {
     let mut line = Vec::new(alloc);
     for _ in 0..=INPUT_LIMIT {
+        // byte by byte, so that what comes after the line stays for the next reader
         let mut byte = [0];
         match reader.read(&mut byte) {
             Ok(0) => return Ok(line),

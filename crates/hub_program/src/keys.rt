@@ -22,7 +22,7 @@ fn is_key(line: &[u8]) -> bool
     has_visible_alone(line)
 }
 
-/// Who asks with this key: 1 to [`KEY_LIMIT`] bytes from `!` to `~`, or nothing that is a key.
+/// Returns the key of a line: 1 to [`KEY_LIMIT`] bytes from `!` to `~`. Returns `Absent` for any other line.
 pub fn line_key(line: &[u8]) -> Key
     ensures { result ≡ spec.line_key line.now }
 {
@@ -33,7 +33,7 @@ pub fn line_key(line: &[u8]) -> Key
     }
 }
 
-/// The bytes that 64 hexadecimal digits spell; `None` where the text isn't that.
+/// Returns the bytes that 64 hexadecimal digits spell. None if the text isn't that.
 pub fn digest_of(text: &str) -> Option<[u8; 32]>
     ensures { result ≡ spec.digest_of text.now }
 {

@@ -1,19 +1,20 @@
 //! The program `iodef-hub`: its words, standard input, files, sockets and the clock, over the crates below.
 //!
-//! To read first, in `specs/`: `Mark` and `Lines`, what `mark` prints of a body; `Serving`, what serving connections leaves;
-//! `FirstRows`, what a new store holds; `Keys`, who asks with a line; `Replies`, `Faults` and `Status`, what is printed and
-//! told, and how the program ends.
+//! To read first, in `specs/`: `Mark` and `Lines`, what `mark` prints for a body; `Serving`, what serving connections
+//! leaves; `FirstRows`, what a new store holds; `Keys`, the key of a line; `Replies`, `Faults` and `Status`, what is
+//! printed, and the exit status.
 //!
-//! The rooms, in the way of a start:
+//! The modules, in the order in which a start meets them:
 //!
-//! - `cli`: [`cli_start`] and [`cli_run`], from the words to how the program ends ([`Status`]); `words`: what words ask for;
+//! - `cli`: [`cli_start`] and [`cli_run`], from the words to the program's outcome ([`Status`]); `words`: what words
+//!   ask for;
 //! - `commands`: each command, in a module of its own;
-//! - `input`, `keys`: standard input ([`INPUT_LIMIT`], [`read_line`]), and who asks ([`line_key`], [`digest_of`]);
-//!   `output`, `fault`: what is printed, and what is told of a [`Fault`];
+//! - `input`, `keys`: standard input ([`INPUT_LIMIT`], [`read_line`]), and the caller's key ([`line_key`],
+//!   [`digest_of`]); `output`, `fault`: what is printed, also for a [`Fault`];
 //! - `mark`: [`mark_text`], the labels of a report;
 //! - `store`: a store in a file; `first_rows`: [`put_first_rows`], the rows of a new one;
-//! - `asking`: [`reply_to`] and [`reply_to_input`], one thing that is asked of the hub; `replies`: what is printed of a reply;
-//! - `listen`: [`serve_count`], connections one after the other; `peer`: one that is silent, slow, or still sending;
+//! - `asking`: [`reply_to`] and [`reply_to_input`], one request to the hub; `replies`: what is printed of a reply;
+//! - `listen`: [`serve_count`], connections one after the other; `peer`: a peer that is silent, slow, or still sending;
 //! - `clock`: [`seconds`], the present moment.
 #![tactic(auto)]
 

@@ -26,7 +26,7 @@ fn fault_name(fault: ServeFault) -> &'static str
     }
 }
 
-/// Whether the peer may still be sending the request when it is answered.
+/// Whether the peer may still be sending its request after the reply.
 fn is_sending(served: Served) -> bool {
     match served {
         Served::WireRefused(fault) => !matches!(fault, WireFault::NoRoute | WireFault::BadBody),
@@ -71,11 +71,12 @@ fn serve_next<Sh: Shelf, C: Clock>(
     }
 }
 
-/// Serves so many connections, each at the moment at which it is accepted. A fault is told by its name, with nothing about
-/// who asked; it counts as a connection, and ends nothing. Whether every fault could be told.
+/// Serves `count` connections, each at the moment at which it is accepted. A fault is printed by its name, with nothing
+/// about the caller. It counts as a connection, and the next one is served. Returns `Failed` if a fault couldn't be
+/// printed.
 ///
-/// What was asked of the hub is a run of at most so many requests. If everything stops behind it, all changes that were answered
-/// as made are left. What came over the sockets isn't told, as they have no model.
+/// What was asked of the hub is a run of at most `count` requests. If everything stops after it, all changes whose
+/// replies say so are left. Nothing is promised of the bytes on the sockets, which have no model.
 pub fn serve_count<Sh: Shelf, C: Clock, E: Write>(
     alloc: Global,
     listener: &TcpListener,
@@ -90,6 +91,7 @@ pub fn serve_count<Sh: Shelf, C: Clock, E: Write>(
 {
     let mut status = Status::Done;
     for _ in 0..count {
+        // a fault that can't be printed doesn't end the loop either
         if let Err(fault) = serve_next(alloc, listener, hub, clock) {
             status = tell(errors, fault_name(fault), status);
         }

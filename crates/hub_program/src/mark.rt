@@ -17,17 +17,17 @@ use std::alloc::{AllocError, Global};
 /// Why a body has no labels to print.
 #[derive(Drop)]
 pub enum MarkFault {
-    /// The body is no list of documents.
+    /// The body can't be read as documents.
     Body(ReadFault),
-    /// The class at this path of the Incident's document is the first that breaks the marking rule.
+    /// The class at this path of the Incident's document is the first with a bad marking.
     BadMarking(Path),
-    /// The body has no Incident at the place that is wanted, or its document no class at the path.
+    /// The body has no Incident at the place that is wanted, or its document has no class at the path.
     NoClass,
     NoMemory,
 }
 
 impl MarkFault {
-    /// The fault's name.
+    /// Returns the fault's name, as it is printed.
     pub fn name(&self) -> &'static str
         ensures { result.now ≡ fault_name self.now }
     {
@@ -48,16 +48,16 @@ impl From<AllocError> for MarkFault {
     }
 }
 
-/// What is asked for: the labels of one Incident's document, by the Incident's place in the body, and of all its classes
-/// or of the one at a path.
+/// What to print: the labels of one Incident's document, by the Incident's place in the body, of all its classes or of
+/// the one at a path.
 #[derive(Drop)]
 pub struct Selection {
     pub place: u32,
     pub class: Option<Path>,
 }
 
-/// For each class that is wanted, in stored order, a line with the compact JSON array of its path, its label, the label's
-/// handling where nothing is arranged, and the path of the class where that label stands.
+/// Returns a line for each class that is wanted, in stored order: the compact JSON array of its path, its label, the
+/// label's handling if nothing is arranged, and the path of the class that has the label.
 pub fn mark_text(alloc: Global, body: &[u8], selection: &Selection) -> Result<String, MarkFault>
     ensures { IsMarked result (spec.mark_text selection.now body.now) }
 {
@@ -79,6 +79,7 @@ fn document_text(
 ) -> Result<String, MarkFault>
     ensures { IsMarked result (text_of_document class.now document.now) }
 {
+    // first, since the site of a class is only known if the markings are accepted
     match check(alloc, document) {
         Ok(()) => {}
         Err(MarkingFault::BadMarking(path)) => return Err(MarkFault::BadMarking(path)),
@@ -122,7 +123,7 @@ fn class_text(alloc: Global, document: &Document, path: &Path) -> Result<String,
     }
 }
 
-/// The lines of the classes, as far as they are written.
+/// The lines of the classes written so far.
 #[derive(Drop)]
 struct Lines {
     text: String,
@@ -138,7 +139,7 @@ impl MarkWriter for Lines {
     }
 }
 
-/// The compact JSON array of the path, the label, its handling and the site, and a newline, behind `out`.
+/// Appends the compact JSON array of the path, the label, its handling and the site, and a newline.
 fn push_line(alloc: Global, out: &mut String, mark: Mark<'_>) -> Result<(), AllocError>
     ensures { OnOk result (string_bytes out.new ≡
         string_bytes out.old ++ line_of (marked_by mark.entry)) }
@@ -151,7 +152,7 @@ fn push_line(alloc: Global, out: &mut String, mark: Mark<'_>) -> Result<(), Allo
     Ok(())
 }
 
-/// A comma and the label as a JSON string, behind `out`. Memory of its own is taken for an extended one alone.
+/// Appends a comma and the label as a JSON string. Only an extended label takes memory of its own.
 fn push_label(alloc: Global, out: &mut String, label: Label<'_>) -> Result<(), AllocError>
     ensures { OnOk result (string_bytes out.new ≡
         string_bytes out.old ++ (codes "," ++ quoted (text_of (marking_of label.entry)))) }
@@ -170,7 +171,7 @@ fn push_label(alloc: Global, out: &mut String, label: Label<'_>) -> Result<(), A
     }
 }
 
-/// What stands before a text, and the text as a JSON string, behind `out`.
+/// Appends `before`, and the text as a JSON string.
 fn push_cell(alloc: Global, out: &mut String, before: &str, text: &str) -> Result<(), AllocError>
     ensures { OnOk result (string_bytes out.new ≡
         string_bytes out.old ++ (before.now ++ quoted text.now)) }

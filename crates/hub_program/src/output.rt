@@ -1,4 +1,4 @@
-//! What the program prints and tells.
+//! What the program prints.
 
 use crate::fault::Fault;
 use crate::status::Status;
@@ -15,7 +15,8 @@ pub fn print<W: Write>(writer: &mut W, text: &str) -> Result<Status, Fault> {
     }
 }
 
-/// Tells a fault's name, or its reason, on a line of its own.
+/// Prints a fault's name, or its reason, on a line of its own to standard error. Returns the status, or `Failed` if it
+/// can't be printed.
 pub fn tell<E: Write>(errors: &mut E, line: &str, status: Status) -> Status {
     match writeln!(errors, "{line}") {
         Ok(()) => status,
@@ -23,7 +24,8 @@ pub fn tell<E: Write>(errors: &mut E, line: &str, status: Status) -> Status {
     }
 }
 
-/// Tells a fault by its name, and on a second line its reason, where there is one.
+/// Prints a fault's name and, if there is one, its reason on a second line: with the reason on the same line, scripts
+/// would meet a name for each reason.
 fn tell_fault<E: Write>(errors: &mut E, fault: Fault) -> Status {
     let status = tell(errors, fault.name(), fault.status());
     match fault.reason() {
@@ -32,7 +34,7 @@ fn tell_fault<E: Write>(errors: &mut E, fault: Fault) -> Status {
     }
 }
 
-/// How the program ends; a fault is told.
+/// Returns the program's outcome, and prints the fault if there is one.
 pub fn end_with<E: Write>(errors: &mut E, outcome: Result<Status, Fault>) -> Status {
     match outcome {
         Ok(status) => status,

@@ -1,25 +1,25 @@
-//! A peer over a socket, which may be silent, slow, or still sending when it is answered.
+//! A peer over a socket, which may be silent, slow, or still sending after the reply.
 
 use std::io;
 use std::io::{Read, Write};
 use std::net::{Shutdown, TcpStream};
 use std::time::{Clock, Duration, Instant};
 
-/// How many seconds all reads of a connection may take together, and so all writes.
+/// How many seconds all reads of a connection may take together; all writes may take as many.
 const SECONDS: u64 = 30;
 
-/// How many seconds one read may take once the peer is answered.
+/// How many seconds one read may take after the reply.
 const LAST_SECONDS: u64 = 1;
 
-/// How many bytes are read, and forgotten, once the peer is answered.
+/// How many bytes are read and dropped after the reply.
 const LAST_BYTES: u64 = 1_048_576;
 
-/// One direction of a connection. A peer that makes the hub wait too long in all is a fault.
+/// One direction of a connection. It fails if the peer makes the hub wait too long in total.
 #[derive(Drop)]
 pub struct Timed<'a, C: Clock> {
     stream: &'a TcpStream,
     clock: &'a C,
-    /// The first read or write.
+    /// The moment of the first read or write.
     since: Option<Instant>,
     /// How many seconds one read or write may take.
     patience: u64,
@@ -35,7 +35,8 @@ impl<'a, C: Clock> Timed<'a, C> {
         }
     }
 
-    /// How long the next read or write may take.
+    /// How long the next read or write may take. With a timeout for each read alone, a peer that sends a byte just in
+    /// time would hold the hub.
     fn time_left(&mut self) -> io::Result<Duration> {
         let now = Instant::now(self.clock)?;
         let since = match self.since {
@@ -48,7 +49,7 @@ impl<'a, C: Clock> Timed<'a, C> {
     }
 }
 
-// A time of 0 is refused by the timeout, and so ends the direction.
+// The socket refuses a timeout of 0, which ends the direction.
 impl<C: Clock> Read for Timed<'_, C> {
     fn read(&mut self, buf: &mut [u8]) -> io::Result<usize> {
         let left = self.time_left()?;
@@ -71,8 +72,8 @@ impl<C: Clock> Write for Timed<'_, C> {
     }
 }
 
-/// Ends the hub's side of a connection whose peer was answered, and forgets what the peer has sent beyond its request. A
-/// close with bytes unread may take the reply from the peer. What isn't there yet is waited for only where the peer `is_sending`.
+/// Ends the hub's side of a connection after the reply, and drops what the peer has sent after its request. A close
+/// with bytes unread could take the reply from the peer. It waits for more bytes only if the peer `is_sending`.
 pub fn part<C: Clock>(mut reader: Timed<'_, C>, is_sending: bool) {
     let stream = reader.stream;
     let ready = stream.shutdown(Shutdown::Write).is_ok()

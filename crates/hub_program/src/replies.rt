@@ -1,4 +1,4 @@
-//! What is printed of a reply, and how the program ends with it.
+//! What is printed of a reply, and the program's outcome with it.
 ghost use Rattle.std.specs.Prelude.{◌≡◌, ◌++◌, ◌∷◌, [], IfOk, string_bytes};
 ghost use Rattle.hub_http.specs.Replies.{body_text as body_told};
 ghost use Rattle.hub_program.specs.Replies.{reply_status};
@@ -9,7 +9,7 @@ use hub_core::Reply;
 use hub_http::body_text;
 use std::alloc::{AllocError, Global};
 
-/// How the program ends with a reply.
+/// Returns the program's outcome with a reply.
 pub fn status_of(reply: &Reply) -> Status
     ensures { result ≡ reply_status reply.now }
 {
@@ -28,7 +28,7 @@ fn line_of(alloc: Global, reply: &Reply) -> Result<String, AllocError>
     Ok(line)
 }
 
-/// What is printed of a reply: the lines of an explanation, of all else the body and a newline.
+/// Returns what is printed of a reply: the lines of an explanation, and otherwise the body with a newline.
 pub fn reply_lines(alloc: Global, reply: &Reply) -> Result<String, AllocError>
     ensures { IfOk result (λ text. string_bytes text ≡ spec.printed reply.now) }
 {

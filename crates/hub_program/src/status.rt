@@ -1,21 +1,22 @@
-//! How the program ends.
+//! The program's outcome.
 ghost use Rattle.std.specs.Prelude.{◌≡◌};
 ghost use Rattle.hub_program.specs.Status.{exit_status};
 
-/// How the program ended.
+/// The program's outcome.
 #[derive(Clone, Copy, Debug, PartialEq, Eq)]
 pub enum Status {
     Done,
     /// The input, a word or the request was refused.
     Refused,
-    /// The words are none of the program's, or ask for help.
+    /// The words are not a command line of the program, or ask for help. Help goes to standard error too, so standard
+    /// output has only results.
     Usage,
     /// The store, reading, writing or memory failed.
     Failed,
 }
 
 impl Status {
-    /// The exit status.
+    /// Returns the exit status.
     pub fn code(self) -> u8
         ensures { result ≡ exit_status self }
     {

@@ -16,7 +16,7 @@ use std::os::unix::fs::OpenOptionsExt;
 /// The hub's tables in a file.
 pub type FileShelf = SqlShelf<FileStore<File>>;
 
-/// What is told of a shelf's fault.
+/// Returns the fault for a shelf's fault.
 pub fn shelf_fault(fault: ShelfFault) -> Fault
     ensures { result ≡ told_of_shelf fault }
 {
@@ -26,7 +26,7 @@ pub fn shelf_fault(fault: ShelfFault) -> Fault
     }
 }
 
-/// What is told of a store that isn't opened.
+/// Returns the fault for a store that isn't opened.
 pub fn open_fault(fault: OpenFault) -> Fault
     ensures { result ≡ told_of_opening fault }
 {
@@ -58,19 +58,20 @@ fn connection_fault(error: Error) -> Fault {
     }
 }
 
-/// A connection over the file that is there, and its log, which is made with the file's mode where it isn't there.
+/// Returns a connection over the file, which must be there, and its log. The log is made with the file's mode if it is
+/// missing.
 pub fn connect(rt: &HostRuntime, path: &str) -> Result<Connection<FileStore<File>>, Fault>
     ensures { IfOk result (λ conn. conn.in_transaction ≡ false) }
 {
-    // `Connection::open` would make a file that is missing.
+    // `Connection::open` would make a missing file.
     if let Err(error) = fs::metadata(rt, path) {
         return Err(system_fault(error.kind()));
     }
     Connection::open(rt, path).map_err(connection_fault)
 }
 
-/// Makes the file, for its owner alone, where there is none of the name. The names that the connection takes for no file are
-/// left to it, which refuses them.
+/// Makes the file, for its owner only, if there is none of that name. The connection refuses the names that it doesn't
+/// take for files, so none is made for them.
 fn make_file(rt: &HostRuntime, path: &str) -> Result<(), Fault> {
     if path == ":memory:" || path.starts_with("file:") {
         return Ok(());
@@ -86,7 +87,7 @@ fn make_file(rt: &HostRuntime, path: &str) -> Result<(), Fault> {
     }
 }
 
-/// A connection over the file, which is made where it isn't there.
+/// Returns a connection over the file, which is made if it is missing.
 pub fn connect_or_make(rt: &HostRuntime, path: &str) -> Result<Connection<FileStore<File>>, Fault>
     ensures { IfOk result (λ conn. conn.in_transaction ≡ false) }
 {
@@ -94,7 +95,7 @@ pub fn connect_or_make(rt: &HostRuntime, path: &str) -> Result<Connection<FileSt
     connect(rt, path)
 }
 
-/// The shelf over a connection whose tables are of the newest version.
+/// Returns the shelf over a connection whose tables are of the newest version.
 fn open_over<S: Alter + Drop>(alloc: Global, conn: Connection<S>) -> Result<SqlShelf<S>, Fault>
     requires { conn.in_transaction ≡ false }
 {
@@ -104,12 +105,12 @@ fn open_over<S: Alter + Drop>(alloc: Global, conn: Connection<S>) -> Result<SqlS
     }
 }
 
-/// The shelf over the file, whose tables are of the newest version.
+/// Returns the shelf over the file, whose tables must be of the newest version.
 pub fn open_store(rt: &HostRuntime, path: &str) -> Result<FileShelf, Fault> {
     open_over(rt.alloc(), connect(rt, path)?)
 }
 
-/// The shelf over the file, which keeps the documents that are read lately.
+/// The same, with the documents read lately kept in memory.
 pub fn open_kept(
     rt: &HostRuntime,
     path: &str,
@@ -123,8 +124,8 @@ pub fn open_kept(
     }
 }
 
-/// Gives up a shelf. What was committed stands in the log beside the file already, so a fault here loses nothing: the next
-/// open finds it there.
+/// Closes the store, which moves its log into its file. A fault is ignored: what was committed is in the log, where the
+/// next open finds it.
 pub fn close(shelf: FileShelf) {
     let _ = shelf.release().close();
 }

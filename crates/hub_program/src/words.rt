@@ -142,7 +142,7 @@ fn program<'a>(alloc: Global) -> Result<Command<'a>, AllocError> {
         .subcommand(migrate(alloc)?)
 }
 
-/// The whole command line, the program's name first; no words act as `mark`.
+/// The whole command line, with the program's name first. Without words it is `mark`.
 pub fn command_line<'a>(alloc: Global, words: &'a [String]) -> Result<Vec<&'a str>, AllocError> {
     let mut line = Vec::new(alloc);
     line.push("iodef-hub")?;
@@ -155,7 +155,7 @@ pub fn command_line<'a>(alloc: Global, words: &'a [String]) -> Result<Vec<&'a st
     Ok(line)
 }
 
-// A word that is required is there, and its parser took it, so nothing stands in for it.
+// A required word is always there and was parsed, so the defaults are never used; no contract of `clap` says so.
 fn text_of<'a>(found: &ArgMatches<'a>, id: &str) -> &'a str {
     found.get_str(id).unwrap_or("")
 }
@@ -195,7 +195,7 @@ fn asked_by<'a>(command: &str, found: &ArgMatches<'a>) -> Asked<'a> {
     }
 }
 
-/// What a command line asks for, or the usage.
+/// Returns what a command line asks for, or the usage. Words that begin with a dash are options, so `-1` is no COUNT.
 pub fn read_words<'a>(alloc: Global, line: &'a [&'a str]) -> Result<Asked<'a>, Error> {
     let matches = program(alloc)?.try_get_matches_from(line)?;
     match matches.subcommand() {
@@ -207,7 +207,7 @@ pub fn read_words<'a>(alloc: Global, line: &'a [&'a str]) -> Result<Asked<'a>, E
     }
 }
 
-/// The usage where a word isn't UTF-8.
+/// The usage for a word that isn't UTF-8.
 pub fn usage_of_other_words(alloc: Global) -> Result<Error, AllocError> {
     program(alloc)?.error(ErrorKind::InvalidValue, "a word isn't UTF-8")
 }

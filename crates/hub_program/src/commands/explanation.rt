@@ -7,7 +7,7 @@ use circle::text::Text;
 use hub_core::{Explain, Request};
 use std::io::{Read, Write};
 
-/// Prints the explanation to the administrator whose key is the first line of the input.
+/// Prints the explanation for the administrator whose key is the first line of the input.
 pub fn run<R: Read, W: Write>(
     rt: &HostRuntime,
     store: &str,

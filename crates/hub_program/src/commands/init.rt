@@ -14,7 +14,7 @@ use sqlite::{Alter, Connection};
 use std::alloc::Global;
 use std::io::Write;
 
-/// Makes the tables over a connection that has none, and their first rows.
+/// Makes the tables and their first rows over a connection without tables.
 fn make_over<S: Alter + Drop>(
     alloc: Global,
     conn: Connection<S>,
@@ -32,7 +32,7 @@ fn make_over<S: Alter + Drop>(
     }
 }
 
-/// Makes the store in a file that has no tables.
+/// Makes the store in a file without tables.
 pub fn run<W: Write>(
     rt: &HostRuntime,
     store: &str,

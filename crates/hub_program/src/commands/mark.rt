@@ -9,7 +9,7 @@ use iodef_tree::{Path, PathFault};
 use std::alloc::Global;
 use std::io::{Read, Write};
 
-/// Prints what the words ask for, or tells the fault.
+/// Prints the lines that the words ask for, or the fault.
 pub fn run<R: Read, W: Write, E: Write>(
     alloc: Global,
     place: u32,

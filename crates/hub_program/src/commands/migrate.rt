@@ -1,4 +1,4 @@
-//! `migrate`: a store's tables in their newest version.
+//! `migrate`: bringing a store's tables to the newest version.
 ghost use Rattle.std.specs.Prelude.{◌≡◌, false};
 
 use crate::fault::Fault;
@@ -10,7 +10,7 @@ use sqlite::{Alter, Connection};
 use std::alloc::Global;
 use std::io::Write;
 
-/// The shelf over a connection, whose tables are brought to the newest version.
+/// Returns the shelf over a connection, with its tables brought to the newest version.
 fn migrate_over<S: Alter + Drop>(alloc: Global, conn: Connection<S>) -> Result<SqlShelf<S>, Fault>
     requires { conn.in_transaction ≡ false }
 {

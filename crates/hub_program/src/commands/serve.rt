@@ -10,7 +10,7 @@ use hub_core::Shelf;
 use std::io::Write;
 use std::net::{Ipv4Addr, TcpListener};
 
-/// Serves so many connections on 127.0.0.1 for the hub over any shelf.
+/// Serves `count` connections on 127.0.0.1, for the hub over any shelf.
 fn serve_hub<Sh: Shelf, W: Write, E: Write>(
     rt: &HostRuntime,
     hub: &mut Hub<Sh>,
@@ -27,7 +27,7 @@ fn serve_hub<Sh: Shelf, W: Write, E: Write>(
     Ok(serve_count(rt.alloc(), &listener, count, hub, rt, errors))
 }
 
-/// Serves so many connections on 127.0.0.1.
+/// Serves `count` connections on 127.0.0.1.
 pub fn run<W: Write, E: Write>(
     rt: &HostRuntime,
     store: &str,

@@ -6,7 +6,7 @@ use crate::status::Status;
 use hub_core::Request;
 use std::io::{Read, Write};
 
-/// Prints the reply's body to the reader whose key is the first line of the input.
+/// Prints the reply's body for the reader whose key is the first line of the input.
 pub fn run<R: Read, W: Write>(
     rt: &HostRuntime,
     store: &str,

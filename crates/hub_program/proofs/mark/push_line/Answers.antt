@@ -5,7 +5,7 @@ use Rattle.iodef_tree.specs.Text.{Bytes}
 use Rattle.marking.specs.Label.{marking_of, text_of, handling_of, name_of}
 use Rattle.hub_program.proofs.mark.push_line.Goals as goal
 
--- the cells behind one another, and the array as one
+-- the cells one after another are the array as a whole
 row-text : (out p l h s : Bytes) →
     ((((out ++ 91 ∷ p) ++ 44 ∷ l) ++ 44 ∷ h) ++ 44 ∷ s) ++ 93 ∷ 10 ∷ []
     ≡ out ++ ((91 ∷ (p ++ 44 ∷ (l ++ 44 ∷ (h ++ 44 ∷ (s ++ 93 ∷ []))))) ++ 10 ∷ [])
