@@ -23,7 +23,7 @@ use Rattle.hub.specs.Alike.{HasOtherPlainLines, HasOtherHiddenClass, HasOtherUns
 use Rattle.hub.specs.Replies.{reply_of}
 use Rattle.hub.specs.declared.key.Key.TheVariants.{Digest}
 
--- ---- who is in it
+-- ---- the circle
 
 -- an account with a key of one byte, to be short
 abbrev pub account : ℕ → Person → Account
@@ -37,7 +37,7 @@ reader = account 2 clerk
 abbrev pub keyed_circle : Directory
 keyed_circle = record circle { accounts = account 1 banker ∷ reader ∷ account 3 professor ∷ [] }
 
--- ---- what the bank posted
+-- ---- the reports
 
 -- an EventData with these lines
 abbrev pub event : List Line → List Line
@@ -129,7 +129,7 @@ with_other_rows = record with_second_incident {
   permissions = for_university (codes "1") ∷ [];
 }
 
--- ---- what is alike
+-- ---- the examples
 
 -- the reply to the reader's View of the bank's report
 abbrev pub view_in : State → Reply

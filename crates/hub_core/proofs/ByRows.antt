@@ -116,7 +116,7 @@ none_is : (o : Option Incident) → is_none (option_map incident_facts o) ≡ no
 none_is None = refl
 none_is (Some i) = refl
 
--- ---- who is named
+-- ---- what a request names
 
 own_group : (s : State) (a : Person) (o : Option ℕ) → is_own_group s a o ≡ list_all (is_in_group s a) (given o)
 own_group s a None = refl
@@ -178,7 +178,7 @@ posted_same s org (doc ∷ docs) =
 posted_before : (s : State) (a : Person) (docs : List Lines) → because S1 (option_map decimal (posted_in s a.org docs)) ≡ rows.posted_already s a docs
 posted_before s a docs = ap (λ o. because S1 (option_map decimal o)) (posted_same s a.org docs)
 
--- ---- how many would stand
+-- ---- how many there would be
 
 -- a count as a u32 is over a limit exactly if the count is
 capped : (limit n : ℕ) → limit < 4294967295 → nat_lt limit (min n 4294967295) ≡ nat_lt limit n
@@ -277,7 +277,7 @@ more_recipients s a r here =
     ap (over RECIPIENT_LIMIT) (counted_there s r.incident (λ m. recipients_of m (put_by recipient_cmp (record { incident = r.incident; target = r.target }) (filter (λ (x : Recipient). not (is_recipient_being r.incident r.target x)) s.recipients))) here
     ∙ recipients_at s r.incident r.target)
 
--- ---- what stands already
+-- ---- what is there already
 
 gate_stands : (s : State) (n level : ℕ) (group : Option ℕ) (path : Bytes) → at_pointer (λ p. has_gate (record { incident = n; path = p }) level group s) path ≡ at_pointer (stands_gate s n level group) path
 gate_stands s n level group path = at_same (λ p. has_gate (record { incident = n; path = p }) level group s) (stands_gate s n level group) path (λ p.

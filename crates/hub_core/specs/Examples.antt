@@ -29,7 +29,7 @@ use Rattle.hub_state.specs.declared.state.Incident.{Incident}
 use Rattle.hub_state.specs.declared.state.Gate.{Gate}
 use Rattle.hub_state.specs.declared.state.Permission.{Permission}
 
--- ---- who is in it
+-- ---- the circle
 
 -- an active person by its number, organisation, role and nomination
 abbrev pub person : ℕ → ℕ → Role → Bool → Person
@@ -66,7 +66,7 @@ circle = record {
   arrangements = record { source = 1; org = 3; handling = arranged.Amber } ∷ [];
 }
 
--- ---- what is posted
+-- ---- the reports and the states
 
 -- a report with one EventData, as a request has it
 abbrev pub body : Bytes
@@ -174,7 +174,7 @@ refusals = map (refusal_of posted banker)
 abbrev pub answered : Request → Option Refusal × State
 answered r = (refusal_of posted banker r, state_after posted banker r)
 
--- ---- what is answered
+-- ---- the examples
 
 -- how the clerk and the professor stand to the bank's incident in June; there is no standing to a missing incident
 abbrev pub StandingsAreFound : Type 0

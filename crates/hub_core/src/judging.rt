@@ -1,4 +1,4 @@
-//! Judging a request by its facts alone: its refusal, or its edits.
+//! Judging a request by its facts: its refusal, or its edits.
 ghost use Rattle.std.specs.Prelude.{◌≡◌, List, IfErr, IfOk, None, OnOk};
 ghost use Rattle.circle.specs.Outcomes.{RefusedAs};
 ghost use Rattle.circle.specs.Refusals.{Ground, first_answer};
@@ -61,7 +61,7 @@ pub fn judge(
     judge_by_facts(alloc, actor, facts, request)
 }
 
-/// The same by the facts alone, whatever the state.
+/// The same, promised only by the facts.
 fn judge_by_facts(
     alloc: Global,
     actor: &Person,

@@ -48,7 +48,7 @@ pub(crate) enum PartChange {
     GroupActive,
 }
 
-/// A change at the incident of a number, by its parameters alone.
+/// A change at the incident of a number, which has only parameters.
 #[derive(Clone, Copy, Drop)]
 pub(crate) enum IncidentChange {
     Redistribute,

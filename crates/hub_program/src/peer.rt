@@ -35,7 +35,7 @@ impl<'a, C: Clock> Timed<'a, C> {
         }
     }
 
-    /// How long the next read or write may take. With a timeout for each read alone, a peer that sends a byte just in
+    /// How long the next read or write may take. With a timeout for each single read, a peer that sends a byte just in
     /// time would hold the hub.
     fn time_left(&mut self) -> io::Result<Duration> {
         let now = Instant::now(self.clock)?;

@@ -32,7 +32,7 @@ abbrev pub posted_of : State → Person → Request → Option ℕ
 posted_of s a (ask.Post r) = posted_in s a.org (documents_in r.document)
 posted_of s a _ = None
 
--- ---- what would stand
+-- ---- counts after the change
 
 -- a count for the incident that the request names, and 0 if it is missing
 abbrev pub counted : State → Option ℕ → (ℕ → ℕ) → ℕ

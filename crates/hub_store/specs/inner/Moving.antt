@@ -30,7 +30,7 @@ ShowsNaming row naming =
     (k : Naming) → (text : List ℕ) → k.community ≡ None → row ≡ naming_shown_2 k ++ Text text ∷ [] →
     naming ≡ k
 
--- the same for the document alone
+-- the same for the document
 abbrev pub ShowsDocument : Row → Lines → Type 0
 ShowsDocument row document =
     (k : Naming) → (text : List ℕ) → row ≡ naming_shown_2 k ++ Text text ∷ [] →
