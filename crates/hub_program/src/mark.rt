@@ -102,6 +102,7 @@ fn class_text(alloc: Global, document: &Document, path: &Path) -> Result<String,
     requires { first_bad_marking (located document.now) ≡ None }
     ensures { IsMarked result (text_of_class path.now (located document.now)) }
 {
+    // the root is no class, so the empty pointer names none
     if !document.has_class(path) {
         return Err(MarkFault::NoClass);
     }

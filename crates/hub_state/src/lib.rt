@@ -5,7 +5,9 @@
 //!
 //! The modules, in the order in which a request meets them:
 //!
-//! - `request` and `reply`: the requests and the replies; `bytes`, `handling`: small types of theirs;
+//! - `request` and `reply`: the requests and the replies; `bytes`, `handling`: small types of theirs.
+//!   Small types and records are used for vectors and tuples; want of memory alone is the standard library's
+//!   `AllocError`;
 //! - `state`: the rows of incidents, gates, recipients and permissions, and the keys of gates and permissions;
 //!   `row_keys`: how targets, grantees, groups and ends are compared; `edit`: the changes of single rows; `copies`:
 //!   copies of policy's gates and permissions; `recipients`: the recipients of an incident; `small_counts`: counts as
@@ -13,8 +15,9 @@
 //! - `shelf`: [`Shelf`], what every shelf promises; `look_ups`: [`LookUps`], what it looks up in its rows; `questions`:
 //!   tests and counts on an incident's gates, recipients and permissions;
 //! - made of look-ups, once for every shelf: `standing`, how a person stands to an incident, of three ([`Reader`],
-//!   [`Shared`], [`Ties`]); `facts_made`, the `facts` of a request, by what it names (`named_there`), how its incident is
-//!   shared (`sharing`), what was posted before (`posted_earlier`) and how many rows there would be (`counts_then`);
+//!   [`Shared`], [`Ties`]); `facts_made`, the `facts` of a request, by what it names (`named_there`), how its incident
+//!   is shared (`sharing`), what was posted before (`posted_earlier`) and how many rows there would be
+//!   (`counts_then`);
 //! - `list_shelf`: [`ListShelf`], the shelf in memory, by `list_reads` and `list_look_ups`; `lists`, its lists, how
 //!   they are read (`of_incident`) and changed (`change`); `rows`, their rows, and `sorted_rows`, how rows in order are
 //!   found, put and taken;

@@ -114,6 +114,7 @@ pub trait Shelf {
 
     /// Makes all edits, or none. What is promised after Ok, and of a crash, holds if the edits lead to a sound state.
     /// For other edits only this is promised: without Ok the content is as it was, and failures and doubts are counted.
+    /// A table refuses some rows that no sound state has.
     fn apply(&mut self, edits: &[Edit]) -> Result<(), ShelfFault>
         ensures made { doubts self.new ≡ 0 → (s : State) → has self.old s →
             IsSound (state_with_edits edits.now s) →

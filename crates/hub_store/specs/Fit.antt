@@ -40,7 +40,7 @@ FitGate g = g.gate.level < 256
 abbrev pub FitIncident : Incident → Type 0
 FitIncident i = IsUtf8 (document_text i.document)
 
--- the rows of a state keep the limits of names, releasabilities and levels
+-- The rows of a state keep the limits of names, releasabilities and levels. That keys have 32 bytes is not carried.
 pub record IsFit (s : State) : Type 0 where
   pub orgs : AllByRecursion FitOrg s.directory.orgs
   pub accounts : AllByRecursion FitAccount s.directory.accounts

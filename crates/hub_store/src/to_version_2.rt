@@ -28,6 +28,7 @@ pub(crate) fn create_item<S: Alter>(tx: &mut Transaction<'_, S>) -> Result<(), E
 {
     run(
         tx,
+        // unique by incident and place; the rowids mean nothing, as another tool's VACUUM may number the rows anew
         "CREATE TABLE item (incident INTEGER NOT NULL, place INTEGER NOT NULL, depth INTEGER NOT NULL, name TEXT NOT NULL, in_array INTEGER NOT NULL, kind INTEGER NOT NULL, text TEXT NOT NULL, UNIQUE (incident, place)) STRICT",
         &[],
     )
