@@ -69,11 +69,11 @@ described text = text_line 3 (codes "Description") true text
 abbrev pub two_red : Lines
 two_red = report (event (described (codes "x") ∷ red ∷ []) ++ event (red ∷ []))
 
--- the same with another Description in the first red one, and one more
+-- the report with another Description in the first red EventData, and one more
 abbrev pub rewritten : Lines
 rewritten = report (event (described (codes "y") ∷ described (codes "z") ∷ red ∷ []) ++ event (red ∷ []))
 
--- the same without the second red EventData
+-- the report without the second red EventData
 abbrev pub one_red : Lines
 one_red = report (event (described (codes "y") ∷ described (codes "z") ∷ red ∷ []))
 

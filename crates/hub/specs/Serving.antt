@@ -28,7 +28,7 @@ use Rattle.hub.specs.Replies.{page_of, refused_or, answer_to}
 abbrev pub due_to : State → ℤ → Person → Request → Reply
 due_to s now p request = refused_or (refusal_of s p request) (answer_to s now p request)
 
--- the same if the request only reads, and none otherwise
+-- the reply that is due to a person's request if it only reads, and none otherwise
 abbrev pub read_by : State → ℤ → Person → Request → Option Reply
 read_by s now p request = if◌then◌else◌ (is_reading request) (Some (due_to s now p request)) None
 
@@ -71,7 +71,7 @@ is_made (Numbers numbers) = true
 is_made (Revision revision) = true
 is_made _ = false
 
--- the same of a result, if it has a reply
+-- the result is a reply that says that a change was made
 abbrev pub is_made_by : Result Reply ShelfFault → Bool
 is_made_by (Ok reply) = is_made reply
 is_made_by (Err fault) = false

@@ -126,7 +126,7 @@ posted = record {
   permissions = permission (Some june) ∷ [];
 }
 
--- the same state, with the bank's incident naming this community or none
+-- the state `posted`, with the bank's incident naming this community or none
 abbrev pub posted_in : Option ℕ → State
 posted_in community =
     let bank = incident 1 1 1 (codes "\"7\"") in

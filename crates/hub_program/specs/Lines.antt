@@ -11,6 +11,6 @@ abbrev pub row_of : Marked → Data
 row_of t =
     array (item (string t.path) (item (string (text_of t.label)) (item (string (name_of (handling_of t.label None))) (item (string t.site) no_items))))
 
--- the same with a newline
+-- the line of a class: its row as compact JSON, and a newline
 abbrev pub line_of : Marked → Bytes
 line_of t = compact_text (row_of t) ++ 10 ∷ []

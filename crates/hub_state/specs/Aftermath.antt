@@ -40,7 +40,7 @@ put_incident source n d doc =
     PutIncident (record { naming = record { number = n; source = source; ident = ident_of doc; revision = 1; community = d.community }; document = doc })
     ∷ put_gates n d
 
--- the same for each document of a body, in order; the incidents are numbered from n on
+-- the edits that put a new incident for each document of a body, in order; the incidents are numbered from n on
 abbrev pub put_incidents : ℕ → ℕ → Distribution → List Lines → List Edit
 put_incidents source n d [] = []
 put_incidents source n d (doc ∷ docs) = put_incident source n d doc ++ put_incidents source (n + 1) d docs
@@ -91,7 +91,7 @@ abbrev pub put_revision : ℕ → IncidentFacts → Option ℕ → List Lines �
 put_revision n k community [] = []
 put_revision n k community (doc ∷ docs) = TakeIncident n ∷ PutIncident (next_row n k community doc) ∷ []
 
--- the same if the incident is there, and no edit if it is missing
+-- the edits of put_revision if the incident is there, and no edit if it is missing
 abbrev pub put_next : ℕ → Option IncidentFacts → Option ℕ → List Lines → List Edit
 put_next n None community docs = []
 put_next n (Some k) community docs = put_revision n k community docs

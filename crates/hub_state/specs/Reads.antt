@@ -97,7 +97,7 @@ reader_with s p = record {
   communities = communities_of p.org s.directory;
 }
 
--- the same for the person of a number; none if the person is missing
+-- the reader's own part of a standing, for the person of a number; none if the person is missing
 abbrev pub reader_of : ℕ → State → Option Reader
 reader_of n s = option_map (reader_with s) (person_of n s.directory)
 
@@ -133,7 +133,7 @@ its_permissions n permissions =
 abbrev pub shared_as : State → Naming → Shared
 shared_as s k = record { naming = k; recipients = its_recipients k.number s.recipients }
 
--- the same for the incident of a number; none if it is missing
+-- how the incident of a number is shared; none if it is missing
 abbrev pub sharing_of : ℕ → State → Option Shared
 sharing_of n s = option_map (shared_as s) (naming_of n s)
 

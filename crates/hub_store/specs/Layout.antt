@@ -81,7 +81,7 @@ parts_2 s = tables_2 2 (map item_row (items_of s)) (map named_row_2 s.incidents)
 abbrev pub with_items : List Row → State → List Part
 with_items items s = in_versions_1_and_2 1 s ++ incident_part s ∷ item_part items ∷ []
 
--- the same without the table of the incidents
+-- these lines beside the tables of version 1 without that of the incidents
 abbrev pub without_incidents : List Row → State → List Part
 without_incidents items s = in_versions_1_and_2 1 s ++ item_part items ∷ []
 
@@ -103,7 +103,7 @@ apart_from name ps = filter (λ (p : Part). not (bytes_eq p.table.name name)) ps
 abbrev pub behind : Step → List Row → List Part → List Part
 behind step rows ps = ps ++ record { table = record step.table { tree = next_tree (schema_of ps) }; seen = step.seen; rows = rows } ∷ []
 
--- the same in place of the old table of that name
+-- the parts with the table of a step after them, in place of the old table of that name
 abbrev pub made_anew : Step → List Row → List Part → List Part
 made_anew step rows ps = behind step rows (apart_from step.table.name ps)
 

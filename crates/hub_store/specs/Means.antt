@@ -26,7 +26,7 @@ pub record HoldsAs (v : ℕ) (db : Database) (s : State) : Type 0 where
   pub means : MeansAs v db.trees s
   pub fit : FitAs v s
 
--- the same for trees without a schema, as a crash leaves them
+-- the trees hold this state in the tables of a version, as a crash leaves them
 abbrev pub TreesHoldAs : ℕ → Trees → State → Type 0
 TreesHoldAs v db s = HoldsAs v (record { schema = schema_by v; trees = db }) s
 

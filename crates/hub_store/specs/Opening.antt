@@ -53,7 +53,7 @@ pub record IsRefused (old new : State) (fault : OpenFault) : Type 0 where
 
 -- ---- a store brought to the newest version
 
--- the same for a migration, for which an older version is no fault
+-- the fault of a migration, for which an older version is no fault
 abbrev pub IsMigrationFault : Database → OpenFault → Type 0
 IsMigrationFault db (WrongVersion n) = (version_of db ≡ Some n) × (n ≢ newest) × (is_older n ≡ false)
 IsMigrationFault db fault = IsOpenFault db fault
@@ -66,7 +66,7 @@ IsOld db = (v : ℕ) × IsTrue (is_older v) × (version_of db ≡ Some v)
 abbrev pub IsRenewedFrom : ℕ → State → Trees → Type 0
 IsRenewedFrom v old left = (s : core.State) → HasAs v old s → TreesHold left s
 
--- the same for each older version
+-- the trees are the newest version with the content of whichever older version there was
 abbrev pub IsRenewed : State → Trees → Type 0
 IsRenewed old left = (v : ℕ) → IsTrue (is_older v) → IsRenewedFrom v old left
 
@@ -80,7 +80,7 @@ pub record IsBrought (found : ℕ) (old new : State) (failures : ℕ) : Type 0 w
   pub begun : failures ≡ 0
   pub survives : Survives old new (IsRenewedFrom found old)
 
--- they weren't, and the last commit stays
+-- tables of this version were not brought to the newest, and the last commit stays
 pub record IsNotBrought (found : ℕ) (old new : State) (fault : OpenFault) : Type 0 where
   pub why : (fault ≡ Failed) ⊎ (fault ≡ NoMemory)
   pub cause : HasCleanDisk new → fault ≡ Failed → (s : core.State) → HasAs found old s → AreTaken s → HasReason old new

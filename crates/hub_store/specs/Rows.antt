@@ -71,7 +71,7 @@ group_row g = Int (pos g.number) ∷ Null ∷ Int (pos g.owner) ∷ Text g.name 
 abbrev pub naming_row_2 : Naming → Row
 naming_row_2 k = Int (pos k.number) ∷ Null ∷ Int (pos k.source) ∷ Text k.ident ∷ Int (pos k.revision) ∷ []
 
--- the same for an incident
+-- the row of an incident without its document and its community, by the incident
 abbrev pub named_row_2 : Incident → Row
 named_row_2 i = naming_row_2 i.naming
 
@@ -79,7 +79,7 @@ named_row_2 i = naming_row_2 i.naming
 abbrev pub naming_row : Naming → Row
 naming_row k = naming_row_2 k ++ number_or_null k.community ∷ []
 
--- the same for an incident
+-- the row of an incident with its community, by the incident
 abbrev pub named_row : Incident → Row
 named_row i = naming_row i.naming
 

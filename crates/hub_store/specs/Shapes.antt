@@ -142,34 +142,34 @@ no_schema = record { tables = []; indexes = []; views = [] }
 abbrev pub up_to_hub : Schema
 up_to_hub = created no_schema hub_table
 
--- the same with the table `org`
+-- the schema with the tables up to `org`
 abbrev pub up_to_org : Schema
 up_to_org = created up_to_hub org_table
 
--- the same with the table `person`
+-- the schema with the tables up to `person`
 abbrev pub up_to_person : Schema
 up_to_person = created up_to_org person_table
 
--- the same with the table `community`
+-- the schema with the tables up to `community`
 abbrev pub up_to_community : Schema
 up_to_community = created up_to_person community_table
 
--- the same with the table `grp`
+-- the schema with the tables up to `grp`
 abbrev pub up_to_grp : Schema
 up_to_grp = created up_to_community grp_table
 
--- the same with the table `pair`
+-- the schema with the tables up to `pair`
 abbrev pub up_to_pair : Schema
 up_to_pair = created up_to_grp pair_table
 
--- the same with the table `gate`
+-- the schema with the tables up to `gate`
 abbrev pub up_to_gate : Schema
 up_to_gate = created up_to_pair gate_table
 
--- the same with the table `recipient`
+-- the schema with the tables up to `recipient`
 abbrev pub up_to_recipient : Schema
 up_to_recipient = created up_to_gate recipient_table
 
--- the same with the table `permission`
+-- the schema with the tables up to `permission`
 abbrev pub up_to_permission : Schema
 up_to_permission = created up_to_recipient permission_table

@@ -21,7 +21,7 @@ standing_between s now p i = option_and_then (λ (q : Person). option_map (stand
 abbrev pub text_at : Lines → Case → Standing → Tokens → Option Bytes
 text_at ls c st p = if has_class (located ls) p then Some (trace_text (explanation_of (located ls) c st p)) else None
 
--- the same for an optional person, incident and path
+-- the text of the explanation for an optional person, incident and path
 abbrev pub text_of : State → ℤ → Option Person → Option Incident → Option Tokens → Option Bytes
 text_of s now (Some p) (Some i) (Some path) = text_at i.document (case_for s i) (standing_at s now p i) path
 text_of s now _ _ _ = None

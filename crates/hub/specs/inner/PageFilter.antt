@@ -25,7 +25,7 @@ admits w st = not w.addressed || (st.person || st.addressed)
 abbrev pub shuts_out : Standing → Gate → Bool
 shuts_out st g = is_root g.path && is_some (refusal_of_gate st g)
 
--- such a gate is there, and the reader isn't of the source
+-- a gate at the root refuses the reader, who isn't of the source
 abbrev pub is_shut_out : Case → Standing → Bool
 is_shut_out c st = not st.source && list_any (shuts_out st) c.gates
 

@@ -15,7 +15,7 @@ use Rattle.hub_state.specs.declared.sharing.Sharing.{Sharing}
 abbrev pub sharing_named : ℕ → State → Sharing
 sharing_named n s = record { gates = its_gates n s.gates; recipients = its_recipients n s.recipients; permissions = its_permissions n s.permissions }
 
--- the same for an optional number; nothing if there is none
+-- how the incident of an optional number is shared; nothing if there is none
 abbrev pub sharing_asked : Option ℕ → State → Sharing
 sharing_asked None s = record { gates = []; recipients = []; permissions = [] }
 sharing_asked (Some n) s = sharing_named n s

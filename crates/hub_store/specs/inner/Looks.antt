@@ -7,7 +7,7 @@ use Rattle.hub_state.specs.Sound.{IsSound}
 use Rattle.hub_store.specs.Keeps.{Knows}
 use Rattle.hub_store.specs.Means.{Holds}
 
--- The same as a read, but its Ok doesn't mean that the store is open.
+-- A read in a transaction whose Ok doesn't mean that the store is open.
 pub record IsLook {T : Type 0} (old new : State) (Right : core.State → T → Type 0) (result : Result T Error) : Type 0 where
   pub survives : Survives old new (λ _. ⊥)
   pub kept : HasCleanDisk new → Knows old → KeepsCommit old new

@@ -24,13 +24,13 @@ ShowsIncident row i =
     (k : Naming) → (text : List ℕ) → k.community ≡ None → row ≡ naming_shown_2 k ++ Text text ∷ [] →
     (i.naming ≡ k) × (reading text ≡ Ok (i.document ∷ []))
 
--- the same for the incident without its document
+-- the row is that of an incident of version 1 with this naming
 abbrev pub ShowsNaming : Row → Naming → Type 0
 ShowsNaming row naming =
     (k : Naming) → (text : List ℕ) → k.community ≡ None → row ≡ naming_shown_2 k ++ Text text ∷ [] →
     naming ≡ k
 
--- the same for the document
+-- the row is that of an incident of version 1 whose text reads as this document
 abbrev pub ShowsDocument : Row → Lines → Type 0
 ShowsDocument row document =
     (k : Naming) → (text : List ℕ) → row ≡ naming_shown_2 k ++ Text text ∷ [] →
@@ -40,7 +40,7 @@ ShowsDocument row document =
 abbrev pub old_shown : Incident → Row
 old_shown i = naming_shown_2 i.naming ++ Text (document_text i.document) ∷ []
 
--- these columns can be read back
+-- the columns of the incident can be read back
 pub record IsReadable (i : Incident) : Type 0 where
   pub number : i.naming.number < 2 ^ 32
   pub source : i.naming.source < 2 ^ 32
