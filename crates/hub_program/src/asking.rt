@@ -34,8 +34,9 @@ pub fn reply_to<Sh: Shelf>(
     hub.answer(alloc, now, &line_key(line), request)
 }
 
-/// Returns the reply to the caller whose key is the first line of the input, at the present moment. It is generic in
-/// the shelf, so its proof carries only what every shelf promises.
+/// Returns the reply to the caller whose key is the first line of the input, at the present moment. Fails with
+/// `ReadFailed` if the line or the clock can't be read. It is generic in the shelf, so its proof carries only what
+/// every shelf promises.
 pub fn reply_to_input<Sh: Shelf, R: Read, C: Clock>(
     alloc: Global,
     hub: &mut Hub<Sh>,

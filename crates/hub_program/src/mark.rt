@@ -56,8 +56,9 @@ pub struct Selection {
     pub class: Option<Path>,
 }
 
-/// Returns a line for each class that is wanted, in stored order: the compact JSON array of its path, its label, the
-/// label's handling if nothing is arranged, and the path of the class that has the label.
+/// Returns a line for each class that is wanted, in stored order. A line is the compact JSON array of the class's path,
+/// its label, the label's handling if nothing is arranged, and the path of the class that has the label. Fails with the
+/// first fault of reading, then of the Incident's place, then of the markings, then of the class.
 pub fn mark_text(alloc: Global, body: &[u8], selection: &Selection) -> Result<String, MarkFault>
     ensures { IsMarked result (spec.mark_text selection.now body.now) }
 {

@@ -4,7 +4,7 @@ use crate::fault::Fault;
 use crate::status::Status;
 use std::io::Write;
 
-/// Prints a text as it is.
+/// Prints a text as it is. Fails with `WriteFailed` if it can't be written.
 pub fn print<W: Write>(writer: &mut W, text: &str) -> Result<Status, Fault> {
     match writer
         .write_all(text.as_bytes())

@@ -26,6 +26,7 @@ pub struct Timed<'a, C: Clock> {
 }
 
 impl<'a, C: Clock> Timed<'a, C> {
+    /// Starts a direction of a connection, which may take [`SECONDS`] from its first read or write on.
     pub fn new(stream: &'a TcpStream, clock: &'a C) -> Timed<'a, C> {
         Timed {
             stream,

@@ -105,7 +105,7 @@ fn open_over<S: Alter + Drop>(alloc: Global, conn: Connection<S>) -> Result<SqlS
     }
 }
 
-/// Returns the shelf over the file, whose tables must be of the newest version.
+/// Returns the shelf over the file. Fails with `WrongVersion` or `NotOurs` if its tables aren't of the newest version.
 pub fn open_store(rt: &HostRuntime, path: &str) -> Result<FileShelf, Fault> {
     open_over(rt.alloc(), connect(rt, path)?)
 }

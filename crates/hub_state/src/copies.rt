@@ -5,6 +5,7 @@ use crate::state::{GateKey, PermissionKey};
 use policy::{Gate, Permission};
 use std::alloc::AllocError;
 
+/// Copies a gate. Fails if the memory doesn't suffice.
 pub fn copy_of_gate(gate: &Gate) -> Result<Gate, AllocError>
     ensures { IfOk result (λ g. g ≡ gate.now) }
 {

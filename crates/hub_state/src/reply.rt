@@ -42,6 +42,7 @@ impl Entries {
         Entries { entries }
     }
 
+    /// Returns the incidents.
     pub fn as_slice(&self) -> &[Entry]
         ensures { result.now ≡ self.now }
     {
@@ -84,6 +85,7 @@ impl JoinedGroups {
         JoinedGroups { groups }
     }
 
+    /// Returns the groups.
     pub fn as_slice(&self) -> &[JoinedGroup]
         ensures { result.now ≡ self.now }
     {
@@ -114,6 +116,7 @@ impl Withheld {
         Withheld { pairs }
     }
 
+    /// Returns each place, in the excerpt's document, with its rule.
     pub fn as_slice(&self) -> &[(Path, Rule)]
         ensures { result.now ≡ self.now }
     {

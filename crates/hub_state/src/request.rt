@@ -40,6 +40,7 @@ impl WantedGates {
         WantedGates { gates }
     }
 
+    /// Returns the gates.
     pub fn as_slice(&self) -> &[WantedGate]
         ensures { result.now ≡ self.now }
     {

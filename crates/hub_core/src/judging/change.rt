@@ -27,7 +27,7 @@ fn one(alloc: Global, edit: Edit) -> Result<Vec<Edit>, AllocFailed<Edit>>
     Ok(edits)
 }
 
-/// Puts a recipient.
+/// Returns the edit that puts a recipient, or the refusal of the first ground that holds.
 pub fn address(
     alloc: Global,
     actor: &Person,
@@ -52,7 +52,8 @@ pub fn address(
     )?)
 }
 
-/// Takes a recipient out. Whether the person or organisation is there isn't asked.
+/// Returns the edit that takes a recipient out, or the refusal of the first ground that holds. Whether the person or
+/// organisation is there isn't asked.
 pub fn unaddress(
     alloc: Global,
     actor: &Person,
@@ -75,7 +76,8 @@ pub fn unaddress(
     )?)
 }
 
-/// Puts a permission at a class, in place of one with another end, for the revision that the source has seen.
+/// Returns the edits that put a permission at a class, in place of one with another end, or the refusal of the first
+/// ground that holds. The revision must be the one that the source has seen.
 pub fn grant(
     alloc: Global,
     actor: &Person,
@@ -131,7 +133,8 @@ fn put_in_place(alloc: Global, request: &Grant, path: Path) -> Result<Vec<Edit>,
     Ok(edits)
 }
 
-/// Takes a permission out, ended or not. Whether the grantee is there isn't asked.
+/// Returns the edit that takes a permission out, ended or not, or the refusal of the first ground that holds. Whether
+/// the grantee is there isn't asked.
 pub fn withdraw(
     alloc: Global,
     actor: &Person,
@@ -156,7 +159,8 @@ pub fn withdraw(
     )?)
 }
 
-/// Puts a gate at the root or at a class, in place of the one at that path.
+/// Returns the edits that put a gate at the root or at a class, in place of the one at that path, or the refusal of the
+/// first ground that holds.
 pub fn redistribute(
     alloc: Global,
     actor: &Person,

@@ -13,6 +13,7 @@ use hub_state::{Edit, Explain, Facts};
 use std::alloc::Global;
 
 /// Asks the grounds of an administrator's question why an active person sees a class of an incident, or doesn't.
+/// Returns no edit, or the refusal of the first ground that holds.
 pub fn explain(
     alloc: Global,
     actor: &Person,

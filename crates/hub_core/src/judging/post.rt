@@ -18,7 +18,7 @@ use circle::refusal::Code;
 use hub_state::{Edit, Facts, Incident, Naming, Post};
 use std::alloc::{AllocError, Global};
 
-/// The edits that put an incident for each Incident of the body.
+/// Returns the edits that put an incident for each Incident of the body, or the refusal of the first ground that holds.
 pub fn post(alloc: Global, actor: &Person, facts: &Facts, request: &Post) -> Result<Vec<Edit>, Stop>
     ensures asked { Asks (grounds_by facts.now actor.now (ask.Post request.now)) result }
     ensures made { IfOk result (λ edits.

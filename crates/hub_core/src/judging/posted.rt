@@ -27,6 +27,7 @@ impl Model for Posted {
 }
 
 impl Posted {
+    /// Makes it of a document. Fails if the memory doesn't suffice.
     pub fn new(alloc: Global, document: Document) -> Result<Posted, AllocError>
         ensures { IfOk result (λ p. p ≡ document) }
     {
@@ -37,12 +38,14 @@ impl Posted {
         Ok(Posted { document, ident })
     }
 
+    /// Returns the document.
     pub fn document(&self) -> &Document
         ensures { result.now ≡ self.now }
     {
         &self.document
     }
 
+    /// Returns the document's ident.
     pub fn ident(&self) -> &Text
         ensures { result.now ≡ ident_of self.now }
     {

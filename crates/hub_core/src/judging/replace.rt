@@ -20,8 +20,8 @@ use circle::text::Text;
 use hub_state::{Edit, Facts, Incident, IncidentFacts, Naming, Replace};
 use std::alloc::{AllocError, Global};
 
-/// The edits that put the incident in its next revision, with the request's community and gates. They take its
-/// permissions out and keep its recipients.
+/// Returns the edits that put the incident in its next revision, with the request's community and gates, or the refusal
+/// of the first ground that holds. They take its permissions out and keep its recipients.
 pub fn replace(
     alloc: Global,
     actor: &Person,

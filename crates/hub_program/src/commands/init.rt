@@ -32,7 +32,8 @@ fn make_over<S: Alter + Drop>(
     }
 }
 
-/// Makes the store in a file without tables.
+/// Makes the store in a file without tables. Fails with `BadArgument` if the name or the digest is invalid, and with
+/// `Failed` if there are tables already.
 pub fn run<W: Write>(
     rt: &HostRuntime,
     store: &str,
