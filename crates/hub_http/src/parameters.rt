@@ -1,5 +1,5 @@
-//! The parameters of a request: names and values, and how many values each name has. Every fault here is `BadBody`, so
-//! it doesn't matter which of several is found first.
+//! The parameters of a request: names and values, and how many values each name has. Every fault here but want of
+//! memory is `BadBody`, so it doesn't matter which of several is found first.
 ghost use Rattle.std.specs.Prelude.{◌≡◌, ◌++◌, ◌<◌, ℕ, List, length, Ok, codes, option_copied};
 ghost use Rattle.hub_http.specs.Outcome.{Yields, YieldsAs};
 ghost use Rattle.hub_http.specs.Spelling.{gates};

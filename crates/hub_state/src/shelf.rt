@@ -29,8 +29,8 @@ pub enum ShelfFault {
     Failed,
 }
 
-/// What keeps the hub's state. Each read returns its function of the state and changes nothing. Every call fails with
-/// `NoMemory` if the memory doesn't suffice, and with `Failed` if the store failed.
+/// What keeps the hub's state. Each read returns its function of the state and changes nothing. A read or an edit
+/// fails with `NoMemory` if the memory doesn't suffice, and with `Failed` if the store failed.
 pub trait Shelf {
     // The content is this state. A store that an earlier failure has shut has any state, so a read of it can only fail.
     ghost has: { Self → State → Type 0 };
