@@ -84,8 +84,8 @@ module _ (now : ℤ) (a : Account) where
     pub lines : report.HasOtherPlainLines (standing_at s now a.person incident) path (report_of s incident incident.document) (report_of s incident document)
     pub after : t ≡ record s { incidents = with_document incident.naming.number document s.incidents }
 
-  -- One incident has other lines in a wholly hidden class and below it: they are put, taken or exchanged, with the gates
-  -- and permissions there. The paths of all other classes stay, and what is withheld is the same on both sides.
+  -- One incident has other lines in a wholly hidden class and below it: they are put, taken or exchanged, with the
+  -- gates and permissions there. The paths of all other classes stay, and what is withheld is the same on both sides.
   pub record HasOtherHiddenClass (s t : State) : Type 0 where
     pub incident : Incident
     pub path : Tokens

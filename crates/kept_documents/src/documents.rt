@@ -105,8 +105,9 @@ impl<const MOST: usize> Documents<MOST> {
             let _ = self.noted.put(incident, ());
             return false;
         }
-        // While an eighth of the room is free, each wanted document is kept. After that one document in 64 questions may
-        // replace others: a list over more documents than fit would read each whole and drop it before its next use.
+        // While an eighth of the room is free, each wanted document is kept. After that one document in 64 questions
+        // may replace others: a list over more documents than fit would read each whole and drop it before its next
+        // use.
         self.weight <= MOST - MOST / 8 || self.waited >= PATIENCE
     }
 
