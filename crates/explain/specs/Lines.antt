@@ -15,7 +15,7 @@ use Rattle.policy.specs.declared.permission.Permission.{Permission}
 use Rattle.policy.specs.declared.verdict.Verdict.{Verdict}
 use Rattle.policy.specs.declared.verdict.Verdict.TheVariants.{Shown, Hidden}
 use Rattle.explain.specs.Explanation.{Explanation}
-use Rattle.explain.specs.Listing.{entry_of, permissions_in_order, kind_name, number_of}
+use Rattle.explain.specs.Listing.{entry_of, permissions_in_order, kind_name, grantee_number}
 use Rattle.explain.specs.declared.listing.PrintedPermission.{PrintedPermission}
 
 -- the space between two words
@@ -78,7 +78,7 @@ clearance_line x = codes "clearance " ++ handling_name x.0 ++ space ++ name_of x
 
 -- the readers whom a permission is given to: the kind and the number
 abbrev pub grantee_text : Grantee → Bytes
-grantee_text g = kind_name g ++ space ++ decimal (number_of g)
+grantee_text g = kind_name g ++ space ++ decimal (grantee_number g)
 
 -- when a permission ends, in seconds since the beginning of 1970 (UTC); nothing if it has no end
 abbrev pub end_text : Option ℤ → Bytes

@@ -29,17 +29,17 @@ kind_name (Community n) = codes "community"
 kind_name (Group n) = codes "group"
 
 -- the number of a grantee
-abbrev pub number_of : Grantee → ℕ
-number_of (Person n) = n
-number_of (Org n) = n
-number_of (Community n) = n
-number_of (Group n) = n
+abbrev pub grantee_number : Grantee → ℕ
+grantee_number (Person n) = n
+grantee_number (Org n) = n
+grantee_number (Community n) = n
+grantee_number (Group n) = n
 
 -- the order of permissions: by the bytes of the pointer, then by kind, then by number; the end doesn't count
 abbrev pub entry_cmp : PrintedPermission → PrintedPermission → Ordering
 entry_cmp =
     then_cmp (on (λ e. e.pointer) (slice_cmp nat_cmp))
-    (then_cmp (on (λ e. kind_place e.grantee) nat_cmp) (on (λ e. number_of e.grantee) nat_cmp))
+    (then_cmp (on (λ e. kind_place e.grantee) nat_cmp) (on (λ e. grantee_number e.grantee) nat_cmp))
 
 -- one permission comes before another in this order
 abbrev pub comes_before : PrintedPermission → PrintedPermission → Bool

@@ -6,7 +6,7 @@ ghost use Rattle.json.specs.Print as spec;
 ghost use Rattle.explain.specs.Explanation.{explanation};
 ghost use Rattle.explain.specs.Lines.{space, newline, path_text, result_text, side_text, rule_in, verdict_line, path_line, community_line, gate_line, site_line, clearance_line, grantee_text, end_text, permission_line, permission_lines, trace_text};
 
-use crate::listing::{PrintedPermission, kind_name, number_of, sort_permissions};
+use crate::listing::{PrintedPermission, grantee_number, kind_name, sort_permissions};
 use crate::trace::Trace;
 use iodef_tree::{Path, push_quoted};
 use marking::Handling;
@@ -207,7 +207,7 @@ fn push_grantee(out: &mut String, grantee: Grantee) -> Result<(), AllocError>
         string_bytes out.old ++ (space ++ grantee_text grantee)) }
 {
     push_word(out, kind_name(grantee))?;
-    push_number(out, number_of(grantee))
+    push_number(out, grantee_number(grantee))
 }
 
 /// Appends the end of a permission, if it has one.

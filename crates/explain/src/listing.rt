@@ -44,8 +44,8 @@ pub(crate) fn kind_name(grantee: Grantee) -> &'static str
 }
 
 /// Returns its number.
-pub(crate) fn number_of(grantee: Grantee) -> u32
-    ensures { result ≡ spec.number_of grantee }
+pub(crate) fn grantee_number(grantee: Grantee) -> u32
+    ensures { result ≡ spec.grantee_number grantee }
 {
     match grantee {
         Grantee::Person(number) => number,
@@ -60,7 +60,7 @@ fn comes_before(entry: &PrintedPermission, other: &PrintedPermission) -> bool
     ensures { result ≡ spec.comes_before entry.now other.now }
 {
     let kinds = kind_place(entry.grantee).cmp(&kind_place(other.grantee));
-    let numbers = number_of(entry.grantee).cmp(&number_of(other.grantee));
+    let numbers = grantee_number(entry.grantee).cmp(&grantee_number(other.grantee));
     entry
         .pointer
         .as_str()

@@ -21,7 +21,7 @@ use Rattle.hub_state.specs.declared.TheConstants.{GATE_LIMIT}
 use Rattle.hub_state.specs.Documents.{Lines, documents_of, documents_in, fault_of, fault_in, ident_of, is_class_in, at_pointer, bad_marking, bad_marking_from, marking_told}
 use Rattle.hub_state.specs.Requests.{has_joined_all}
 use Rattle.hub_core.specs.Refusals.{is_bad_gate, is_bad_pointer, is_bad_level, is_bad_group, are_bad_gates, stands_twice, stand_at_classes}
-use Rattle.hub_state.specs.Facts.{first_number, posted_in, number_of}
+use Rattle.hub_state.specs.Facts.{first_number, posted_in, length_as_u32}
 use Rattle.hub_state.specs.State.{State, incident_named}
 use Rattle.hub_state.specs.declared.request.Distribution.{Distribution}
 use Rattle.hub_state.specs.declared.request.WantedGate.{WantedGate}
@@ -96,7 +96,7 @@ not_posted s source docs h = none_named s source docs (no_first _ (number_none (
 good_gates : (wanted : List WantedGate) → list_any is_bad_gate wanted ≡ false → Each (λ (w : WantedGate). at_pointer is_root w.path ≡ false) wanted
 good_gates wanted h = each_weaker _ _ wanted (λ w e. (or_parts (at_pointer is_root w.path) (is_bad_level false w.level || is_bad_group w.level w.group) (or_parts (is_bad_pointer w.path) _ e).1).0) (none_of is_bad_gate wanted h)
 
-pub wishes : (s : State) (a : Person) (d : Distribution) → circle.IsSound s.directory → are_bad_gates d.gates ≡ false → has_joined_all s a d ≡ true → number_of d.gates ≤ GATE_LIMIT → Wishes s.directory d
+pub wishes : (s : State) (a : Person) (d : Distribution) → circle.IsSound s.directory → are_bad_gates d.gates ≡ false → has_joined_all s a d ≡ true → length_as_u32 d.gates ≤ GATE_LIMIT → Wishes s.directory d
 wishes s a d h good own few =
     let parts = or_parts (list_any is_bad_gate d.gates) (stands_twice (map (λ (w : WantedGate). w.path) d.gates)) good in
     record { there = all_there s a d h own; below = good_gates d.gates parts.0; once = parts.1; few = omega (arith, few) }

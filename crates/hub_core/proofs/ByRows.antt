@@ -25,7 +25,7 @@ use Rattle.hub_state.specs.declared.TheConstants.{REVISION_LIMIT, GATE_LIMIT, RE
 use Rattle.hub_state.specs.Aftermath.{changed, edits_of, next_row, put_gate, put_gates, put_next, put_permission, put_revised, put_revision}
 use Rattle.hub_state.specs.Documents.{Lines, documents_in, ident_of, is_class_in, at_pointer}
 use Rattle.hub_state.specs.Edits.{with_edits}
-use Rattle.hub_state.specs.Facts.{facts_of, first_number, posted_in, number_of, counted, gates_then, recipients_then, permissions_then}
+use Rattle.hub_state.specs.Facts.{facts_of, first_number, posted_in, length_as_u32, counted, gates_then, recipients_then, permissions_then}
 use Rattle.hub_core.specs.Judgement.{grounds_by, other_revision, next_revision, unless_own, keep_ident}
 use Rattle.hub_core.specs.Refusals as rows
 use Rattle.hub_core.specs.Refusals.{grounds, because, not_for_you, no_class_unless, over, over_at, other_than, given, first_of, numbers_under, holds_of, row_of, unless_ours, unless_joined, is_in_group, is_in_community, groups_given, is_recipient_there, is_grantee_there, is_addressed_to, is_granted_at, stands_gate, gates_with, recipients_with, permissions_with}
@@ -184,7 +184,7 @@ posted_before s a docs = ap (λ o. because S1 (option_map decimal o)) (posted_sa
 capped : (limit n : ℕ) → limit < 4294967295 → nat_lt limit (min n 4294967295) ≡ nat_lt limit n
 capped limit n low = grind (arith, nat_tests)
 
-gates_given : (gates : List WantedGate) → over GATE_LIMIT (number_of gates) ≡ over GATE_LIMIT (length gates)
+gates_given : (gates : List WantedGate) → over GATE_LIMIT (length_as_u32 gates) ≡ over GATE_LIMIT (length gates)
 gates_given gates = ap (refuse L1) (capped GATE_LIMIT (length gates) (omega arith))
 
 -- the incident is there
@@ -326,7 +326,7 @@ replace s a r =
                             λ _. (
                               revisions s n,
                               λ _.
-                                  (ap (over GATE_LIMIT) (counted_there s n (λ m. number_of d.gates) (there s a n mine)) ∙ gates_given d.gates, λ _. tt),
+                                  (ap (over GATE_LIMIT) (counted_there s n (λ m. length_as_u32 d.gates) (there s a n mine)) ∙ gates_given d.gates, λ _. tt),
                             ),
                           ),
                         ),

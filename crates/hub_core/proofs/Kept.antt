@@ -19,7 +19,7 @@ use Rattle.hub_state.specs.Edits.{with_edits}
 use Rattle.hub_core.specs.Refusals.{refusal_of, are_bad_gates, has_several, has_some, stand_at_classes, unless_refused}
 use Rattle.hub_core.specs.Judgement.{grounds_by, keep_ident, next_revision}
 use Rattle.hub_state.specs.Requests.{incident_facts, has_joined_all}
-use Rattle.hub_state.specs.Facts.{facts_of, number_of}
+use Rattle.hub_state.specs.Facts.{facts_of, length_as_u32}
 use Rattle.hub_core.specs.Laws.{StaysSound}
 use Rattle.hub_state.specs.Sound.{IsSound}
 use Rattle.hub_state.specs.State.{State, incident_number, incident_of}
@@ -91,7 +91,7 @@ replace_kept s a r h fine =
     let classes : stand_at_classes d.gates docs ≡ true = not-false (stand_at_classes d.gates docs) p.1.1.1.1.1.1.1.1.1.0 in
     let own : has_joined_all s a d ≡ true = not-false (has_joined_all s a d) p.1.1.1.1.1.1.1.1.0 in
     let kept : keep_ident (option_map incident_facts (incident_of n s)) docs ≡ true = not-false (keep_ident (option_map incident_facts (incident_of n s)) docs) p.1.1.1.1.1.1.1.1.1.1.0 in
-    let few : number_of d.gates ≤ GATE_LIMIT = subst (λ m. m ≤ GATE_LIMIT) (counted_is s n i (λ m. number_of d.gates) found) (ltb-false GATE_LIMIT _ p.1.1.1.1.1.1.1.1.1.1.1.1.1.0) in
+    let few : length_as_u32 d.gates ≤ GATE_LIMIT = subst (λ m. m ≤ GATE_LIMIT) (counted_is s n i (λ m. length_as_u32 d.gates) found) (ltb-false GATE_LIMIT _ p.1.1.1.1.1.1.1.1.1.1.1.1.1.0) in
     let room : next_revision (option_map incident_facts (incident_of n s)) ≤ REVISION_LIMIT = ltb-false REVISION_LIMIT _ p.1.1.1.1.1.1.1.1.1.1.1.1.0 in
     let fits : IsFit d.gates one.0 = (subst (Each (IsFit d.gates)) one.1 (fit r.document docs d.gates read p.1.1.1.1.1.1.0 classes)).0 in
     let same : list_all (λ (doc : Lines). bytes_eq (ident_of doc) i.naming.ident) (one.0 ∷ []) ≡ true =

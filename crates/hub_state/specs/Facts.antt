@@ -40,14 +40,14 @@ counted s None count = 0
 counted s (Some n) count = if is_some (incident_of n s) then count n else 0
 
 -- the length of a list, at most the greatest u32
-abbrev pub number_of : {X : Type 0} → List X → ℕ
-number_of xs = min (length xs) 4294967295
+abbrev pub length_as_u32 : {X : Type 0} → List X → ℕ
+length_as_u32 xs = min (length xs) 4294967295
 
 -- How many class gates there would be after the change. A Post or a Replace gives an incident all its gates, so it is
 -- their number.
 abbrev pub gates_then : State → Person → Request → ℕ
-gates_then s a (ask.Post r) = number_of r.distribution.gates
-gates_then s a (ask.Replace r) = counted s (Some r.incident) (λ n. number_of r.distribution.gates)
+gates_then s a (ask.Post r) = length_as_u32 r.distribution.gates
+gates_then s a (ask.Replace r) = counted s (Some r.incident) (λ n. length_as_u32 r.distribution.gates)
 gates_then s a request = counted s (incident_asked request) (λ n. class_gates n (changed s a request).gates)
 
 -- How many recipients there would be after the change. A recipient that is there already counts once.

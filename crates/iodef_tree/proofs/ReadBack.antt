@@ -23,7 +23,7 @@ use Rattle.iodef_tree.specs.View.{forest_of_members}
 use Rattle.iodef_tree.specs.inner.Written.{members_of, items_of, body_data, bodies_data}
 use Rattle.iodef_tree.specs.declared.line.Line.{Line}
 use Rattle.iodef_tree.specs.declared.fault.ReadFault.TheVariants.{NotJson, Missing}
-use Rattle.iodef_tree.specs.declared.TheConstants.{INCIDENT_LIMIT}
+use Rattle.iodef_tree.specs.declared.TheConstants.{REPORT_INCIDENT_LIMIT}
 use Rattle.iodef_tree.proofs.Bodies.{fit_object}
 use Rattle.iodef_tree.proofs.Data.{AreAfter, Ascend, member-data, no-items}
 use Rattle.iodef_tree.proofs.Exchanged.{put_twice}
@@ -225,7 +225,7 @@ each-document Q bytes docs p shown =
     each Q p.root (λ x d. shown x d (record { normal = normal; low = low; fits = p.plain })) p.incidents 0 docs
     (good-items p.incidents 125 0 (get-each _ _ normals k p.root array normal.1 p.at) (omega (arith, inner)) (get-each _ _ fits k p.root array p.plain p.at))
     (fit_object p.root p.incidents p.plain p.at)
-    ((and_parts (nat_lt 0 (items_len p.incidents) && nat_le (items_len p.incidents) INCIDENT_LIMIT) (all_objects p.incidents) p.are).1)
+    ((and_parts (nat_lt 0 (items_len p.incidents) && nat_le (items_len p.incidents) REPORT_INCIDENT_LIMIT) (all_objects p.incidents) p.are).1)
     p.complete p.gives
 
 pub texts-read-back : (bytes : Bytes) (docs : List (List Line)) → reading bytes ≡ Ok docs → AllByRecursion ReadsBack docs

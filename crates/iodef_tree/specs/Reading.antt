@@ -9,7 +9,7 @@ use Rattle.serde_json.specs.Read.{read}
 use Rattle.json_pointer.specs.Text.{Bytes, Tokens}
 use Rattle.iodef_tree.specs.Tree.{Forest, lines}
 use Rattle.iodef_tree.specs.Values.{forest_of_data, nodes, first_at, is_not_whole, is_nested_class, is_too_deep}
-use Rattle.iodef_tree.specs.declared.TheConstants.{INCIDENT_LIMIT, LINE_LIMIT}
+use Rattle.iodef_tree.specs.declared.TheConstants.{REPORT_INCIDENT_LIMIT, LINE_LIMIT}
 use Rattle.iodef_tree.specs.declared.line.Line.{Line}
 use Rattle.iodef_tree.specs.declared.fault.ReadFault.{ReadFault}
 use Rattle.iodef_tree.specs.declared.fault.ReadFault.TheVariants.{NotJson, NotDocument, Missing, NotWhole, NestedClass, TooDeep, TooManyLines, NoMemory}
@@ -45,7 +45,7 @@ all_objects (json.item d ds) = is_some (as_object d) && all_objects ds
 
 -- whether the elements are objects, at least one and at most as many as the limit (RFC 8727 section 2.1)
 abbrev pub are_incidents : json.Items → Bool
-are_incidents ds = (nat_lt 0 (items_len ds) && nat_le (items_len ds) INCIDENT_LIMIT) && all_objects ds
+are_incidents ds = (nat_lt 0 (items_len ds) && nat_le (items_len ds) REPORT_INCIDENT_LIMIT) && all_objects ds
 
 -- these elements if they are Incidents by number and kind, else none
 abbrev pub if_incidents : json.Items → Option json.Items

@@ -3,7 +3,7 @@
 #![tactic(auto, using(crate::proofs::Proven::laws))]
 
 ghost use Rattle.std.specs.Prelude.{◌≡◌};
-ghost use Rattle.iodef_tree.specs.declared.TheConstants.{DEPTH_LIMIT, LINE_LIMIT, INCIDENT_LIMIT};
+ghost use Rattle.iodef_tree.specs.declared.TheConstants.{DEPTH_LIMIT, LINE_LIMIT, REPORT_INCIDENT_LIMIT};
 ghost use Rattle.iodef_tree.specs.Laws.{
   EntriesAreTheWalk,
   SiblingsStandApart,
@@ -71,5 +71,5 @@ pub fn readings_are_documents()
 pub fn limits_of_reading()
     ensures depth { DEPTH_LIMIT ≡ 32 }
     ensures lines { LINE_LIMIT ≡ 4096 }
-    ensures incidents { INCIDENT_LIMIT ≡ 16 }
+    ensures incidents { REPORT_INCIDENT_LIMIT ≡ 16 }
 {}

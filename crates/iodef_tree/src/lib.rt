@@ -56,4 +56,4 @@ pub const DEPTH_LIMIT: u32 = 32;
 pub const LINE_LIMIT: usize = 4096;
 
 /// How many Incidents a body may have.
-pub const INCIDENT_LIMIT: usize = 16;
+pub const REPORT_INCIDENT_LIMIT: usize = 16;

@@ -15,7 +15,7 @@ use crate::document::Document;
 use crate::fault::{ReadFault, Required};
 use crate::line_limit::room_left;
 use crate::unfit_values::{Sought, first_in, is_plain};
-use crate::{INCIDENT_LIMIT, LINE_LIMIT};
+use crate::{LINE_LIMIT, REPORT_INCIDENT_LIMIT};
 use json_pointer::Path;
 use serde_json::{Map, Value};
 use std::alloc::{AllocError, Global};
@@ -77,7 +77,7 @@ fn are_incidents(items: &Vec<Value>) -> bool
     if count == 0 {
         return false;
     }
-    if count > INCIDENT_LIMIT {
+    if count > REPORT_INCIDENT_LIMIT {
         return false;
     }
     all_are_objects(items)

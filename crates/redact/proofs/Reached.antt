@@ -135,7 +135,7 @@ module _ (gone : Tokens → Bool) (down : (q p : Tokens) → is_prefix q p ≡ t
           kept-lines : lines_of (filter keep (e ∷ before)) ≡ l ∷ lines_of (filter keep before)
           kept-lines = ap (λ t. lines_of (if t then e ∷ filter keep before else filter keep before)) kept-is
 
--- ---- a line that is dropped
+    -- ---- a line that is dropped
 
     module _ (goes : is_beyond o l.depth ≡ true) where
       pub gone-is : keep e ≡ false

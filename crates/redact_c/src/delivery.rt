@@ -1,6 +1,6 @@
 //! An answer, in the caller's bytes.
 ghost use Rattle.std.specs.Prelude.{◌≡◌, IfOk, IfErr};
-ghost use Rattle.redaction.specs.Faults.{number_of};
+ghost use Rattle.redaction.specs.Faults.{fault_number};
 ghost use Rattle.redact_c.specs.Delivery.{Placed};
 
 use redaction::Fault;
@@ -21,7 +21,7 @@ fn place(text: &[u8], out: &mut [u8], needed: &mut usize)
 pub(crate) fn deliver(answer: Result<Vec<u8>, Fault>, out: &mut [u8], needed: &mut usize) -> u32
     ensures placed { IfOk answer (λ v. Placed v.items needed.new out.old out.new) }
     ensures answered { IfOk answer (λ v. result ≡ 0) }
-    ensures numbered { IfErr answer (λ e. result ≡ number_of e) }
+    ensures numbered { IfErr answer (λ e. result ≡ fault_number e) }
     ensures uncounted { IfErr answer (λ e. needed.new ≡ 0) }
     ensures untouched { IfErr answer (λ e. out.new ≡ out.old) }
 {

@@ -7,38 +7,38 @@ use Rattle.redaction.specs.declared.fault.Fault.{Fault}
 use Rattle.redaction.specs.declared.fault.Fault.TheVariants.{NoMemory, ViewNotJson, DoubledMember, NotObject, UnknownMember, MissingMember, WrongKind, OutOfRange, BadPointer, BadMoment, SourceUnsaid, NotUtf8, NotJson, NotDocument, Missing, NotWhole, NestedClass, TooDeep, TooManyLines, BadMarking, NoIncident, NoClass, NothingVisible}
 
 -- the number of a fault: its place in the order, from 1 on
-abbrev pub number_of : Fault → ℕ
-number_of NoMemory = 1
+abbrev pub fault_number : Fault → ℕ
+fault_number NoMemory = 1
 -- of the view description
-number_of ViewNotJson = 2
-number_of DoubledMember = 3
-number_of NotObject = 4
-number_of UnknownMember = 5
-number_of MissingMember = 6
-number_of WrongKind = 7
-number_of OutOfRange = 8
-number_of BadPointer = 9
-number_of BadMoment = 10
-number_of SourceUnsaid = 11
+fault_number ViewNotJson = 2
+fault_number DoubledMember = 3
+fault_number NotObject = 4
+fault_number UnknownMember = 5
+fault_number MissingMember = 6
+fault_number WrongKind = 7
+fault_number OutOfRange = 8
+fault_number BadPointer = 9
+fault_number BadMoment = 10
+fault_number SourceUnsaid = 11
 -- of the question besides the view
-number_of NotUtf8 = 12
+fault_number NotUtf8 = 12
 -- of the report
-number_of NotJson = 13
-number_of NotDocument = 14
-number_of Missing = 15
-number_of NotWhole = 16
-number_of NestedClass = 17
-number_of TooDeep = 18
-number_of TooManyLines = 19
-number_of BadMarking = 20
+fault_number NotJson = 13
+fault_number NotDocument = 14
+fault_number Missing = 15
+fault_number NotWhole = 16
+fault_number NestedClass = 17
+fault_number TooDeep = 18
+fault_number TooManyLines = 19
+fault_number BadMarking = 20
 -- of both
-number_of NoIncident = 21
-number_of NoClass = 22
-number_of NothingVisible = 23
+fault_number NoIncident = 21
+fault_number NoClass = 22
+fault_number NothingVisible = 23
 
 -- the earlier of two faults; the first of two equal ones
 abbrev pub earlier : Fault → Fault → Fault
-earlier e f = if nat_lt (number_of f) (number_of e) then f else e
+earlier e f = if nat_lt (fault_number f) (fault_number e) then f else e
 
 -- the name of a fault
 abbrev pub name_of : Fault → Bytes

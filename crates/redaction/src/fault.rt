@@ -63,7 +63,7 @@ pub enum Fault {
 impl Fault {
     /// Returns the fault's number: its place in the order, from 1 on.
     pub fn number(self) -> u32
-        ensures { result ≡ spec.number_of self }
+        ensures { result ≡ spec.fault_number self }
     {
         match self {
             Fault::NoMemory => 1,
