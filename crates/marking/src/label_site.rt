@@ -49,6 +49,7 @@ pub fn site<'a>(
     requires { first_bad_marking (located document.now) ≡ None }
     ensures { Sites result (located document.now) path.now }
 {
+    // The paths are copied by `Path::clone`, which takes the global allocator by itself.
     let _ = alloc;
     if document.class(path).is_none() {
         return Err(SiteFault::NoClass);
