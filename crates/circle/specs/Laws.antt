@@ -19,7 +19,7 @@ StaysSound = (d : Directory) (actor : Person) (command : CircleCommand) → IsSo
 abbrev pub OwnersStay : Type 0
 OwnersStay = (d : Directory) (actor : Person) (command : CircleCommand) → OwnersExtend d → OwnersExtend (state_after d actor command)
 
--- The directory without a row is sound, and so are the owners of its groups.
+-- The directory without a row is sound, and the owner of each of its groups stays a member that may extend it.
 abbrev pub EmptyIsSound : Type 0
 EmptyIsSound = IsSound empty × OwnersExtend empty
 

@@ -35,11 +35,11 @@ IsNumberedBehind before (leaf i rest) = (is_numbered before i.name i.place ≡ t
 IsNumberedBehind before (branch name place kids rest) =
     (is_numbered before name place ≡ true) × IsNumberedBehind None kids × IsNumberedBehind (Some (name, place)) rest
 
--- the same for a tree before which there is no sibling
+-- each member of a tree, at any depth, may follow the one before it, and the first may be the first of a class
 abbrev pub IsNumbered : Forest → Type 0
 IsNumbered f = IsNumberedBehind None f
 
--- the same for the members of a class; a plain content has none
+-- each member of a class, at any depth, may follow the one before it; a plain content has no member
 abbrev pub IsBodyNumbered : Body → Type 0
 IsBodyNumbered (holds f) = IsNumbered f
 IsBodyNumbered (says c) = Unit {0}

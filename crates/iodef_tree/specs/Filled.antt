@@ -18,12 +18,13 @@ item_filled (Item-F.Class inside) = inside
 item_filled (Item-F.Text s) = true
 item_filled (Item-F.Value s) = true
 
--- the same for a member; its own array must have an element
+-- whether a member's own array, if it has one, has an element, and no array inside it is empty, given the answers for
+-- what is inside it
 abbrev pub member_filled : Member-F Bool Bool Bool → Bool
 member_filled (Member-F.One inside) = inside
 member_filled (Member-F.Many v) = has_some v.items && list_all (λ inside. inside) v.items
 
--- the same for an object, from the answers for its members
+-- whether no array in an object is empty, given the answers for its members
 abbrev pub object_filled : Object-F Bool Bool Bool → Bool
 object_filled o = list_all (λ m. m.1) o.members.items
 

@@ -66,6 +66,6 @@ zeroth _ = None
 abbrev pub id_in : Data → Option Data
 id_in d = option_and_then (get (codes "IncidentID")) (option_and_then zeroth (get (codes "Incident") d))
 
--- the same as compact JSON, of the lines of a document
+-- the `IncidentID` of the document with these lines, as compact JSON; none if it has none
 abbrev pub incident_id : List Line → Option Bytes
 incident_id ls = option_map compact_text (id_in (json.object (data_of ls)))

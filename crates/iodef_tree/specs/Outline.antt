@@ -65,7 +65,7 @@ is_outline ls = is_outline_after [] ls
 
 -- ---- the same from the newest line back, as a caller reads them one at a time
 
--- the same for lines of which the newest is first
+-- whether lines, of which the newest is first, are the outline of a document (RFC 8727 section 2)
 abbrev pub is_outline_back : List Line → Bool
 is_outline_back [] = true
 is_outline_back (l ∷ before) = may_come before l && is_outline_back before

@@ -40,7 +40,7 @@ entry_at parent place l = record { parent = parent; path = parent ++ steps l.nam
 abbrev pub placed : List LocatedLine → Line → LocatedLine
 placed before l = entry_at (parent_path before l.depth) (place_of l.in_array (place_among before l.depth l.name)) l
 
--- the same for each of a list of lines, behind others
+-- each line of a list with its path and its parent's path, behind the lines given first, of which the newest is first
 abbrev pub located_after : List LocatedLine → List Line → List LocatedLine
 located_after before [] = []
 located_after before (l ∷ ls) = let e = placed before l in e ∷ located_after (e ∷ before) ls

@@ -39,8 +39,7 @@ IsOrderedBehind before (leaf i rest) = (may_stand before i.name i.place ≡ true
 IsOrderedBehind before (branch name place kids rest) =
     (may_stand before name place ≡ true) × IsOrderedBehind None kids × IsOrderedBehind (Some (name, place)) rest
 
--- The same for a whole tree: names ascend in byte order and the elements of an array are numbered from 0, in each
--- class.
+-- in each class of a tree, names ascend in byte order and the elements of an array are numbered from 0
 abbrev pub IsOrdered : Forest → Type 0
 IsOrdered f = IsOrderedBehind None f
 

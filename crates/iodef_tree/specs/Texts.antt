@@ -41,7 +41,7 @@ may_be_value in_array (json.string s) = false
 may_be_value in_array (json.array ds) = (is_empty ds || in_array) && is_plain DEPTH_LIMIT (json.array ds)
 may_be_value in_array (json.object ms) = false
 
--- whether a text is the compact JSON of such a value
+-- whether a text is the compact JSON of a value that a plain line may hold, in an array or not
 abbrev pub is_value_text : Bool → Bytes → Bool
 is_value_text in_array s = option_map_or (λ d. may_be_value in_array d && bytes_eq (compact_text d) s) (read s) false
 

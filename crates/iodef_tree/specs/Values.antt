@@ -47,7 +47,7 @@ pub record Surrounded : Type 0 where
   pub arrays : ℕ
   pub value : Data
 
--- such a value with its pointer (RFC 6901)
+-- a value, with what is around it, and its pointer (RFC 6901)
 pub record Node : Type 0 where
   pub pointer : Tokens
   pub seen : Surrounded
@@ -56,7 +56,7 @@ pub record Node : Type 0 where
 abbrev pub node : ℕ → ℕ → Data → Node
 node objects arrays d = record { pointer = []; seen = record { objects = objects; arrays = arrays; value = d } }
 
--- the same values, with their pointers from one token above
+-- values with their pointers from one token above: the token comes first in each
 abbrev pub beneath : Bytes → List Node → List Node
 beneath token [] = []
 beneath token (n ∷ ns) = record { pointer = token ∷ n.pointer; seen = n.seen } ∷ beneath token ns

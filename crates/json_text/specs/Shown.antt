@@ -11,6 +11,6 @@ abbrev pub shown_byte : Within → ℕ → List ℕ
 shown_byte Text = escape_byte
 shown_byte Token = λ byte. escape (escaped_byte byte)
 
--- how a JSON string holds a list of such bytes
+-- how a JSON string holds a list of bytes: of its text, or of a reference token of the pointer that is its text
 abbrev pub shown_bytes : Within → List ℕ → List ℕ
 shown_bytes within bytes = flat_map (shown_byte within) bytes

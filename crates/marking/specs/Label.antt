@@ -95,7 +95,7 @@ restriction_of red = codes "red"
 restriction_of by_arrangement = codes "default"
 restriction_of (extended text) = codes "ext-value"
 
--- the same; for an extended label followed by a space and its text
+-- the value of `restriction` for a label; for an extended label a space and its text follow
 abbrev pub text_of : LabelValue → Bytes
 text_of (extended text) = codes "ext-value " ++ text
 text_of m = restriction_of m

@@ -38,7 +38,7 @@ colleague = record anybody { source = true; community = true; peer = true }
 abbrev pub neighbour : Standing
 neighbour = record anybody { community = true; peer = true }
 
--- the same, but the incident names a community that the organisation isn't in
+-- a reader whose organisation is in one community with the source; the incident names another, which it isn't in
 abbrev pub unnamed : Standing
 unnamed = record anybody { community = true }
 
@@ -66,7 +66,7 @@ nominated_partner = record anybody { nominated = true; addressed = true }
 abbrev pub nominated_client : Standing
 nominated_client = record anybody { nominated = true; client = true }
 
--- the same reader, with whose organisation the source arranged this handling
+-- a reader, with whose organisation the source now has arranged this handling
 abbrev pub arranged_at : Handling → Standing → Standing
 arranged_at h s = record s { arrangement = Some h }
 
@@ -101,7 +101,7 @@ behind gates = case_of (gate_at [] 3 None ∷ gates) []
 abbrev pub for_organisation : ℕ → List Permission
 for_organisation n = record { path = event_path; grantee = Org n; until = None } ∷ []
 
--- a case with such a permission and a root gate that everybody passes
+-- a case with a permission at the EventData for an organisation, without an end; everybody passes its root gate
 abbrev pub shared_with : ℕ → Case
 shared_with n = case_of (gate_at [] 3 None ∷ []) (for_organisation n)
 

@@ -64,7 +64,7 @@ class_step c s h p written = record {
   covered = (h.covered && is_none written) || is_granted c s p;
 }
 
--- one token further down, by the token: the refusal
+-- the refusal one token further down, by the token
 abbrev pub approach_below : Case → Standing → Approach → Bytes → Approach
 approach_below c s a token = approach_step c s a (a.path ++ token ∷ [])
 

@@ -53,6 +53,7 @@ permissions_but p permissions = filter (λ x. not (is_prefix p x.path)) permissi
 -- ---- what a reader is served
 
 module _ (s : Standing) where
+  -- whether the class at a path is visible to the reader
   abbrev pub sees : Report → Tokens → Bool
   sees a p = is_visible (located a.lines) a.case s p
 

@@ -33,7 +33,7 @@ abbrev pub put : Line → List Line → List Line
 put x [] = x ∷ []
 put x (e ∷ es) = if stands_before x e then x ∷ e ∷ es else e ∷ put x es
 
--- the same with several members
+-- the lines behind that of a class, with several members put at their places in name order
 abbrev pub put_all : List Line → List Line → List Line
 put_all [] es = es
 put_all (x ∷ xs) es = put x (put_all xs es)

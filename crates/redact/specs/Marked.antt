@@ -25,7 +25,7 @@ brief_text t =
     else if is_some (spelled t (Some [])) then restriction.Extended
     else restriction.Other
 
--- the same of a line outside arrays, by its kind
+-- what a line outside arrays with the name `restriction` is, by its kind and its text
 abbrev pub brief_kind : Kind → Bytes → Restriction
 brief_kind kind.Class t = restriction.Other
 brief_kind kind.Text t = brief_text t
@@ -45,12 +45,12 @@ extension_kind kind.Value = extension.Other
 abbrev pub extension_brief : Line → Extension
 extension_brief l = if l.in_array then extension.Other else extension_kind l.kind
 
--- the first line of a name counts: a later one changes nothing
+-- what a class holds as `restriction` after one more line of this name: the first counts, a later one changes nothing
 abbrev pub first_restriction : Restriction → Restriction → Restriction
 first_restriction restriction.Absent r = r
 first_restriction r r' = r
 
--- the same for `ext-restriction`
+-- what a class holds as `ext-restriction` after one more line of this name: the first counts
 abbrev pub first_extension : Extension → Extension → Extension
 first_extension extension.Absent e = e
 first_extension e e' = e
@@ -79,7 +79,7 @@ are_fine restriction.Label extension.Text = true
 are_fine restriction.Extended extension.Text = true
 are_fine r e = false
 
--- the same for what is kept of a class
+-- whether a class of which this is kept keeps the marking rule, if no more members come
 abbrev pub is_fine : Marking → Bool
 is_fine m = are_fine m.restriction m.extension
 
@@ -90,7 +90,7 @@ pub record Markings : Type 0 where
   pub classes : List Marking
   pub broken : Bool
 
--- the same of the program's `Marks`
+-- the open classes, and whether a closed one breaks the marking rule, of the program's `Marks`
 abbrev pub marks_of : Marks → Markings
 marks_of m = record { classes = m.classes.items; broken = m.broken }
 

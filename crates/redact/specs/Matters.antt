@@ -21,6 +21,7 @@ module _ (c : Case) (s : Standing) where
   abbrev pub matters : LocatedLine → Bool
   matters e = not (is_refused e.parent)
 
+  -- the lines of a document that matter for the reader, in their order
   abbrev pub lines_that_matter : List Line → List Line
   lines_that_matter ls = map (λ e. e.line) (filter matters (located ls))
 

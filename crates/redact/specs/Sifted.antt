@@ -52,7 +52,7 @@ went_on ss l = take (l.depth - 1) ss ++ step_of ss l ∷ []
 abbrev pub stands : Tokens → Step → Tokens → Bool
 stands p s q = is_root q || (same_path q (p ++ s.name ∷ []) || same_path q (p ++ step_tokens s))
 
--- whether a gate at such a path refuses the reader
+-- whether a gate at the path of the root, of that step, or of the array around it refuses the reader
 abbrev pub stops : Standing → Tokens → Step → Gate → Bool
 stops r p s g = stands p s g.path && is_some (refusal_of_gate r g)
 
@@ -107,7 +107,7 @@ abbrev pub is_beyond : Option ℕ → ℕ → Bool
 is_beyond None d = false
 is_beyond (Some k) d = nat_lt k d
 
--- the depth of a line if it is that of such a class, else none
+-- the depth of a line if it is that of a class at which a gate refuses the reader, else none
 abbrev pub shut_by : Bool → ℕ → Option ℕ
 shut_by t d = if t then Some d else None
 
@@ -117,17 +117,18 @@ abbrev pub DeepAs : Option ℕ → List Line → List Line → Type 0
 DeepAs None before kept = deepest kept ≡ deepest before
 DeepAs (Some k) before kept = deepest kept ≡ suc k
 
--- The lines below some paths are dropped.
+-- The lines in a class whose path is gone are dropped.
 module _ (gone : Tokens → Bool) where
+  -- whether a line stays: the path of the class that it is in isn't gone
   abbrev pub stays : LocatedLine → Bool
   stays e = not (gone e.parent)
 
-  -- whether the line is that of a class at such a path
+  -- whether a line is that of a class whose path is gone, so that the lines below it are dropped
   abbrev pub is_shutting : LocatedLine → Bool
   is_shutting e = is_class e && gone e.path
 
   -- What is known of earlier lines, of which the newest is first, and of those that stay. If the newest of these is
-  -- the class at such a path, its depth says whether the next line is below it. The lines that stay are an outline.
+  -- a class whose path is gone, its depth says whether the next line is below it. The lines that stay are an outline.
   pub record Reach (before : List LocatedLine) (o : Option ℕ) : Type 0 where
     pub beyond : (d : ℕ) → d ≤ deepest (lines_of before) → gone (parent_path before d) ≡ is_beyond o d
     pub deep : DeepAs o (lines_of before) (lines_of (filter stays before))

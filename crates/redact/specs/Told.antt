@@ -84,6 +84,7 @@ pub record Told : Type 0 where
   pub classes : ℕ
 
 module _ (ls : List Line) (c : Case) (s : Standing) where
+  -- whether a line is that of a visible class
   abbrev pub is_seen_class : LocatedLine → Bool
   is_seen_class e = is_class e && is_visible (located ls) c s e.path
 

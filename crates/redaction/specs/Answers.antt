@@ -62,7 +62,7 @@ document_text report description = do
 abbrev pub word_of : Bytes → Read Bytes
 word_of bytes = if is_utf8 bytes then Ok bytes else Err NotUtf8
 
--- the same of bytes that may be missing
+-- bytes, if there are any, that are a text in UTF-8, else NotUtf8
 abbrev pub some_word_of : Option Bytes → Read (Option Bytes)
 some_word_of None = Ok None
 some_word_of (Some bytes) = word_of bytes >>= λ text. Ok (Some text)

@@ -234,7 +234,7 @@ view_at now incident c s =
 abbrev pub view_by : (Unit {0} × (ℤ × ℕ)) × (Case × Standing) → Read View
 view_by parts = view_at parts.0.1.0 parts.0.1.1 parts.1.0 parts.1.1
 
--- the same, if all of these were read
+-- the view of parts that may not have been read; the first fault if one wasn't
 abbrev pub view_read : Read ((Unit {0} × (ℤ × ℕ)) × (Case × Standing)) → Read View
 view_read parts = parts >>= view_by
 

@@ -18,11 +18,11 @@ class_at (leaf i rest) p = option_map_or (λ r. None) (past (steps i.name i.plac
 class_at (branch name place kids rest) p =
     option_map_or (λ r. if is_root r then Some kids else class_at kids r) (past (steps name place) p) (class_at rest p)
 
--- the same with the root, whose path is empty
+-- the members of the class at a path, among these members and all below them; the empty path is that of the root
 abbrev pub object_at : Forest → Tokens → Option Forest
 object_at f p = if is_root p then Some f else class_at f p
 
--- the same from one thing on: a plain content has no class
+-- the members of the class at a path that starts at one thing; a plain content has no class
 abbrev pub object_in : Body → Tokens → Option Forest
 object_in (holds kids) p = object_at kids p
 object_in (says content) p = None

@@ -10,12 +10,13 @@ pub record IsKept (f : Forest) : Type 0 where
   pub ordered : IsOrdered f
   pub texts : HasTexts f
 
--- the same for one thing, which may be an element of an array
+-- the members of a class are ordered, and their texts are those that lines may have; the text of a plain content is one
+-- that a line may have, in an array or not
 abbrev pub IsBodyKept : Bool → Body → Type 0
 IsBodyKept in_array (holds kids) = IsKept kids
 IsBodyKept in_array (says content) = may_be_text (kind_of content) in_array (text_of content) ≡ true
 
--- the same for what a member holds
+-- each thing that a member holds is kept, as the one thing or as an element of the array
 abbrev pub AreKept : Bodies → Type 0
 AreKept (one b) = IsBodyKept false b
 AreKept (many bs) = AllByRecursion (IsBodyKept true) bs

@@ -19,7 +19,8 @@ bad_below (leaf i rest) = bad_below rest
 bad_below (branch name place kids rest) =
     option_or (option_map (λ t. steps name place ++ t) (if is_rule_kept_in kids then bad_below kids else Some [])) (bad_below rest)
 
--- the same for one thing; a class itself counts too
+-- the tokens from a class down to the first class that breaks the marking rule, of itself and those below it; a plain
+-- content has none
 abbrev pub bad_in_body : Body → Option Tokens
 bad_in_body (holds kids) = if is_rule_kept_in kids then bad_below kids else Some []
 bad_in_body (says content) = None

@@ -16,9 +16,11 @@ module _ (c : Case) (s : Standing) where
   enter h name None written = enter_class c s h name written
   enter h name (Some k) written = enter_class c s (enter_array c s h name) (decimal k) written
 
+  -- how a class is judged by what holds at its path and by whether a label is written in it
   abbrev pub judgment_by : Inherited → Option LabelValue → Judgment
   judgment_by k written = record { visible = is_seen s k; unmarked = is_none written; label = attributes_of k.label; rule = hides s k }
 
+  -- the members of a class, and all below them, each class with its judgment; h is what the class inherits
   abbrev pub pass : Inherited → Forest → Judged
   pass h end = none
   pass h (leaf i rest) = plain i (pass h rest)

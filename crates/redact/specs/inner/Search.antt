@@ -15,25 +15,28 @@ use Rattle.redact.specs.declared.search.Asked.TheVariants.{Anything, Holding}
 -- ---- texts that contain the needle
 
 module _ (needle : Bytes) where
+  -- whether a plain content is a text with the needle
   abbrev pub content_hits : Content → Bool
   content_hits (text t) = has_needle needle t
   content_hits (value t) = false
 
+  -- whether one thing is a text with the needle; a class is none
   abbrev pub body_hits : Body → Bool
   body_hits (holds kids) = false
   body_hits (says content) = content_hits content
 
+  -- whether a member holds a text with the needle directly, as the one thing or as an element of the array
   abbrev pub bodies_hit : Bodies → Bool
   bodies_hit (one b) = body_hits b
   bodies_hit (many bs) = list_any body_hits bs
 
-  -- a class with these members directly holds such a text
+  -- a class with these members directly holds a text with the needle
   abbrev pub members_hit : Forest → Bool
   members_hit end = false
   members_hit (leaf i rest) = content_hits i.content || members_hit rest
   members_hit (branch name place kids rest) = members_hit rest
 
--- a class of this name, if one is given, that directly holds such a text
+-- a class of this name, if one is given, that directly holds a text with the needle
 abbrev pub holds_text : Bytes → Option Bytes → Bytes → Forest → Bool
 holds_text needle class name kids = is_named class name && members_hit needle kids
 

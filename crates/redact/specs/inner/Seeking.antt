@@ -33,12 +33,12 @@ use Rattle.redact.specs.Probed.{InEach, IsSure}
 
 -- ---- what is wanted
 
--- the same by the needle and the class of a want
+-- whether a class of this name is wanted, by the needle and the class of a want; without a needle each is
 abbrev pub wants_name_by : Option Bytes → Option Bytes → Bytes → Bool
 wants_name_by None class name = true
 wants_name_by (Some needle) class name = is_named class name
 
--- whether a class of this name is wanted; without a needle each is
+-- whether a want asks for a class of this name; without a needle each is
 abbrev pub wants_name : Want → Bytes → Bool
 wants_name w name = wants_name_by (option_map string_bytes w.needle) (option_map string_bytes w.class) name
 
@@ -51,12 +51,12 @@ wants_line_by (Some needle) l = is_hit needle l
 abbrev pub wants_line : Want → Line → Bool
 wants_line w l = wants_line_by (option_map string_bytes w.needle) l
 
--- whether the class at the path directly holds such a text, if a needle is wanted
+-- whether the class at the path directly holds a text with the needle, if there is a needle
 abbrev pub holds_wanted_by : Option Bytes → List LocatedLine → Tokens → Bool
 holds_wanted_by None es p = true
 holds_wanted_by (Some needle) es p = holds_needle es needle p
 
--- the same by a want
+-- whether the class at the path directly holds a text that is wanted; without a needle each does
 abbrev pub holds_wanted : Want → List LocatedLine → Tokens → Bool
 holds_wanted w es p = holds_wanted_by (option_map string_bytes w.needle) es p
 
@@ -97,7 +97,7 @@ is_cleared_sight sight.Unsure = false
 
 -- ---- a permission that shows the class where it is, whatever label is written in the class
 
--- it holds for the reader, and no gate at its path or above refuses the reader
+-- a permission holds for the reader, and no gate at its path or above refuses the reader
 abbrev pub permits : Case → Standing → Permission → Bool
 permits c s x = holds_for s x && not (list_any (refuses_on s x.path) c.gates)
 
@@ -105,7 +105,7 @@ permits c s x = holds_for s x && not (list_any (refuses_on s x.path) c.gates)
 abbrev pub some_permits : Case → Standing → Bool
 some_permits c s = list_any (permits c s) c.permissions
 
--- whether such a permission is at the path
+-- whether a permission that surely shows the class where it is has this very path
 abbrev pub is_permitted : Case → Standing → Tokens → Bool
 is_permitted c s p = list_any (λ x. same_path x.path p && permits c s x) c.permissions
 
@@ -126,7 +126,7 @@ abbrev pub beside_by : Standing → Option Bytes → Beside
 beside_by s None = beside.Other
 beside_by s (Some t) = if is_cleared_for s (extended t) then beside.Cleared else beside.Other
 
--- the first line named `ext-restriction` counts
+-- what a class holds as `ext-restriction` after one more line of this name: the first counts
 abbrev pub first_beside : Standing → Line → Beside → Beside
 first_beside s l beside.Absent = beside_by s (plain_text l)
 first_beside s l beside.Cleared = beside.Cleared
@@ -136,7 +136,7 @@ first_beside s l beside.Other = beside.Other
 abbrev pub beside_with : Standing → Line → Beside → Beside
 beside_with s l x = if bytes_eq l.name (codes "ext-restriction") then first_beside s l x else x
 
--- whether that is a text that clears the reader
+-- whether what a class holds as `ext-restriction` is a text that clears the reader
 abbrev pub is_cleared_beside : Beside → Bool
 is_cleared_beside beside.Absent = false
 is_cleared_beside beside.Cleared = true
@@ -152,7 +152,7 @@ is_cleared_by s x r (Some m) = is_cleared_for s m
 abbrev pub is_cleared_text : Standing → Beside → Bytes → Bool
 is_cleared_text s x r = is_cleared_by s x r (spelled r None)
 
--- the same; false if there is no text
+-- whether a text as `restriction`, if there is one, spells a label for which the reader is cleared; false without one
 abbrev pub is_cleared_if : Standing → Beside → Option Bytes → Bool
 is_cleared_if s x None = false
 is_cleared_if s x (Some r) = is_cleared_text s x r
