@@ -37,7 +37,7 @@ fn before<'a>(path: &'a [Text], step: &Step) -> Option<&'a [Text]>
         option_map_or (λ r. same_path r.now z) result false ≡
         same_path path.now (z ++ step_tokens step.now) }
 {
-    // The place in the array is compared first: it tells the elements of one array apart at once.
+    // The place in the array is compared first, as two elements of one array differ in it.
     if !step.in_array {
         return before_name(path, step.name.as_str());
     }
