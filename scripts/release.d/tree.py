@@ -6,6 +6,7 @@ import hashlib
 import pathlib
 import re
 import subprocess
+import sys
 from collections.abc import Iterable
 from typing import Any
 
@@ -66,8 +67,8 @@ class Tree:
         within = (it for it in (self.folder / "crates").rglob("*") if "must-fail" not in it.parts)
         return self.digest([self.folder / "HANDLES", self.folder / "crates.txt", *within])
 
-    def definitions(self, crate: str = "*") -> dict[str, Any]:
-        return self.digest((self.folder / "crates").glob(f"{crate}/specs/**/*"))
+    def definitions(self) -> dict[str, Any]:
+        return self.digest((self.folder / "crates").glob("*/specs/**/*"))
 
     def crates(self) -> dict[str, list[str]]:
         """Each crate with the libraries that it uses, of the repository and of the kit."""
@@ -112,7 +113,7 @@ class Tree:
             "definitions": self.definitions(),
             "gate": self.gate(log),
             "kit": self.kit_line(),
-            "policy": self.definitions("policy"),
+            "policy": {"sha256": subprocess.check_output([sys.executable, "scripts/check-docs", "--policy-digest"], cwd=self.folder, text=True).strip()},
             "programs": programs,
             "sources": self.sources(),
             "version": version,
