@@ -1,25 +1,25 @@
-//! The lines of the table, their words apart by bars.
+//! The lines of the table, with bars between their words.
 //!
 //! A block of requests, with an empty line behind it, is a list: one request a line, WHO|REQUEST|FIELD|FIELD.. as in
-//! `hub_cases`. The first block sets up the organisations, persons and groups, and its requests come before those of each
-//! later block. Any other line is a case by itself, or sets something up:
+//! `hub_cases`. The first block sets up the organisations, persons and groups, and its requests come before those of
+//! each later block. Any other line is a case by itself, or sets something up:
 //!
 //!     read|BODY                                    the documents of a body, and their texts
 //!     made|BODY                                    the document of the lines of the body's last one, and its text
-//!     report|BODY                                  reads the report that the lines behind ask of, and checks its markings
+//!     report|BODY                                  reads the report for the lines behind, and checks its markings
 //!     excerpt|STANDING|GATES|PERMISSIONS           what the reader is served of it
 //!     pass|STANDING|GATES|PERMISSIONS              the same by its lines, one at a time
 //!     listed|STANDING|GATES|PERMISSIONS            whether it is listed to the reader
-//!     find|STANDING|GATES|PERMISSIONS|NEEDLE|CLASS whether the reader finds the needle in it; in classes of a name, if any
-//!     probe|STANDING|GATES|PERMISSIONS|NEEDLE|CLASS the same by its lines, one at a time; without a needle whether it is listed
+//!     find|STANDING|GATES|PERMISSIONS|NEEDLE|CLASS whether the reader finds the needle in it, or in classes of a name
+//!     probe|STANDING|GATES|PERMISSIONS|NEEDLE|CLASS the same by its lines; without a needle whether it is listed
 //!     explain|STANDING|GATES|PERMISSIONS|POINTER   why the reader sees the class or doesn't
 //!     before|BYTES                                 a request that a hub is asked before those of the lines behind
 //!     asked|BYTES                                  what the bytes ask
 //!     served|BYTES                                 a connection
 //!
-//! The hub that is asked by bytes begins with organisation 1 and its administrator, whose key is `abc`. In bytes `\n` stands
-//! for CR and LF; there and in bodies that are read or made `<3*ab>` stands for `ababab`. `words` of `trying_policy` tells how
-//! standings, gates and permissions are written.
+//! The hub that is asked by bytes begins with organisation 1 and its administrator, whose key is `abc`. In bytes `\n`
+//! means CR and LF. In bytes and in bodies that are read or made, `<3*ab>` means `ababab`. `words` of `trying_policy`
+//! says how standings, gates and permissions are written.
 
 use crate::documents::{Making, Reading};
 use crate::lists::{InLists, InTables, List};
@@ -61,7 +61,7 @@ impl Cases {
         }
     }
 
-    /// What is printed for one more line; none where it is one of a block.
+    /// Returns what is printed for one more line, or none if the line is part of a block.
     pub fn told_of(&mut self, line: &str) -> Result<Option<String>, AllocError> {
         if line.is_empty() {
             return self.end_block();
@@ -128,7 +128,7 @@ impl Cases {
         Ok(self.sweep.report(alloc, &Seeking { report, words })?)
     }
 
-    /// Asks a request that comes before later ones. Told is the body of its reply.
+    /// Asks a request that comes before later ones. Returns the body of its reply.
     fn before(&mut self, line: &str) -> Result<String, Unfit> {
         let alloc = self.alloc;
         let bytes = bytes_of(alloc, line)?;
@@ -159,7 +159,7 @@ impl Cases {
         }
     }
 
-    /// Runs the list of a block, over both shelves; of the first block nothing is printed.
+    /// Runs the list of a block over both shelves. Returns none for the first block, for which nothing is printed.
     fn end_block(&mut self) -> Result<Option<String>, AllocError> {
         let alloc = self.alloc;
         if self.block.is_empty() {

@@ -1,4 +1,4 @@
-//! What a hub has, as its callers see it.
+//! The content of a hub, as its callers read it.
 
 use crate::requests::MOMENT;
 use hub::{Hub, Key};
@@ -35,7 +35,7 @@ fn push_told<Sh: Shelf>(
     Ok(())
 }
 
-/// All that those with these keys are told of themselves, and of each incident.
+/// Returns the replies to the persons with these keys, about themselves and about each incident.
 pub fn content<Sh: Shelf>(
     alloc: Global,
     hub: &mut Hub<Sh>,

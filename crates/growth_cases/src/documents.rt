@@ -1,4 +1,4 @@
-//! Documents that are read, and made of their lines.
+//! Documents that are read, and documents that are made of their lines.
 
 use crate::heap::{arm, disarm};
 use crate::sweep::{Met, Trial};
@@ -6,7 +6,7 @@ use iodef_tree::{Document, Line, OutlineFault, ReadFault};
 use std::alloc::{AllocError, Global};
 use trying_policy::Unfit;
 
-/// What a run met whose call gave this answer; the heap isn't armed any more.
+/// Returns the outcome of a run whose call gave this answer. Disarms the heap.
 pub fn met(alloc: Global, answer: Result<String, Unfit>) -> Result<Met, AllocError> {
     let refused = disarm(alloc);
     let told = match answer {
@@ -23,7 +23,7 @@ pub struct Reading<'a> {
     pub body: &'a str,
 }
 
-/// The texts of the documents, with a bar between them.
+/// Returns the texts of the documents, with a bar between them.
 fn texts(alloc: Global, documents: &[Document]) -> Result<String, Unfit> {
     let mut all = String::new(alloc);
     for document in documents {
@@ -58,7 +58,7 @@ pub struct Making {
 }
 
 impl Making {
-    /// The lines of the last document of a body.
+    /// Takes the lines of the last document of a body.
     pub fn of(alloc: Global, body: &str) -> Result<Making, Unfit> {
         let Ok(mut documents) = Document::read(alloc, body.as_bytes()) else {
             return Err(Unfit::NoCase);
@@ -70,7 +70,7 @@ impl Making {
     }
 }
 
-/// The text of the document with these lines.
+/// Returns the text of the document with these lines.
 fn write_document(alloc: Global, lines: &[Line]) -> Result<String, Unfit> {
     match Document::from_outline(alloc, lines) {
         Ok(document) => Ok(document.text(alloc)?),

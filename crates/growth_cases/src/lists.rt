@@ -11,12 +11,12 @@ use hub_core::{Reply, Shelf};
 use hub_http::reply_bytes;
 use std::alloc::{AllocError, Global};
 
-/// What is due of a list.
+/// The answers that are due for a list.
 #[derive(Drop)]
 struct Due {
     /// The bytes of each reply.
     replies: Vec<Vec<u8>>,
-    /// What the hub has in the end.
+    /// The content of the hub in the end.
     content: Vec<u8>,
 }
 
@@ -26,9 +26,10 @@ pub struct List<'a> {
     world: &'a [Asked],
     own: &'a [Asked],
     keys: Vec<Key>,
-    /// What is due where nothing is given up, and behind it where the first request is, the second, and so on.
+    /// What is due if nothing is given up; after it, what is due if the first request is given up, the second, and so
+    /// on.
     due: Vec<Due>,
-    /// What is due where the list isn't run.
+    /// What is due if the list isn't run.
     unrun: Due,
 }
 
@@ -44,7 +45,7 @@ pub struct InTables<'a> {
     pub list: &'a List<'a>,
 }
 
-/// Whether the request was given up for want of memory.
+/// Returns whether the request was given up for want of memory.
 fn is_given_up(reply: &Reply) -> bool {
     match reply {
         Reply::Refused(refusal) => refusal.code == Code::F2,
@@ -52,7 +53,7 @@ fn is_given_up(reply: &Reply) -> bool {
     }
 }
 
-/// The bytes of each reply of a hub in memory, which isn't asked one of the requests.
+/// Returns the bytes of each reply of a hub in memory, which isn't asked one of the requests.
 fn replies_but<Sh: Shelf>(
     alloc: Global,
     hub: &mut Hub<Sh>,
@@ -71,7 +72,7 @@ fn replies_but<Sh: Shelf>(
     Ok(all)
 }
 
-/// What is due where one of the requests is given up; none where the world isn't made.
+/// Returns what is due if one of the requests is given up, or none if the world isn't made.
 fn due_but(
     alloc: Global,
     world: &[Asked],
@@ -86,7 +87,7 @@ fn due_but(
     Ok(Some(Due { replies, content }))
 }
 
-/// What is due where nothing is given up, and where each request is.
+/// Returns what is due if nothing is given up, and what is due if each request is.
 fn all_due(alloc: Global, world: &[Asked], own: &[Asked]) -> Result<Option<Vec<Due>>, AllocError> {
     let mut all = Vec::new(alloc);
     for place in 0..own.len().saturating_add(1) {
@@ -98,7 +99,7 @@ fn all_due(alloc: Global, world: &[Asked], own: &[Asked]) -> Result<Option<Vec<D
     Ok(Some(all))
 }
 
-/// The place of the first reply that isn't the one that is due.
+/// Returns the place of the first reply that isn't the one that is due.
 fn first_not_due(alloc: Global, replies: &[Reply], due: &Due) -> Result<Option<usize>, AllocError> {
     if replies.len() != due.replies.len() {
         return Ok(Some(replies.len()));
@@ -111,14 +112,14 @@ fn first_not_due(alloc: Global, replies: &[Reply], due: &Due) -> Result<Option<u
     Ok(None)
 }
 
-/// What is told where nothing is wrong.
+/// Returns what is printed if nothing is wrong.
 fn right(alloc: Global, replies: &[Reply]) -> Result<String, AllocError> {
     let count = replies.len();
     format!(in alloc; "{count} replies")
 }
 
 impl<'a> List<'a> {
-    /// The list, and what is due; none where the world isn't made.
+    /// Makes the list and what is due for it. Returns none if the world isn't made.
     pub fn of(
         alloc: Global,
         world: &'a [Asked],
@@ -139,7 +140,7 @@ impl<'a> List<'a> {
         }))
     }
 
-    /// What is due behind these replies, by the first that was given up.
+    /// Returns what is due after these replies, by the first that was given up.
     fn due_behind(&self, replies: &[Reply]) -> Option<&Due> {
         match replies.iter().position(is_given_up) {
             Some(place) => self.due.get(place.saturating_add(1)),
@@ -147,7 +148,7 @@ impl<'a> List<'a> {
         }
     }
 
-    /// What is wrong with these replies and with what the hub has behind them; none where nothing is.
+    /// Returns what is wrong with these replies and with the hub's content after them, or none if nothing is.
     fn fault<Sh: Shelf + Drop>(
         &self,
         alloc: Global,
@@ -185,7 +186,7 @@ impl<'a> List<'a> {
         Ok(Met { refused, told })
     }
 
-    /// What is told of a list that was run; none where a request was given up and no growth refused.
+    /// Returns what is printed for a list that was run, or none if a request was given up and no growth refused.
     fn judge<Sh: Shelf + Drop>(
         &self,
         alloc: Global,
@@ -206,7 +207,7 @@ impl<'a> List<'a> {
     }
 }
 
-/// What a run met before which the world wasn't made.
+/// Returns the outcome of a run before which the world wasn't made.
 fn no_world(alloc: Global) -> Result<Met, AllocError> {
     Ok(Met {
         refused: false,

@@ -1,16 +1,38 @@
-//! `growth_cases [FIRST STEP]`: runs each case on standard input once for each growth of the heap that its call makes, has
-//! that growth refused, and prints how many were refused, each of which was told; or else the first that wasn't, and what was
-//! told in its place. A line that begins with `#` is printed as it is. What a line may say stands in `cases`.
+//! `growth_cases [FIRST STEP]`: refuses each growth of the heap in turn, for the cases on standard input.
 //!
-//! A call whose growth is refused has to answer want of memory, or what it answers where nothing is refused. Of a list of
-//! requests at most one may be given up; all others have to be answered as a hub in memory answers them that isn't asked that
-//! one, and what all persons are told in the end has to be the same. Where the list isn't run at all, nothing is changed. A
-//! connection that ends for want of memory writes nothing; the same request asked again has to be answered as the first time
-//! or, of a change that stands by then, as one that stands already.
+//! It runs each case once for each growth of the heap that the case's call makes, with that growth refused. It prints
+//! how many growths were refused, if the answer of each run was right. Else it prints the first growth whose answer was
+//! wrong, and that answer. It prints a line that begins with `#` as it is. `cases` says what a line may say.
 //!
-//! A heap refuses growths where it is told so by sizes that it is asked for (`heap`), as that of `scripts/refuse-growth`. Any
-//! other refuses none: each case runs with ample memory, and `no growth refused` is printed. With two numbers the growths
-//! FIRST, FIRST + STEP and so on are refused, and the last line says how many were, in how many runs.
+//! Any call may fail for want of memory, and no contract says what is left then. Nothing must be half done. The next
+//! call must be answered as if the one that was given up hadn't been made.
+//!
+//! - A call returns want of memory, or what it returns with ample memory. The calls are `Document::read`,
+//!   `from_outline` and `text`, `excerpt`, `is_listed`, `finds`, `RowPass`, `Probe`, `explain` and its text, and
+//!   `request_of`. A `RowPass` or a `Probe` that returned want of memory returns it for every later line and at the
+//!   end.
+//! - Of a list of requests at most one is answered `F2`, and none `F1`. Each other request is answered as by a hub in
+//!   memory that wasn't asked the one given up. In the end all persons read the same from both hubs. If `run` itself
+//!   fails for want of memory, nothing is changed.
+//! - A connection (`serve_one`) is answered as with ample memory or with `F2`, or ends with want of memory and writes
+//!   nothing. Then the same request is asked again. It must be answered as the first time or, if its change was made,
+//!   as a change that was made before (`S1`, `S2` or `S3`).
+//!
+//! The program arms the heap by asking for more bytes than any heap has (`heap`). It asks in the same way whether a
+//! growth was refused. The C library of `scripts/refuse-growth`, which is run by hand, understands this and refuses.
+//! The script divides the growths among all processors.
+//!
+//! No heap of the gate refuses a growth. There each case runs once with ample memory, and its line says `no growth
+//! refused`. This shows that no call returns want of memory then, and that the answers are the ones in `stdout`.
+//!
+//! With two numbers the program refuses the growths FIRST, FIRST + STEP and so on. Its last line says how many growths
+//! were refused, in how many runs.
+//!
+//! `scripts/refuse-growth.d/` holds three planted faults: a push whose refusal is ignored, so that an excerpt lacks a
+//! withheld place; a reply that is made after the change, so that a change that was made is answered `F2`; and a reader
+//! that forgets a piece of the request, so that nothing is answered. `scripts/refuse-growth --planted` builds the
+//! program with each and without any, refuses one growth of 1,024 in each case, then one of 16, and fails if a fault
+//! isn't found or the program without a fault shows a difference.
 #![tactic(auto)]
 
 mod cases;
@@ -33,7 +55,7 @@ use std::{env, io};
 use sweep::Sweep;
 use trying::number_of;
 
-/// Which growths are refused, by the words of the command line.
+/// Returns which growths are to be refused, by the words of the command line.
 fn sweep_of(words: &[String]) -> Sweep {
     let (first, step) = match words {
         [first, step] => (number_of(first.as_str()), number_of(step.as_str())),

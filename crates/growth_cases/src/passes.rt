@@ -10,14 +10,14 @@ use std::alloc::{AllocError, Global};
 use trying_hub::Fields;
 use trying_policy::{Report, Unfit, said};
 
-/// A report, and for whom its lines are fed, in words.
+/// A report, and the reader for whom its lines are fed, in words.
 #[derive(Clone, Copy)]
 pub struct Feeding<'a> {
     pub report: &'a Report,
     pub reader: &'a str,
 }
 
-/// Feeds the lines. Whether each was taken, and each behind a want of memory was refused for it.
+/// Feeds the lines. Returns whether each was taken. After a want of memory each later line must be refused for it too.
 fn feed_all(pass: &mut RowPass, lines: Vec<Line>) -> Result<bool, OutlineFault> {
     let mut lacks = false;
     for line in lines {
@@ -34,7 +34,7 @@ fn feed_all(pass: &mut RowPass, lines: Vec<Line>) -> Result<bool, OutlineFault> 
     Ok(true)
 }
 
-/// What the pass gives at the end.
+/// Returns what the pass gives at the end.
 fn finish(alloc: Global, pass: RowPass) -> Result<String, Unfit> {
     match pass.finish() {
         Ok(Some(excerpt)) => show(alloc, &excerpt),
@@ -44,7 +44,7 @@ fn finish(alloc: Global, pass: RowPass) -> Result<String, Unfit> {
     }
 }
 
-/// What a reader is served by these lines. Behind a line that was refused for want of memory the end has to be too.
+/// Returns what a reader is served by these lines. If a line was refused for want of memory, the end must be too.
 fn feed_lines(alloc: Global, asker: Asker, lines: Vec<Line>) -> Result<String, Unfit> {
     let Asker { standing, case } = asker;
     let mut pass = RowPass::new(alloc, case, standing)?;
@@ -60,7 +60,7 @@ fn feed_lines(alloc: Global, asker: Asker, lines: Vec<Line>) -> Result<String, U
 }
 
 impl Feeding<'_> {
-    /// For whom the lines are fed, and the lines.
+    /// Returns the reader for whom the lines are fed, and the lines.
     fn fresh(&self, alloc: Global) -> Result<(Asker, Vec<Line>), Unfit> {
         let asker = Asker::of(alloc, &mut Fields::new(self.reader))?;
         let lines = self.report.document()?.outline(alloc)?;

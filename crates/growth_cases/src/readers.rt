@@ -1,4 +1,4 @@
-//! What is asked of a report for a reader.
+//! Questions about a report for a reader.
 
 ghost use Rattle.std.specs.Prelude.{◌≡◌, None};
 ghost use Rattle.iodef_tree.specs.Paths.{located};
@@ -18,7 +18,7 @@ use trying_policy::{Report, Unfit, case_of, said, standing_of};
 /// The source of each case.
 const SOURCE: u32 = 2;
 
-/// Who asks of a report, and by what it is judged.
+/// The reader who asks for a report, and the case by which the report is judged.
 #[derive(Drop)]
 pub struct Asker {
     pub standing: Standing,
@@ -26,7 +26,7 @@ pub struct Asker {
 }
 
 impl Asker {
-    /// Of the next three words: the reader, the gates and the permissions.
+    /// Reads the next three words: the reader, the gates and the permissions.
     pub fn of(alloc: Global, fields: &mut Fields<'_>) -> Result<Asker, Unfit> {
         Ok(Asker {
             standing: standing_of(alloc, fields.word())?,
@@ -35,16 +35,16 @@ impl Asker {
     }
 }
 
-/// What a line asks of a report.
+/// The question that a line asks about a report.
 #[derive(Drop)]
 pub struct Asking<'a> {
     pub report: &'a Report,
     pub asker: Asker,
     /// `excerpt`, `listed`, `find` or `explain`.
     pub kind: &'a str,
-    /// What is looked for, or the pointer of a class.
+    /// The needle, or the pointer of a class.
     pub word: &'a str,
-    /// In which classes it is looked for; empty for all.
+    /// The name of the classes that are searched; empty for all.
     pub class: &'a str,
 }
 
@@ -55,7 +55,7 @@ fn push_pair(all: &mut String, alloc: Global, place: &Path, rule: Rule) -> Resul
     all.push_str(pair.as_str())
 }
 
-/// How many classes are visible, the document, and each withheld pair.
+/// Returns how many classes are visible, the document, and each withheld pair.
 pub fn show(alloc: Global, excerpt: &Excerpt) -> Result<String, Unfit> {
     let classes = excerpt.classes;
     let text = excerpt.document.text(alloc)?;

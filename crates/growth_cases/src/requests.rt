@@ -1,4 +1,4 @@
-//! Requests of lines.
+//! Requests that lines name.
 
 use hub::Key;
 use hub_core::Request;
@@ -6,7 +6,7 @@ use std::alloc::{AllocError, Global};
 use trying::number_of;
 use trying_hub::{Fields, key_of, request_of};
 
-/// A moment, in seconds since 1970, the key of the caller, and what is asked.
+/// A moment, in seconds since 1970, the key of the caller, and the request.
 pub type Asked = (i64, Key, Request);
 
 /// The moment of all requests.
@@ -15,7 +15,7 @@ pub const MOMENT: i64 = 1_700_000_000;
 /// How many persons the cases have.
 const PERSONS: u32 = 6;
 
-/// By what the caller is known.
+/// Returns the key by which the caller is known.
 fn caller(word: &str) -> Key {
     match word.split_once('p') {
         Some((_, number)) => Key::Digest(key_of(number_of(number))),
@@ -29,7 +29,7 @@ fn asked_of(alloc: Global, line: &str) -> Result<Asked, AllocError> {
     Ok((MOMENT, key, request_of(alloc, &mut fields)?))
 }
 
-/// What these lines ask.
+/// Returns the requests of these lines.
 pub fn asked_by(alloc: Global, lines: &[String]) -> Result<Vec<Asked>, AllocError> {
     let mut asked = Vec::new(alloc);
     for line in lines {
@@ -38,7 +38,7 @@ pub fn asked_by(alloc: Global, lines: &[String]) -> Result<Vec<Asked>, AllocErro
     Ok(asked)
 }
 
-/// The keys of all persons whom such lines name.
+/// Returns the keys of all persons whom such lines name.
 pub fn keys(alloc: Global) -> Result<Vec<Key>, AllocError> {
     let mut keys = Vec::new(alloc);
     for person in 1..=PERSONS {

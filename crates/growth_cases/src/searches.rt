@@ -10,27 +10,27 @@ use std::alloc::{AllocError, Global};
 use trying_hub::Fields;
 use trying_policy::{Report, Unfit, said};
 
-/// A report, and for whom and for what its lines are searched, in words.
+/// A report, the reader for whom its lines are searched, and the want, in words.
 #[derive(Clone, Copy)]
 pub struct Seeking<'a> {
     pub report: &'a Report,
     pub words: &'a str,
 }
 
-/// What a search answered of the lines so far.
+/// The answers of a search to the lines so far.
 #[derive(Clone, Copy)]
 enum Fed {
     Unsure,
-    /// It was sure at the line of this number, and from then on.
+    /// The search was sure at the line of this number, and from then on.
     Sure(usize),
-    /// Memory was wanting, and from then on that was answered.
+    /// Memory was wanting, and the search returned that from then on.
     Lacking,
-    /// What isn't to be.
+    /// An answer that must not be.
     Wrong(&'static str),
 }
 
 impl Fed {
-    /// Behind one more line, the one of this number.
+    /// Returns the state after one more line, the one of this number.
     fn with(self, number: usize, answer: Result<bool, OutlineFault>) -> Fed {
         match (self, answer) {
             (Fed::Wrong(words), _) => Fed::Wrong(words),
@@ -54,7 +54,7 @@ fn feed_all(probe: &mut Probe, lines: Vec<Line>) -> Fed {
     fed
 }
 
-/// What the search gives at the end.
+/// Returns what the search gives at the end.
 fn finish(probe: Probe) -> Result<&'static str, Unfit> {
     match probe.finish() {
         Ok(true) => Ok("met"),
@@ -64,8 +64,8 @@ fn finish(probe: Probe) -> Result<&'static str, Unfit> {
     }
 }
 
-/// At which of these lines a search is sure, and its end. Behind a line that was refused for want of memory the end has to be
-/// too.
+/// Returns at which of these lines a search is sure, and its end. If a line was refused for want of memory, the end
+/// must be too.
 fn sought(alloc: Global, mut probe: Probe, lines: Vec<Line>) -> Result<String, Unfit> {
     let fed = feed_all(&mut probe, lines);
     match (fed, finish(probe)) {
@@ -77,7 +77,7 @@ fn sought(alloc: Global, mut probe: Probe, lines: Vec<Line>) -> Result<String, U
     }
 }
 
-/// The text, or none where nothing stands there.
+/// Returns the text, or none if it is empty.
 fn text_of(alloc: Global, word: &str) -> Result<Option<String>, AllocError> {
     if word.is_empty() {
         return Ok(None);
@@ -86,7 +86,7 @@ fn text_of(alloc: Global, word: &str) -> Result<Option<String>, AllocError> {
 }
 
 impl Seeking<'_> {
-    /// For whom and for what the lines are searched, and the lines.
+    /// Returns the reader for whom the lines are searched, the want, and the lines.
     fn fresh(&self, alloc: Global) -> Result<(Asker, Want, Vec<Line>), Unfit> {
         let mut fields = Fields::new(self.words);
         let asker = Asker::of(alloc, &mut fields)?;

@@ -14,36 +14,36 @@ use std::alloc::{AllocError, Global};
 /// More bytes than a reply of the cases has, so that writing it takes no memory.
 const ROOM: usize = 65_536;
 
-/// A request that is served, and what is due.
+/// A request that is served, and the answers that are due.
 #[derive(Drop)]
 pub struct Serving<'a> {
     before: &'a [Vec<u8>],
     bytes: &'a [u8],
     keys: Vec<Key>,
-    /// What is written for it.
+    /// The bytes that are written for it.
     first: Vec<u8>,
-    /// And where it is asked again.
+    /// The bytes that are written if it is asked again.
     second: Vec<u8>,
-    /// What is written where it is given up.
+    /// The bytes that are written if it is given up.
     given_up: Vec<u8>,
-    /// What the hub has behind it.
+    /// The content of the hub after it.
     content: Vec<u8>,
 }
 
-/// What came of a connection.
+/// The outcome of a connection.
 #[derive(Clone, Copy, PartialEq, Eq)]
 enum Outcome {
     /// The reply that is due was written.
     Due,
-    /// The request was given up: nothing is changed.
+    /// The request was given up, and nothing is changed.
     GivenUp,
-    /// Nothing was written: it may be changed or not.
+    /// Nothing was written. The change may be made or not.
     NoMemory,
     Wrong,
 }
 
 impl<'a> Serving<'a> {
-    /// The request behind these, and what is due; none where there is no hub.
+    /// Makes the request that follows these, and what is due for it. Returns none if there is no hub.
     pub fn of(
         alloc: Global,
         before: &'a [Vec<u8>],
@@ -78,19 +78,19 @@ impl<'a> Serving<'a> {
         }
     }
 
-    /// Whether this may be written where it is asked again behind such an outcome.
+    /// Returns whether this may be written if the request is asked again after such an outcome.
     fn may_follow(&self, outcome: Outcome, again: &[u8]) -> bool {
         again == self.first.as_slice()
             || outcome == Outcome::NoMemory && again == self.second.as_slice()
     }
 
-    /// What is due: the bodies of both replies.
+    /// Returns what is due: the bodies of both replies.
     fn due(&self, alloc: Global) -> Result<String, AllocError> {
         let (first, second) = (body_of(&self.first), body_of(&self.second));
         format!(in alloc; "{first} and again {second}")
     }
 
-    /// What is told behind an outcome, where it is asked again if it wasn't answered.
+    /// Returns what is printed after an outcome. A request that wasn't answered is asked again.
     fn describe(
         &self,
         alloc: Global,

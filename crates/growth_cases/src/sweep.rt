@@ -5,33 +5,34 @@ use std::alloc::{AllocError, Global};
 /// More growths than a case has.
 const MOST_RUNS: u32 = 10_000_000;
 
-/// What came of one run of a case.
+/// The outcome of one run of a case.
 #[derive(Drop)]
 pub struct Met {
-    /// Whether a growth was refused in it.
+    /// Whether a growth was refused in the run.
     pub refused: bool,
-    /// The answer, or none where it was want of memory.
+    /// The answer, or none if it was want of memory.
     pub told: Option<String>,
 }
 
 /// A case, which can be run again and again.
 pub trait Trial {
-    /// Runs it with the n-th growth of its call refused, or none for 0. What is told without a refusal is due in each run.
+    /// Runs it with the n-th growth of its call refused, or none for 0. The answer without a refusal is due in each
+    /// run.
     fn run(&self, alloc: Global, n: u32) -> Result<Met, AllocError>;
 }
 
-/// Refuses growths of cases: of each the first, and from there on each so many further.
+/// Refuses growths of cases: of each the growth `first`, and from there on every `step`-th.
 #[derive(Clone, Copy)]
 pub struct Sweep {
     pub first: u32,
     pub step: u32,
     /// How many growths were refused so far.
     pub growths: u64,
-    /// And in how many runs.
+    /// In how many runs they were refused.
     pub runs: u64,
 }
 
-/// Want of memory is right where a growth was refused, and else the answer that is due.
+/// Returns whether the answer is the one that is due, or is want of memory and a growth was refused.
 fn is_right(met: &Met, due: &str) -> bool {
     match &met.told {
         Some(told) => told.as_str() == due,
@@ -39,7 +40,7 @@ fn is_right(met: &Met, due: &str) -> bool {
     }
 }
 
-/// The first line of an answer.
+/// Returns the first line of an answer.
 fn head_of(answer: &str) -> &str {
     match answer.split_once('\n') {
         Some((head, _)) => head,
@@ -55,7 +56,8 @@ fn wrong(alloc: Global, n: u32, met: &Met) -> Result<String, AllocError> {
     format!(in alloc; "growth {n}: {told}")
 }
 
-/// What is printed of a case in which nothing went wrong: how many growths were refused, and the answer's first line.
+/// Returns what is printed for a case in which nothing went wrong: how many growths were refused, and the answer's
+/// first line.
 fn right(alloc: Global, refused: u32, due: &str) -> Result<String, AllocError> {
     let head = head_of(due);
     if refused == 0 {
@@ -70,7 +72,8 @@ impl Sweep {
         self.growths = self.growths.saturating_add(u64::from(refused));
     }
 
-    /// What is printed of a case: how many growths were refused, if each was told, or the first that wasn't.
+    /// Returns what is printed for a case: how many growths were refused if each answer was right, else the first wrong
+    /// one.
     pub fn report<T: Trial>(&mut self, alloc: Global, trial: &T) -> Result<String, AllocError> {
         let Some(due) = trial.run(alloc, 0)?.told else {
             return String::from_str(alloc, "no memory");

@@ -1,4 +1,4 @@
-//! Requests as bytes: what they ask.
+//! Requests as bytes, and what they ask.
 
 use crate::content::content;
 use crate::heap::{arm, disarm};
@@ -11,7 +11,7 @@ use std::alloc::{AllocError, Global};
 use trying::written_out;
 use trying_hub::{ABC, first_shelf};
 
-/// The bytes of a line, in which `\n` stands for CR and LF.
+/// Returns the bytes of a line, in which `\n` means CR and LF.
 pub fn bytes_of(alloc: Global, line: &str) -> Result<Vec<u8>, AllocError> {
     let line = written_out(alloc, line)?;
     let mut all = Vec::new(alloc);
@@ -24,7 +24,7 @@ pub fn bytes_of(alloc: Global, line: &str) -> Result<Vec<u8>, AllocError> {
     Ok(all)
 }
 
-/// The keys of those who ask by bytes.
+/// Returns the keys of those who ask by bytes.
 pub fn keys_shown(alloc: Global) -> Result<Vec<Key>, AllocError> {
     let mut keys = Vec::new(alloc);
     for text in ["abc", "key-2", "key-3"] {
@@ -33,7 +33,7 @@ pub fn keys_shown(alloc: Global) -> Result<Vec<Key>, AllocError> {
     Ok(keys)
 }
 
-/// What the hub writes for these bytes; nothing where they weren't answered.
+/// Returns what the hub writes for these bytes, or nothing if they weren't answered.
 pub fn written(
     alloc: Global,
     hub: &mut Hub<ListShelf>,
@@ -47,7 +47,7 @@ pub fn written(
     }
 }
 
-/// The hub in memory behind these requests.
+/// Returns the hub in memory after these requests.
 pub fn hub_behind(alloc: Global, before: &[Vec<u8>]) -> Result<Option<Hub<ListShelf>>, AllocError> {
     let Some(shelf) = first_shelf(alloc, ABC)? else {
         return Ok(None);
@@ -59,7 +59,7 @@ pub fn hub_behind(alloc: Global, before: &[Vec<u8>]) -> Result<Option<Hub<ListSh
     Ok(Some(hub))
 }
 
-/// The bytes behind the head of a reply.
+/// Returns the bytes after the head of a reply.
 pub fn body_of(reply: &[u8]) -> &str {
     let text = str::from_utf8(reply).unwrap_or("no text");
     match text.split_once("\r\n\r\n") {
@@ -68,7 +68,7 @@ pub fn body_of(reply: &[u8]) -> &str {
     }
 }
 
-/// Bytes of which it is told what they ask, by what a hub answers and has then.
+/// Bytes of which the program prints what they ask, by what a hub answers and then has.
 #[derive(Clone, Copy)]
 pub struct Bytes<'a> {
     pub before: &'a [Vec<u8>],

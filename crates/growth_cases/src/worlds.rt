@@ -1,4 +1,4 @@
-//! Hubs over both shelves, behind the requests that all lists begin with.
+//! Hubs over both shelves, after the requests with which all lists begin.
 
 use crate::requests::Asked;
 use hub::Hub;
@@ -8,7 +8,7 @@ use sqlite::{Connection, MemStore};
 use std::alloc::{AllocError, Global};
 use trying_hub::{first_rows, key_of};
 
-/// The hub over a shelf, empty before, behind these requests; none where one of them is refused.
+/// Returns the hub over a shelf, empty before, after these requests; none if one of them is refused.
 fn populate<Sh: Shelf + Drop>(
     alloc: Global,
     mut shelf: Sh,
@@ -28,12 +28,12 @@ fn populate<Sh: Shelf + Drop>(
     Ok(Some(hub))
 }
 
-/// The world in memory.
+/// Returns the world in memory.
 pub fn in_lists(alloc: Global, world: &[Asked]) -> Result<Option<Hub<ListShelf>>, AllocError> {
     populate(alloc, ListShelf::new(alloc), world)
 }
 
-/// The world in new tables, over a connection that has no plans yet.
+/// Returns the world in new tables, over a connection that has no plans yet.
 pub fn in_tables(
     alloc: Global,
     world: &[Asked],

@@ -11,7 +11,7 @@ pub struct Block {
     alloc: Global,
     /// Whether a store is made.
     makes: bool,
-    /// Of which version an older store is.
+    /// The version of an older store.
     version: u32,
     /// The statements that make an older store, each behind the one before.
     pub statements: String,
@@ -33,7 +33,7 @@ impl Block {
         !self.makes && self.statements.is_empty() && self.requests.is_empty()
     }
 
-    /// How the store of the case is taken.
+    /// Returns how the store of the case is taken.
     pub fn way(&self) -> Way {
         if self.makes {
             Way::Make

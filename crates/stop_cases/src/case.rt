@@ -1,4 +1,4 @@
-//! A case: what it begins with, what is done, what is due, and what is printed of it.
+//! A case: its beginning, its steps, what is due, and what is printed for it.
 
 use crate::block::Block;
 use crate::due::{Due, due_of};
@@ -18,7 +18,7 @@ pub struct World<'a> {
     pub asked: &'a [Asked],
 }
 
-/// The bytes of an older store that statements make; none where one is refused.
+/// Returns the bytes of an older store that statements make, or none if one is refused.
 fn older(alloc: Global, statements: &str) -> Result<Option<Kept>, AllocError> {
     let files = Kept::nothing(alloc).files(alloc, NEVER)?;
     match run_statements(alloc, files, statements) {
@@ -28,7 +28,7 @@ fn older(alloc: Global, statements: &str) -> Result<Option<Kept>, AllocError> {
 }
 
 impl World<'_> {
-    /// The bytes of the files with which the case of a block begins; none where they aren't made.
+    /// Returns the bytes of the files with which the case of a block begins, or none if they aren't made.
     fn bytes_before(&self, alloc: Global, block: &Block) -> Result<Option<Kept>, AllocError> {
         let nothing = Kept::nothing(alloc);
         match block.way() {
@@ -45,7 +45,8 @@ impl World<'_> {
         }
     }
 
-    /// The hub in memory that has what the store has which is taken; none where one of the requests isn't made.
+    /// Returns the hub in memory with the content of the store that is taken, or none if one of the requests isn't
+    /// made.
     fn hub(&self, alloc: Global, way: Way, asked: &[Asked]) -> Option<Hub<ListShelf>> {
         if let Way::Make = way {
             return begun(alloc, &[]);
@@ -56,7 +57,7 @@ impl World<'_> {
         if is_made { Some(hub) } else { None }
     }
 
-    /// The steps of a block.
+    /// Returns the steps of a block.
     fn steps<'a>(&'a self, way: Way, asked: &'a [Asked]) -> Steps<'a> {
         let (rows, asked): (&[Edit], &[Asked]) = match way {
             Way::Make => (self.rows, asked),
@@ -66,7 +67,7 @@ impl World<'_> {
         Steps { way, rows, asked }
     }
 
-    /// What is printed of the case of a block.
+    /// Returns what is printed for the case of a block.
     pub fn describe(&self, alloc: Global, block: &Block) -> Result<String, AllocError> {
         let asked = block.requests()?;
         let way = block.way();

@@ -1,11 +1,12 @@
 //! The lines of the table.
 //!
-//! The first block sets up the organisations, persons and groups: one request a line, WHO|REQUEST|FIELD|FIELD.. with the fields
-//! in the request's order; WHO is `p4` for person 4, or `nobody`. What a field may say stands in `requests` of `trying_hub`. Its
-//! requests come before those of each later block; the store begins with organisation 1 and its administrator, person 1.
+//! The first block sets up the organisations, persons and groups: one request a line, WHO|REQUEST|FIELD|FIELD.. with
+//! the fields in the request's order; WHO is `p4` for person 4, or `nobody`. `requests` of `trying_hub` says what a
+//! field may say. These requests come before those of each later block. The store begins with organisation 1 and its
+//! administrator, person 1.
 //!
-//! A block of requests is a case that asks them. A block with the line `create` is one that makes a store. One with lines
-//! `sql|STATEMENT` is one that migrates the store that these statements make, of the version of a line `version|NUMBER`; its
+//! A block of requests is a case that asks them. A block with the line `create` makes a store. A block with lines
+//! `sql|STATEMENT` migrates the store that these statements make, of the version of a line `version|NUMBER`; its
 //! requests make the same in memory.
 
 use crate::block::Block;
@@ -26,7 +27,7 @@ pub struct Cases {
 }
 
 impl Cases {
-    /// The store of each case begins with these rows.
+    /// Makes the cases. The store of each begins with these rows.
     pub fn new(alloc: Global, rows: Vec<Edit>) -> Cases {
         Cases {
             alloc,
@@ -36,7 +37,7 @@ impl Cases {
         }
     }
 
-    /// What is printed for one more line; none where it is one of a block.
+    /// Returns what is printed for one more line, or none if the line is part of a block.
     pub fn told_of(&mut self, line: &str) -> Result<Option<String>, AllocError> {
         if line.is_empty() {
             return self.end_block();
@@ -45,7 +46,7 @@ impl Cases {
         Ok(None)
     }
 
-    /// Plays the case of a block; of the first block nothing is printed.
+    /// Plays the case of a block. Returns none for the first block, for which nothing is printed.
     fn end_block(&mut self) -> Result<Option<String>, AllocError> {
         let alloc = self.alloc;
         if self.block.is_empty() {

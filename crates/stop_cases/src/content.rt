@@ -1,4 +1,4 @@
-//! What a hub has, as its callers see it.
+//! The content of a hub, as its callers read it.
 
 use crate::requests::{LATER, MOMENT};
 use crate::told::reply;
@@ -13,7 +13,7 @@ const PERSONS: u32 = 6;
 /// More incidents than a case has.
 const INCIDENTS: u32 = 2;
 
-/// What is asked at which moment.
+/// A moment, and the request that is asked at it.
 type Reading = (i64, Request);
 
 fn readings(alloc: Global) -> Result<Vec<Reading>, AllocError> {
@@ -43,7 +43,7 @@ fn push_told<Sh: Shelf>(
     Ok(())
 }
 
-/// All that the persons of the cases are told.
+/// Returns the replies to all persons of the cases.
 pub fn content<Sh: Shelf>(alloc: Global, hub: &mut Hub<Sh>) -> Result<String, AllocError> {
     let readings = readings(alloc)?;
     let mut all = String::new(alloc);

@@ -1,4 +1,4 @@
-//! What all persons have to be told, by a hub in memory.
+//! The replies that are due to all persons, by a hub in memory.
 
 use crate::content::content;
 use crate::lists::is_made;
@@ -8,12 +8,12 @@ use hub::Hub;
 use hub_core::{Edit, ListShelf, Shelf};
 use std::alloc::{AllocError, Global};
 
-/// What is due of some steps.
+/// What is due for some steps.
 #[derive(Drop)]
 pub struct Due {
-    /// What is told behind none of them, behind the first, and so on.
+    /// The replies after none of the steps, after the first, and so on.
     pub told: Vec<String>,
-    /// Which of them are changes.
+    /// Which of the steps are changes.
     pub changes: Vec<bool>,
 }
 
@@ -42,7 +42,7 @@ impl Due {
         Ok(())
     }
 
-    /// Whether that is what is told behind so many steps.
+    /// Returns whether these are the replies after so many steps.
     pub fn is_told(&self, done: usize, found: &str) -> bool {
         match self.told.get(done) {
             Some(told) => told.as_str() == found,
@@ -51,7 +51,7 @@ impl Due {
     }
 }
 
-/// What is told where the store isn't taken yet, and all that it is when it is.
+/// Returns what is due if the store isn't taken yet, and if it is.
 fn of_taking(alloc: Global, way: Way, hub: &mut Hub<ListShelf>) -> Result<Due, AllocError> {
     let mut due = Due {
         told: Vec::new(alloc),
@@ -69,14 +69,14 @@ fn of_taking(alloc: Global, way: Way, hub: &mut Hub<ListShelf>) -> Result<Due, A
     Ok(due)
 }
 
-/// The hub with these rows more.
+/// Adds these rows to the hub.
 fn with_rows(hub: Hub<ListShelf>, rows: &[Edit]) -> Hub<ListShelf> {
     let mut shelf = hub.into_shelf();
     let _ = shelf.apply(rows);
     Hub::new(shelf)
 }
 
-/// What is due of steps, by a hub that has what the store has which is taken.
+/// Returns what is due for steps, by a hub with the content of the store that is taken.
 pub fn due_of(alloc: Global, steps: &Steps<'_>, hub: Hub<ListShelf>) -> Result<Due, AllocError> {
     let mut hub = hub;
     let mut due = of_taking(alloc, steps.way, &mut hub)?;

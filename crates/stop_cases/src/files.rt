@@ -3,11 +3,11 @@
 use sqlite_disk::{Crash, Disk, Files, Fuse, Memory};
 use std::alloc::{AllocError, Global};
 
-/// A file that refuses each call behind so many. It is the only kind of file here, also where none stops, so that what is
-/// proved of a store is proved of one kind of file.
+/// A file that refuses each call after so many. It is the only kind of file here, also if none stops, so that one proof
+/// covers the store.
 pub type Stopping = Fuse<Memory>;
 
-/// Behind how many calls each file stops.
+/// After how many calls each file stops.
 #[derive(Clone, Copy)]
 pub struct Stop {
     pub log: u64,
@@ -27,7 +27,7 @@ pub struct Kept {
     db: Vec<u8>,
 }
 
-/// A file with these bytes, all of them synced.
+/// Makes a file with these bytes, all of them synced.
 fn file(alloc: Global, bytes: &[u8], calls: u64) -> Result<Stopping, AllocError> {
     let mut memory = Memory::new(alloc);
     if memory.write_at(0, bytes).is_err() || memory.sync().is_err() {
@@ -37,7 +37,7 @@ fn file(alloc: Global, bytes: &[u8], calls: u64) -> Result<Stopping, AllocError>
 }
 
 impl Kept {
-    /// Of two files that were never written.
+    /// Returns the bytes of two files that were never written.
     pub fn nothing(alloc: Global) -> Kept {
         Kept {
             log: Vec::new(alloc),
@@ -45,7 +45,7 @@ impl Kept {
         }
     }
 
-    /// All that was written, synced or not; a process that dies leaves it.
+    /// Returns all that was written, synced or not, as a process that dies leaves it.
     pub fn of(alloc: Global, files: &Files<Stopping>) -> Result<Kept, AllocError> {
         Ok(Kept {
             log: files.log.inner().bytes().to_vec(alloc)?,
@@ -53,7 +53,7 @@ impl Kept {
         })
     }
 
-    /// What was synced, where a failure of the power loses the rest.
+    /// Returns all that was synced, as a failure of the power leaves it.
     pub fn from_synced(alloc: Global, mut files: Files<Stopping>) -> Result<Kept, AllocError> {
         files.log.crash();
         files.db.crash();
@@ -72,7 +72,7 @@ impl Kept {
     }
 }
 
-/// Whether neither file has refused a call: both take one more.
+/// Returns whether neither file has refused a call: both take one more.
 pub fn take_calls(files: &mut Files<Stopping>) -> bool {
     files.may_be_used() && files.log.len().is_ok() && files.db.len().is_ok()
 }

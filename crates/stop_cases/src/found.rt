@@ -1,4 +1,4 @@
-//! What is found behind a stop.
+//! The content that is found after a stop.
 
 use crate::content::content;
 use crate::files::{Kept, NEVER, Stopping};
@@ -10,18 +10,18 @@ use sqlite::Alter;
 use sqlite_disk::Files;
 use std::alloc::{AllocError, Global};
 
-/// What all persons are told by the store in these files; or why there is none, where the files were opened.
+/// The replies of the store in these files to all persons; else why there is no store, if the files were opened.
 enum Look {
     Told(String),
     Refused(Option<OpenFault>),
 }
 
-/// What all persons are told by the store of a shelf.
+/// Returns the replies of the store of a shelf to all persons.
 fn told_by<Sh: Shelf + Drop>(alloc: Global, shelf: Sh) -> Result<String, AllocError> {
     content(alloc, &mut Hub::new(shelf))
 }
 
-/// The same of a shelf over tables in any store.
+/// Returns the same for a shelf over tables in any store.
 fn told_over<S: Alter + Drop>(alloc: Global, shelf: SqlShelf<S>) -> Result<String, AllocError> {
     told_by(alloc, shelf)
 }
@@ -33,7 +33,7 @@ fn look_into(alloc: Global, files: Files<Stopping>, way: Way) -> Result<Look, Al
     }
 }
 
-/// The same of a store that is taken otherwise, behind words that tell so.
+/// Returns the same for a store that is taken in another way, behind words that say so.
 fn looked_again(alloc: Global, kept: &Kept, way: Way) -> Result<String, AllocError> {
     let words = way.words(alloc)?;
     match look_into(alloc, kept.files(alloc, NEVER)?, way)? {
@@ -42,7 +42,7 @@ fn looked_again(alloc: Global, kept: &Kept, way: Way) -> Result<String, AllocErr
     }
 }
 
-/// The same where the store wasn't opened.
+/// Returns the same if the store wasn't opened.
 fn tell_refused(
     alloc: Global,
     kept: &Kept,
@@ -55,7 +55,7 @@ fn tell_refused(
     }
 }
 
-/// What all persons are told by the store in files of these bytes.
+/// Returns the replies of the store in files of these bytes to all persons.
 fn tell(alloc: Global, kept: &Kept) -> Result<String, AllocError> {
     match look_into(alloc, kept.files(alloc, NEVER)?, Way::Open)? {
         Look::Told(told) => Ok(told),
@@ -63,14 +63,14 @@ fn tell(alloc: Global, kept: &Kept) -> Result<String, AllocError> {
     }
 }
 
-/// What was found in files of some bytes.
+/// The content that was found in files of some bytes.
 #[derive(Drop)]
 struct Found {
     kept: Kept,
     told: String,
 }
 
-/// All that was found behind the stops of a case, so that the same bytes aren't opened again.
+/// All content that was found after the stops of a case, so that the same bytes aren't opened again.
 #[derive(Drop)]
 pub struct Finds {
     alloc: Global,
@@ -85,7 +85,7 @@ impl Finds {
         }
     }
 
-    /// What was found in files of the same bytes.
+    /// Returns the content that was found in files of the same bytes.
     fn before(&self, kept: &Kept) -> Option<&str> {
         for found in self.all.iter().rev() {
             if found.kept.is_same(kept) {
@@ -101,7 +101,7 @@ impl Finds {
         Ok(())
     }
 
-    /// What all persons are told by the store in files of these bytes.
+    /// Returns the replies of the store in files of these bytes to all persons.
     pub fn replies_from(&mut self, kept: Kept) -> Result<String, AllocError> {
         if let Some(told) = self.before(&kept) {
             return String::from_str(self.alloc, told);

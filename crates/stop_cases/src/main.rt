@@ -1,18 +1,41 @@
-//! Stops a store in memory behind each call of its two files, for the cases on standard input, and prints of each case that
-//! nothing is lost that was answered as done; or else the first stop that went wrong, and what was found behind it.
+//! Stops a store in memory after each call of its two files, for the cases on standard input, and prints what was
+//! found.
 //!
-//! A case is a block of lines, with an empty line behind it. A line that begins with `#` is printed as it is. What a line may
-//! say stands in `cases`.
+//! A case is a block of lines, with an empty line behind it. The program prints a line that begins with `#` as it is.
+//! `cases` says what a line may say. A law of `hub_store` says that a store opened again after a stop has one of the
+//! contents that the stop may leave. This program tries it on bytes.
 //!
-//! A case is a list of steps: a store is made, and gets its first rows; requests are answered; a store of an older version is
-//! brought to the newest. It is played over a log that refuses each call behind so many, and then over a database file that
-//! does, for 0, 1, 2 and so on until no call is refused, the closing of the files included. It ends at the first step that
-//! isn't answered as done. What the files hold then is opened as two disks: one that lost all that wasn't synced, as when the
-//! power fails, and one that has all that was written, as when the process dies.
+//! A case is a list of steps: a store is made, and gets its first rows; requests are answered; a store of an older
+//! version is migrated to the newest. The lists of requests post, give permissions with an end and without, exchange
+//! documents, address incidents and change groups.
 //!
-//! What all persons are told there has to be what a hub in memory tells them behind all steps that were answered as done, or
-//! behind these and the next one. Only a store whose making wasn't answered as done may be none of the hub's, and has to let
-//! itself be made; only one whose migration wasn't may be of the older version, and has to let itself be migrated.
+//! The program plays a case over two files in memory, the log and the database file. First the log refuses each call
+//! after the first 0, 1, 2 and so on, until a run meets no refusal, the closing of the files included. Then the
+//! database file does. A run ends at its first step that isn't answered as done, as a program that stops there does.
+//! Written pages go to the log four at a time. A log of four pages is carried over before the next change is written.
+//! So the database file too is stopped within a change, if a case has one more.
+//!
+//! After each stop the files are opened as two disks: one that lost all that wasn't synced, as when the power fails,
+//! and one that has all that was written, as when the process dies. Six persons then ask for Views at two moments,
+//! Lists, addressed incidents and groups. Between the two moments a permission of one list ends. The replies must be
+//! those of a hub in memory after all steps that were answered as done or, if one more was begun, after that step too.
+//!
+//! - If making a store wasn't answered as done, the files may be no store of the hub (`NotOurs`). Then making the store
+//!   must succeed.
+//! - If a migration wasn't answered as done, the store may be of the older version (`WrongVersion`), never of a version
+//!   between. Then migrating it must succeed, with the same content. There are stores of versions 1, 2 and 3.
+//!
+//! If nothing is lost that was answered as done, the program prints counts: the steps that are changes (known by
+//! hand), the calls of each file at which it was stopped, the changes within which the database file was stopped, and
+//! the unanswered changes that were found as made. Except for the first, these are the program's own output. It prints
+//! a fault in their place if
+//!
+//! - a stop goes wrong: the first one, and what was found after it;
+//! - a change is never stopped within the log, or the database file is never stopped;
+//! - more unanswered changes are found than there are changes, as one call of the log, its last, puts a change on the
+//!   disk.
+//!
+//! The kit's file in memory loses all bytes of unsynced writes or keeps them all. No write is torn.
 #![tactic(auto)]
 
 mod block;

@@ -1,4 +1,4 @@
-//! Requests of lines.
+//! Requests that lines name.
 
 use crate::steps::Asked;
 use hub::Key;
@@ -12,7 +12,7 @@ pub const MOMENT: i64 = 1_700_000_000;
 /// A later moment of readings.
 pub const LATER: i64 = 1_700_001_000;
 
-/// By what the caller is known.
+/// Returns the key by which the caller is known.
 fn caller(word: &str) -> Key {
     match word.split_once('p') {
         Some((_, number)) => Key::Digest(key_of(number_of(number))),
@@ -26,7 +26,7 @@ fn asked_of(alloc: Global, line: &str) -> Result<Asked, AllocError> {
     Ok((MOMENT, key, request_of(alloc, &mut fields)?))
 }
 
-/// What these lines ask.
+/// Returns the requests of these lines.
 pub fn asked_by(alloc: Global, lines: &[String]) -> Result<Vec<Asked>, AllocError> {
     let mut asked = Vec::new(alloc);
     for line in lines {

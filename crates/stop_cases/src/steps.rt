@@ -10,10 +10,10 @@ use sqlite::Alter;
 use sqlite_disk::Files;
 use std::alloc::{AllocError, Global};
 
-/// A moment, in seconds since 1970, the key of the caller, and what is asked.
+/// A moment, in seconds since 1970, the key of the caller, and the request.
 pub type Asked = (i64, Key, Request);
 
-/// A store is taken, gets the rows that a hub begins with, where there are such, and is asked.
+/// The steps: a store is taken, gets the rows that a hub begins with, if there are any, and is asked.
 #[derive(Clone, Copy)]
 pub struct Steps<'a> {
     pub way: Way,
@@ -21,14 +21,14 @@ pub struct Steps<'a> {
     pub asked: &'a [Asked],
 }
 
-/// What came of the steps over files of which one may have stopped.
+/// The outcome of the steps over files of which one may have stopped.
 #[derive(Drop)]
 pub struct Played {
     /// How many steps were answered as done.
     pub done: usize,
-    /// Whether the next one was begun.
+    /// Whether the next step was begun.
     pub is_begun: bool,
-    /// Whether all were done, the files were closed, and no call of theirs was refused.
+    /// Whether all steps were done, the files were closed, and none of their calls was refused.
     pub is_whole: bool,
     pub files: Files<Stopping>,
 }
@@ -40,7 +40,7 @@ fn is_given_up(reply: &Reply) -> bool {
     }
 }
 
-/// What came of steps whose files were left.
+/// Returns the outcome of steps after which the files were left.
 fn end_play(done: usize, is_begun: bool, is_closed: bool, files: Files<Stopping>) -> Played {
     let mut files = files;
     let is_whole = is_closed && take_calls(&mut files);
@@ -52,7 +52,7 @@ fn end_play(done: usize, is_begun: bool, is_closed: bool, files: Files<Stopping>
     }
 }
 
-/// How many requests are answered before the first that is given up.
+/// Returns how many requests are answered before the first that is given up.
 fn count_answered<Sh: Shelf>(alloc: Global, hub: &mut Hub<Sh>, asked: &[Asked]) -> usize {
     for (i, (now, key, request)) in asked.iter().enumerate() {
         if is_given_up(&hub.answer(alloc, *now, key, request)) {
@@ -63,7 +63,7 @@ fn count_answered<Sh: Shelf>(alloc: Global, hub: &mut Hub<Sh>, asked: &[Asked]) 
 }
 
 impl Steps<'_> {
-    /// How many steps the taking is: making tables and migrating are one, as they change the files.
+    /// Returns how many steps the taking is. Making tables and migrating are one each, as they change the files.
     fn of_taking(&self) -> usize {
         match self.way {
             Way::Make | Way::Migrate(_) => 1,
@@ -81,7 +81,7 @@ impl Steps<'_> {
             .saturating_add(self.asked.len())
     }
 
-    /// How many steps are answered as done, by a shelf that is taken.
+    /// Returns how many steps are answered as done, by a shelf that is taken.
     fn go<Sh: Shelf + Drop>(&self, alloc: Global, mut shelf: Sh) -> (usize, Sh) {
         let taken = self.of_taking();
         if !self.rows.is_empty() && shelf.apply(self.rows).is_err() {
@@ -95,12 +95,12 @@ impl Steps<'_> {
         (done, hub.into_shelf())
     }
 
-    /// The same over tables in any store.
+    /// Returns the same over tables in any store.
     fn go_over<S: Alter + Drop>(&self, alloc: Global, shelf: SqlShelf<S>) -> (usize, SqlShelf<S>) {
         self.go(alloc, shelf)
     }
 
-    /// What came of them where the store wasn't taken.
+    /// Returns the outcome if the store wasn't taken.
     fn untaken(&self, are_opened: bool, files: Files<Stopping>) -> Played {
         Played {
             done: 0,
@@ -110,7 +110,7 @@ impl Steps<'_> {
         }
     }
 
-    /// Plays those behind the taking.
+    /// Plays the steps after the taking.
     fn play_over(&self, alloc: Global, shelf: SqlShelf<Stored>) -> Played {
         let (done, shelf) = self.go_over(alloc, shelf);
         let is_begun = done < self.len();
@@ -118,7 +118,8 @@ impl Steps<'_> {
         end_play(done, is_begun, is_closed, files)
     }
 
-    /// Plays them over these files, up to the first that isn't answered as done; behind the last the files are closed.
+    /// Plays the steps over these files, up to the first that isn't answered as done. After the last step it closes the
+    /// files.
     pub fn play(&self, alloc: Global, files: Files<Stopping>) -> Played {
         match shelf_in(alloc, files, self.way) {
             Ok(shelf) => self.play_over(alloc, shelf),
@@ -126,7 +127,7 @@ impl Steps<'_> {
         }
     }
 
-    /// The bytes behind all steps, with no stop, over these; none where one isn't done.
+    /// Returns the bytes after all steps over these, with no stop, or none if a step isn't done.
     pub fn bytes_behind(&self, alloc: Global, before: &Kept) -> Result<Option<Kept>, AllocError> {
         let played = self.play(alloc, before.files(alloc, NEVER)?);
         if played.is_whole {

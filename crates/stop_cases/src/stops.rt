@@ -9,7 +9,7 @@ use std::alloc::{AllocError, Global};
 /// More calls of a file than a case makes.
 const MOST_CALLS: u64 = 100_000;
 
-/// What a case begins with, what is done, and what is due.
+/// The beginning of a case, its steps, and what is due.
 #[derive(Clone, Copy)]
 pub struct Case<'a> {
     pub kept: &'a Kept,
@@ -17,20 +17,20 @@ pub struct Case<'a> {
     pub due: &'a Due,
 }
 
-/// What came of the stops of one file.
+/// The outcome of the stops of one file.
 #[derive(Drop)]
 pub struct Stops {
     /// How many calls were refused in turn.
     pub calls: u64,
-    /// In which steps.
+    /// The steps in which they were refused.
     pub steps: Vec<bool>,
-    /// How often the step that was stopped was found as done, where that shows.
+    /// How often the step that was stopped was found as done, if that shows.
     pub ahead: usize,
-    /// The first stop that went wrong, and what was found behind it.
+    /// The first stop that went wrong, and what was found after it.
     pub fault: Option<String>,
 }
 
-/// Behind how many calls the steps were stopped, and how far they had come.
+/// After how many calls the steps were stopped, and how many were done.
 #[derive(Clone, Copy)]
 struct Stopped {
     calls: u64,
@@ -38,7 +38,7 @@ struct Stopped {
     is_begun: bool,
 }
 
-/// Behind how many calls of which file.
+/// Returns the stop after so many calls of the log, or else of the database file.
 fn stop_behind(of_log: bool, calls: u64) -> Stop {
     if of_log {
         Stop {
@@ -62,7 +62,7 @@ impl Stops {
         })
     }
 
-    /// Whether what was found is what is due behind the steps that were done, or behind the one more that was begun.
+    /// Returns whether the content found is due after the steps that were done, or after the one more that was begun.
     fn is_due(&mut self, due: &Due, stopped: Stopped, found: &str) -> bool {
         if due.is_told(stopped.done, found) {
             return true;
@@ -74,7 +74,7 @@ impl Stops {
         is_ahead
     }
 
-    /// Whether the file was stopped within this step.
+    /// Returns whether the file was stopped within this step.
     fn is_stopped(&self, step: usize) -> bool {
         matches!(self.steps.get(step), Some(true))
     }
@@ -105,7 +105,7 @@ impl Stops {
         Ok(())
     }
 
-    /// Notes what is wrong behind a stop, if something is.
+    /// Notes what is wrong after a stop, if something is.
     fn note(
         &mut self,
         alloc: Global,
@@ -130,7 +130,8 @@ impl Stops {
 }
 
 impl Case<'_> {
-    /// Stops a file behind so many of its calls, and tells whether that was the last stop: none was refused, or one went wrong.
+    /// Stops a file after so many of its calls. Returns whether that was the last stop: no call was refused, or a stop
+    /// went wrong.
     fn is_last(
         &self,
         alloc: Global,
@@ -146,7 +147,7 @@ impl Case<'_> {
         Ok(is_whole || stops.fault.is_some())
     }
 
-    /// Stops a file behind none of its calls, behind the first, and so on to the last stop.
+    /// Stops a file after none of its calls, after the first, and so on to the last stop.
     fn stop_each(
         &self,
         alloc: Global,
@@ -164,7 +165,7 @@ impl Case<'_> {
         Ok(())
     }
 
-    /// What came of the stops of a file.
+    /// Returns the outcome of the stops of a file.
     fn stops(&self, alloc: Global, of_log: bool, finds: &mut Finds) -> Result<Stops, AllocError> {
         let mut stops = Stops::new(alloc, self)?;
         self.stop_each(alloc, of_log, &mut stops, finds)?;
@@ -172,7 +173,7 @@ impl Case<'_> {
     }
 }
 
-/// The first change within which the file wasn't stopped.
+/// Returns the first change within which the file wasn't stopped.
 fn first_missed(due: &Due, stops: &Stops) -> Option<usize> {
     for (step, is_change) in due.changes.iter().enumerate() {
         if *is_change && !stops.is_stopped(step) {
@@ -182,7 +183,7 @@ fn first_missed(due: &Due, stops: &Stops) -> Option<usize> {
     None
 }
 
-/// How many of these hold.
+/// Returns how many of these hold.
 fn count(flags: &[bool]) -> usize {
     let mut count = 0usize;
     for it in flags {
@@ -193,7 +194,7 @@ fn count(flags: &[bool]) -> usize {
     count
 }
 
-/// What is printed where no stop went wrong.
+/// Returns what is printed if no stop went wrong.
 fn told_of(alloc: Global, due: &Due, log: &Stops, db: &Stops) -> Result<String, AllocError> {
     if let Some(step) = first_missed(due, log) {
         return format!(in alloc; "no stop within step {step}");
@@ -215,7 +216,7 @@ fn told_of(alloc: Global, due: &Due, log: &Stops, db: &Stops) -> Result<String, 
 }
 
 impl Case<'_> {
-    /// What is printed of a case.
+    /// Returns what is printed for a case.
     pub fn describe(&self, alloc: Global) -> Result<String, AllocError> {
         let mut finds = Finds::new(alloc);
         let log = self.stops(alloc, true, &mut finds)?;

@@ -16,12 +16,12 @@ pub enum Way {
     Make,
     /// The tables are opened.
     Open,
-    /// Those of this older version are brought to the newest.
+    /// The tables of this older version are migrated to the newest.
     Migrate(u32),
 }
 
 impl Way {
-    /// What is put before what all are told by a store that had to be taken in this way.
+    /// Returns the words that precede the replies of a store that had to be taken in this way.
     pub fn words(self, alloc: Global) -> Result<String, AllocError> {
         match self {
             Way::Make => String::from_str(alloc, "not ours, then made"),
@@ -31,8 +31,8 @@ impl Way {
     }
 }
 
-/// A small memory: the pages of a case fit, written ones go to the log in several writes, and so few pages in the log are copied
-/// into the database file that this happens within a list.
+/// Returns options for a small memory. The pages of a case fit, and written ones go to the log in several writes. The
+/// log is copied into the database file at so few pages that this happens within a list.
 fn options() -> Options {
     Options {
         cache_pages: 64,
@@ -42,7 +42,7 @@ fn options() -> Options {
     }
 }
 
-/// A connection over the files, which come back where they aren't opened.
+/// Returns a connection over the files, or the files if they aren't opened.
 fn connect(alloc: Global, files: Files<Stopping>) -> Result<Connection<Stored>, Files<Stopping>> {
     if !files.may_be_used() {
         return Err(files);
@@ -53,12 +53,12 @@ fn connect(alloc: Global, files: Files<Stopping>) -> Result<Connection<Stored>, 
     }
 }
 
-/// The files as they are, with no call of them.
+/// Returns the files as they are, without a call of them.
 fn cut_off(conn: Connection<Stored>) -> Files<Stopping> {
     conn.into_store().close()
 }
 
-/// Closes the files in order, and tells whether they were.
+/// Closes the files in order. Returns whether they were closed.
 fn close(conn: Connection<Stored>) -> (bool, Files<Stopping>) {
     match conn.close_files() {
         Ok(files) => (true, files),
@@ -66,7 +66,8 @@ fn close(conn: Connection<Stored>) -> (bool, Files<Stopping>) {
     }
 }
 
-/// The files of a shelf that is left: closed in order, if that is asked for, or as they are. Tells whether they were closed.
+/// Returns the files of a shelf that is left, closed in order if `in_order`, else as they are, and whether they were
+/// closed.
 pub fn leave(shelf: SqlShelf<Stored>, in_order: bool) -> (bool, Files<Stopping>) {
     let conn = shelf.release();
     if in_order {
@@ -83,7 +84,7 @@ fn open_fault(fault: ShelfFault) -> OpenFault {
     }
 }
 
-/// New tables over the connection, which comes back where they aren't made.
+/// Makes new tables over the connection. Returns the connection if they aren't made.
 fn make_tables<S: Alter + Drop>(
     alloc: Global,
     conn: Connection<S>,
@@ -97,7 +98,7 @@ fn make_tables<S: Alter + Drop>(
     }
 }
 
-/// The tables of the connection, opened or brought to the newest version.
+/// Opens the tables of the connection, or migrates them to the newest version.
 fn open_tables<S: Alter + Drop>(
     alloc: Global,
     conn: Connection<S>,
@@ -125,7 +126,8 @@ fn taken<S: Alter + Drop>(
     }
 }
 
-/// The shelf over these files; or why there is none, where they were opened, and the files as they are then.
+/// Returns the shelf over these files. Else returns the files as they are then and, if they were opened, why there is
+/// no shelf.
 pub fn shelf_in(
     alloc: Global,
     files: Files<Stopping>,
@@ -141,12 +143,12 @@ pub fn shelf_in(
     }
 }
 
-/// Whether the statements were all run.
+/// Returns whether all statements were run.
 fn are_run<S: Alter + Drop>(conn: &mut Connection<S>, statements: &str) -> bool {
     conn.execute_batch(statements).is_ok()
 }
 
-/// The files of a connection, closed, behind these statements; none where one is refused.
+/// Returns the files of a connection, closed, after these statements; none if one is refused.
 fn stated_over(conn: Connection<Stored>, statements: &str) -> Option<Files<Stopping>> {
     let mut conn = conn;
     let are_run = are_run(&mut conn, statements);
@@ -158,7 +160,7 @@ fn stated_over(conn: Connection<Stored>, statements: &str) -> Option<Files<Stopp
     }
 }
 
-/// The files, closed, behind these statements; none where one is refused.
+/// Returns the files, closed, after these statements; none if one is refused.
 pub fn run_statements(
     alloc: Global,
     files: Files<Stopping>,
