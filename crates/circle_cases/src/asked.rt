@@ -1,11 +1,11 @@
-//! ask|QUESTION|ONE|OTHER: what the small directory answers.
+//! ask|QUESTION|ONE|OTHER: the answers of the small directory.
 use crate::told;
 use crate::world::world;
 use crate::written::number_of;
 use circle_rows::DirectoryRows;
 use std::alloc::{AllocError, Global};
 
-/// A test of a number, or of two.
+/// Returns the answer to a test of a number, or of two.
 fn is_so(rows: &DirectoryRows, question: &str, one: u32, other: u32) -> Option<bool> {
     match question {
         "has_org" => Some(rows.has_org(one)),
@@ -31,7 +31,7 @@ fn is_so(rows: &DirectoryRows, question: &str, one: u32, other: u32) -> Option<b
     }
 }
 
-/// A test of a name, of an owner's where it is a group's.
+/// Returns the answer to a test of a name; for a group's name, among its owner's.
 fn is_named(rows: &DirectoryRows, question: &str, name: &str, owner: u32) -> Option<bool> {
     match question {
         "has_org_named" => Some(rows.has_org_named(name)),
@@ -41,7 +41,7 @@ fn is_named(rows: &DirectoryRows, question: &str, name: &str, owner: u32) -> Opt
     }
 }
 
-/// The numbers of the accounts.
+/// Returns the numbers of the accounts.
 fn accounts(alloc: Global, rows: &DirectoryRows) -> Result<String, AllocError> {
     let mut numbers = Vec::new(alloc);
     for account in rows.accounts() {
@@ -50,7 +50,7 @@ fn accounts(alloc: Global, rows: &DirectoryRows) -> Result<String, AllocError> {
     told::rows(alloc, numbers.as_slice())
 }
 
-/// The rows of a set, if it is one of pairs.
+/// Returns the rows of a set, if it is one of pairs.
 fn pairs(alloc: Global, rows: &DirectoryRows, name: &str) -> Option<Result<String, AllocError>> {
     match name {
         "clients" => Some(told::rows(alloc, rows.clients())),
@@ -62,7 +62,7 @@ fn pairs(alloc: Global, rows: &DirectoryRows, name: &str) -> Option<Result<Strin
     }
 }
 
-/// The rows of a set, if it is one of numbered rows.
+/// Returns the rows of a set, if it is one of numbered rows.
 fn numbered(alloc: Global, rows: &DirectoryRows, name: &str) -> Option<Result<String, AllocError>> {
     match name {
         "orgs" => Some(told::rows(alloc, rows.orgs())),
@@ -81,7 +81,7 @@ fn memberships(alloc: Global, rows: &DirectoryRows, org: u32) -> Result<String, 
     told::rows(alloc, rows.memberships_in_groups(alloc, org)?.as_slice())
 }
 
-/// What an organisation is part of.
+/// Returns what an organisation is part of.
 fn parts_of(
     alloc: Global,
     rows: &DirectoryRows,
@@ -98,7 +98,7 @@ fn parts_of(
     }
 }
 
-/// A row that may be there.
+/// Returns a row that may be there.
 fn row(
     alloc: Global,
     rows: &DirectoryRows,
@@ -116,7 +116,7 @@ fn row(
     }
 }
 
-/// The answer to a question that isn't one of the sets.
+/// Returns the answer to a question that isn't one of the sets.
 fn answer_of(
     alloc: Global,
     rows: &DirectoryRows,
@@ -136,7 +136,7 @@ fn answer_of(
     }
 }
 
-/// The answer of the directory to QUESTION|ONE|OTHER.
+/// Returns the directory's answer to QUESTION|ONE|OTHER.
 fn answer_in(alloc: Global, rows: &DirectoryRows, line: &str) -> Result<String, AllocError> {
     let (question, rest) = line.split_once('|').unwrap_or((line, ""));
     let (first, second) = rest.split_once('|').unwrap_or((rest, ""));
@@ -149,7 +149,7 @@ fn answer_in(alloc: Global, rows: &DirectoryRows, line: &str) -> Result<String, 
     }
 }
 
-/// The answer to QUESTION|ONE|OTHER.
+/// Returns the answer to QUESTION|ONE|OTHER.
 pub fn answer(alloc: Global, line: &str) -> Result<String, AllocError> {
     let rows = world(alloc)?;
     answer_in(alloc, &rows, line)

@@ -40,7 +40,7 @@ fn text_of(alloc: Global, field: &str) -> Result<Text, AllocError> {
     Ok(Text::new(crate::written::text_of(alloc, field)?))
 }
 
-/// A command with a text.
+/// Returns a command with a text.
 fn with_text(alloc: Global, case: &Named<'_>) -> Result<CircleCommand, AllocError> {
     let name = text_of(alloc, case.text)?;
     match case.command {
@@ -59,7 +59,7 @@ fn with_text(alloc: Global, case: &Named<'_>) -> Result<CircleCommand, AllocErro
     }
 }
 
-/// An administrator's command of numbers alone.
+/// Returns an administrator's command that has only numbers.
 fn of_administrators(case: &Named<'_>) -> Option<CircleCommand> {
     let one = case.one;
     let other = case.other;
@@ -93,7 +93,7 @@ fn of_administrators(case: &Named<'_>) -> Option<CircleCommand> {
     }
 }
 
-/// A coordinator's command of numbers and a flag.
+/// Returns a coordinator's command of numbers and a flag.
 fn of_coordinators(case: &Named<'_>) -> Option<CircleCommand> {
     let one = case.one;
     let other = case.other;
@@ -129,7 +129,7 @@ pub fn command_of(alloc: Global, case: &Named<'_>) -> Result<CircleCommand, Allo
     }
 }
 
-/// A flag and two texts: FLAG|TEXT|MORE.
+/// Returns a flag and two texts: FLAG|TEXT|MORE.
 fn flag_and_texts<'a>(words: &mut Split<'a, char>) -> Option<(bool, &'a str, &'a str)> {
     let flag = words.next()? == "yes";
     let text = words.next()?;
@@ -137,7 +137,7 @@ fn flag_and_texts<'a>(words: &mut Split<'a, char>) -> Option<(bool, &'a str, &'a
     Some((flag, text, more))
 }
 
-/// A command's name and two numbers: COMMAND|ONE|OTHER.
+/// Returns a command's name and two numbers: COMMAND|ONE|OTHER.
 fn name_and_numbers<'a>(words: &mut Split<'a, char>) -> Option<(&'a str, u32, u32)> {
     let command = words.next()?;
     let one = words.next()?;
@@ -145,7 +145,7 @@ fn name_and_numbers<'a>(words: &mut Split<'a, char>) -> Option<(&'a str, u32, u3
     Some((command, number_of(one), number_of(other)))
 }
 
-/// The command behind the first fields: COMMAND|ONE|OTHER|FLAG|TEXT|MORE.
+/// Returns the command behind the first fields: COMMAND|ONE|OTHER|FLAG|TEXT|MORE.
 pub fn command_fields<'a>(words: &mut Split<'a, char>) -> Option<Named<'a>> {
     let (command, one, other) = name_and_numbers(words)?;
     let (flag, text, more) = flag_and_texts(words)?;

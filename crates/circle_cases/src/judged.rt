@@ -1,5 +1,5 @@
-//! WHO|FACTS|COUNT|COMMAND|ONE|OTHER|FLAG|TEXT|MORE: what is answered to the command of an actor. WHO is ROLE NUMBER/ORG, or
-//! ROLE alone for person 2 of organisation 2.
+//! WHO|FACTS|COUNT|COMMAND|ONE|OTHER|FLAG|TEXT|MORE: the answer to the command of an actor. WHO is ROLE NUMBER/ORG, or
+//! only ROLE for person 2 of organisation 2.
 use crate::commands::{Named, command_fields, command_of, role_of};
 use crate::told;
 use crate::written::number_of;
@@ -9,7 +9,7 @@ use circle::judge::judge;
 use circle::name::Name;
 use std::alloc::{AllocError, Global};
 
-/// Who commands.
+/// The person who commands.
 #[derive(Clone, Copy)]
 struct Actor {
     role: Role,
@@ -24,7 +24,7 @@ struct Case<'a> {
     named: Named<'a>,
 }
 
-/// Each fact that holds, by a letter.
+/// Returns the facts that hold, each by a letter.
 fn facts_of(letters: &str, count: u32) -> CircleFacts {
     CircleFacts {
         exists: letters.contains('e'),
@@ -73,7 +73,7 @@ fn person_of(alloc: Global, actor: Actor) -> Result<Option<Person>, AllocError> 
     }
 }
 
-/// The edit or the refusal in words.
+/// Returns the edit or the refusal in words.
 fn answer_to(
     alloc: Global,
     actor: &Person,

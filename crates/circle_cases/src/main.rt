@@ -1,6 +1,6 @@
-//! Answers the cases on standard input, one a line, and prints each answer: of a command to judge (`judged`), of a question to a
-//! small directory in memory (`asked`), or of a text, a refusal or a code to show (`parts`). `told` says in which words. A line
-//! that begins with `#` is printed as it is.
+//! Answers the cases on standard input, one a line, and prints each answer. A case is a command to judge (`judged`), a
+//! question to a small directory in memory (`asked`), or a text, a refusal or a code to show (`parts`). `told` says in
+//! which words. A line that begins with `#` is printed as it is.
 #![tactic(auto)]
 
 mod asked;

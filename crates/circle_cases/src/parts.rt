@@ -26,7 +26,7 @@ const CODES: [Code; 14] = [
     Code::F2,
 ];
 
-/// Whether a name keeps its text, as does its copy, or is refused.
+/// Returns whether a name keeps its text, as its copy does, or is refused.
 fn name(alloc: Global, text: &str) -> Result<&'static str, AllocError> {
     match Name::of(alloc, text)? {
         Some(name) => {
@@ -57,14 +57,14 @@ fn as_told(is_kept: bool) -> &'static str {
     if is_kept { "kept" } else { "changed" }
 }
 
-/// Whether the text is its own copy, and both keep what it was made of.
+/// Returns whether the text is its own copy, and both keep the text of which it was made.
 fn keeps(text: &Text, copy: Text, made_of: &str) -> bool {
     let is_same = *text == copy;
     let given_back = copy.into_string();
     is_same && text.as_str() == made_of && given_back.as_str() == made_of
 }
 
-/// Whether two texts are the same, and the first its own copy.
+/// Returns whether two texts are the same, and the first its own copy.
 fn texts(alloc: Global, one: &str, other: &str) -> Result<&'static str, AllocError> {
     let text = Text::of(alloc, one)?;
     let is_kept = keeps(&text, text.clone()?, one);
@@ -117,7 +117,7 @@ fn between(alloc: Global, one: &str, other: &str) -> Result<String, AllocError> 
     Connection::between(number_of(one), number_of(other)).words(alloc)
 }
 
-/// Whether the texts are kept, or are the same; none of another kind.
+/// Returns whether the texts are kept or are the same; none for another kind.
 fn word(
     alloc: Global,
     kind: &str,
@@ -132,7 +132,7 @@ fn word(
     }
 }
 
-/// What is shown of a code, a refusal or a connection; none of another kind.
+/// Returns what is shown for a code, a refusal or a connection; none for another kind.
 fn shown(alloc: Global, kind: &str, one: &str, other: &str) -> Option<Result<String, AllocError>> {
     match kind {
         "between" => Some(between(alloc, one, other)),
@@ -154,7 +154,7 @@ fn answer_to(
     }
 }
 
-/// The answer to a line of these kinds; none of another.
+/// Returns the answer to a line of these kinds; none for another.
 pub fn answer(alloc: Global, line: &str) -> Result<Option<String>, AllocError> {
     let Some((kind, rest)) = line.split_once('|') else {
         return Ok(None);

@@ -1,14 +1,15 @@
-//! Refusals, edits and rows in words. A refusal is its code, and its detail where there is one.
+//! Refusals, edits and rows in words. A refusal is its code and, if there is one, its detail.
 //!
-//! - An organisation or a community is its number and its name; texts stand in quotes, what is unusual in them escaped.
-//! - A person is `2 of 3 "p" reader active nominated`: its number, its organisation, name and role, `active` or `suspended`, and
-//!   `nominated` where it is. Where it is put, its key follows: `32*7` is 32 bytes that are 7.
+//! - An organisation or a community is its number and its name. Texts are in quotes, and unusual characters are
+//!   escaped.
+//! - A person is `2 of 3 "p" reader active nominated`: its number, its organisation, name and role, `active` or
+//!   `suspended`, and `nominated` if it is. If the person is put, its key follows: `32*7` is 32 bytes that are 7.
 //! - A group is `2 of 3 "h" "all" inactive`: its number, its owner, name and releasability, `active` or `inactive`.
 //! - A client is `5 of 2`, a member `4 of community 1` or `4 of group 1 extend`, a connection `1 and 2`, an arrangement
-//!   `of 2 for 3 GREEN`: what 3 makes of what 2 marks `default`.
+//!   `of 2 for 3 GREEN`: how 3 handles what 2 marks `default`.
 //!
-//! An edit puts, takes or sets one of these; `found` is the group with its owner as a member. Rows have a semicolon between
-//! them; `none` is no row.
+//! An edit puts, takes or sets one of these; `found` is the group with its owner as a member. Rows have a semicolon
+//! between them; `none` is no row.
 use circle::command::{Edit, RowEdit};
 use circle::directory::{
     Account, Arrangement, Client, Community, Connection, Group, GroupMember, Handling, Membership,
@@ -17,12 +18,12 @@ use circle::directory::{
 use circle::refusal::Refusal;
 use std::alloc::{AllocError, Global};
 
-/// What has words, as a row of the directory.
+/// A row of the directory, which has words.
 pub trait Row {
     fn words(&self, alloc: Global) -> Result<String, AllocError>;
 }
 
-/// The rows of a set.
+/// Returns the rows of a set.
 pub fn rows<T: Row>(alloc: Global, rows: &[T]) -> Result<String, AllocError> {
     let mut all = String::new(alloc);
     for row in rows {
@@ -37,7 +38,7 @@ pub fn rows<T: Row>(alloc: Global, rows: &[T]) -> Result<String, AllocError> {
     Ok(all)
 }
 
-/// A row that may be there.
+/// Returns a row that may be there.
 pub fn row_if_any<T: Row>(alloc: Global, row: Option<&T>) -> Result<String, AllocError> {
     match row {
         Some(row) => row.words(alloc),
@@ -137,7 +138,7 @@ fn named(alloc: Global, number: u32, name: &str) -> Result<String, AllocError> {
     format!(in alloc; "{number} {name:?}")
 }
 
-/// The key as the table writes what is repeated; each byte where they aren't alike.
+/// Returns the key as the table writes a byte that is repeated, or each byte if they differ.
 fn key_text(alloc: Global, key: &[u8; 32]) -> Result<String, AllocError> {
     match key.first() {
         Some(first) if key.iter().all(|byte| byte == first) => format!(in alloc; "32*{first}"),
@@ -168,7 +169,7 @@ fn active_or_not(active: bool) -> &'static str {
     if active { "active" } else { "inactive" }
 }
 
-/// The code, and the detail where there is one.
+/// Returns the code and, if there is one, the detail.
 pub fn refusal(alloc: Global, refusal: &Refusal) -> Result<String, AllocError> {
     let code = refusal.code.name();
     let detail = refusal.detail.as_str();
@@ -178,7 +179,7 @@ pub fn refusal(alloc: Global, refusal: &Refusal) -> Result<String, AllocError> {
     format!(in alloc; "{code} {detail}")
 }
 
-/// The whole change that a command makes.
+/// Returns the whole change that a command makes.
 pub fn edit(alloc: Global, edit: &Edit) -> Result<String, AllocError> {
     match edit {
         Edit::Row(row) => row_edit(alloc, row),
@@ -186,7 +187,7 @@ pub fn edit(alloc: Global, edit: &Edit) -> Result<String, AllocError> {
     }
 }
 
-/// What becomes of a row, and the row.
+/// Returns the verb and the row.
 fn of_row<T: Row>(alloc: Global, verb: &str, row: &T) -> Result<String, AllocError> {
     let row = row.words(alloc)?;
     format!(in alloc; "{verb} {row}")

@@ -1,4 +1,4 @@
-//! A small directory in memory, and what is asked of it.
+//! A small directory in memory.
 use circle::command::RowEdit;
 use circle::directory::{
     Account, Arrangement, Client, Community, Connection, Group, GroupMember, Handling, Membership,
@@ -9,7 +9,7 @@ use circle::releasability::Releasability;
 use circle_rows::DirectoryRows;
 use std::alloc::{AllocError, Global};
 
-// The rows stand out of their order on purpose, as the directory sorts them in.
+// The rows are out of their order on purpose, as the directory sorts them in.
 
 /// Number and name.
 const ORGS: &[(u32, &str)] = &[(3, "Mem"), (1, "Hub"), (5, "Cli"), (2, "Src"), (4, "Far")];
@@ -49,7 +49,7 @@ const ARRANGEMENTS: &[(u32, u32, Handling)] = &[
     (2, 4, Handling::Strict),
 ];
 
-/// A name; where the text is none, an edit that changes nothing stands in its place.
+/// Returns an edit that puts an organisation. If there is no text, returns an edit that changes nothing.
 fn put_org(alloc: Global, number: u32, name: &str) -> Result<RowEdit, AllocError> {
     match Name::of(alloc, name)? {
         Some(name) => Ok(RowEdit::PutOrg(Org { number, name })),
@@ -118,7 +118,7 @@ fn push_groups(edits: &mut Vec<RowEdit>, alloc: Global) -> Result<(), AllocError
     Ok(())
 }
 
-/// What changes in them.
+/// Adds the edits that change rows.
 fn push_changes(edits: &mut Vec<RowEdit>) -> Result<(), AllocError> {
     edits.push(RowEdit::Suspend(3))?;
     edits.push(RowEdit::SetNominated {
@@ -145,7 +145,7 @@ fn push_pairs(edits: &mut Vec<RowEdit>) -> Result<(), AllocError> {
     Ok(())
 }
 
-/// The rows with a value beside the pair.
+/// Adds the rows with a value beside the pair.
 fn push_valued(edits: &mut Vec<RowEdit>) -> Result<(), AllocError> {
     for &(group, org, extend) in GROUP_MEMBERS {
         edits.push(RowEdit::PutGroupMember(GroupMember { group, org, extend }))?;
@@ -160,7 +160,7 @@ fn push_valued(edits: &mut Vec<RowEdit>) -> Result<(), AllocError> {
     Ok(())
 }
 
-/// A row of each set of pairs is taken out again.
+/// Adds edits that take a row of each set of pairs out again.
 fn push_taken(edits: &mut Vec<RowEdit>) -> Result<(), AllocError> {
     edits.push(RowEdit::TakeClient(Client { org: 4, client: 5 }))?;
     edits.push(RowEdit::TakeMembership(Membership {
@@ -185,7 +185,7 @@ fn edits(alloc: Global) -> Result<Vec<RowEdit>, AllocError> {
     Ok(edits)
 }
 
-/// The small directory.
+/// Returns the small directory.
 pub fn world(alloc: Global) -> Result<DirectoryRows, AllocError> {
     let mut rows = DirectoryRows::new(alloc);
     let edits = edits(alloc)?;

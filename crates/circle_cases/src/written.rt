@@ -1,13 +1,13 @@
-//! What a field of a line says.
+//! The fields of a line.
 use std::alloc::{AllocError, Global};
 
-/// The number, or 0.
+/// Returns the number, or 0.
 pub fn number_of(word: &str) -> u32 {
     word.parse::<u32>().unwrap_or(0)
 }
 
-/// The text of a field: `129*x` is so many times `x`, and a caret makes a control character of the one behind it
-/// (`^?` is delete, `^@` is 0).
+/// Returns the text of a field. `129*x` is so many times `x`, and a caret makes a control character of the one behind
+/// it (`^?` is delete, `^@` is 0).
 pub fn text_of(alloc: Global, field: &str) -> Result<String, AllocError> {
     match field.split_once('*') {
         Some((count, part)) => repeated(alloc, number_of(count), part),

@@ -1,4 +1,4 @@
-//! Cases of bodies.
+//! Cases about bodies.
 
 use crate::outlines::written;
 use crate::pointers::{json, path_of};
@@ -6,19 +6,19 @@ use iodef_tree::{Document, Line, Object, OutlineFault, Path, ReadFault};
 use serde_json::Value;
 use std::alloc::{AllocError, Global};
 
-/// The fault with its pointer.
+/// Returns the fault with its pointer.
 fn at_place(alloc: Global, name: &str, path: &Path) -> Result<String, AllocError> {
     let pointer = path.print(alloc)?;
     format!(in alloc; "{name} {pointer}")
 }
 
-/// The fault with its pointer and the member that is missing.
+/// Returns the fault with its pointer and the member that is missing.
 fn missing(alloc: Global, name: &str, path: &Path, member: &str) -> Result<String, AllocError> {
     let pointer = path.print(alloc)?;
     format!(in alloc; "{name} {pointer} {member}")
 }
 
-/// The fault's name, and what more it says.
+/// Returns the fault's name, and what more it says.
 fn told(alloc: Global, fault: ReadFault) -> Result<String, AllocError> {
     let name = fault.name();
     match fault {
@@ -39,7 +39,7 @@ pub fn read(alloc: Global, body: &[u8]) -> Result<String, AllocError> {
     }
 }
 
-/// The same of the bytes that pairs of hexadecimal digits stand for.
+/// Reads the bytes that pairs of hexadecimal digits name, and returns the same.
 pub fn read_digits(alloc: Global, digits: &str) -> Result<String, AllocError> {
     match hex::decode(alloc, digits.as_bytes()) {
         Ok(bytes) => read(alloc, bytes.as_slice()),
@@ -68,7 +68,7 @@ fn outline(alloc: Global, document: &Document) -> Result<String, AllocError> {
     lines(alloc, &outline)
 }
 
-/// The text of the document with these lines.
+/// Returns the text of the document with these lines.
 fn text_by(alloc: Global, lines: &[Line]) -> Result<String, AllocError> {
     match Document::from_outline(alloc, lines) {
         Ok(document) => document.text(alloc),
@@ -82,7 +82,7 @@ fn text_again(alloc: Global, document: &Document) -> Result<String, AllocError> 
     text_by(alloc, &outline)
 }
 
-/// One text where both are the same.
+/// Returns one text if both are the same.
 fn same(alloc: Global, text: &str, other: &str) -> Result<String, AllocError> {
     if text == other {
         String::from_str(alloc, text)
@@ -91,7 +91,7 @@ fn same(alloc: Global, text: &str, other: &str) -> Result<String, AllocError> {
     }
 }
 
-/// The text, which must be that of the document with the same lines.
+/// Returns the text, which must be that of the document with the same lines.
 fn text(alloc: Global, document: &Document) -> Result<String, AllocError> {
     let text = document.text(alloc)?;
     let again = text_again(alloc, document)?;
@@ -124,7 +124,7 @@ fn value(alloc: Global, document: &Document) -> Result<String, AllocError> {
     value.to_string(alloc)
 }
 
-/// The compact text of its IncidentID.
+/// Returns the compact text of the document's IncidentID.
 pub fn id(alloc: Global, document: &Document) -> Result<String, AllocError> {
     match document.incident_id(alloc)? {
         Some(id) => Ok(id),
@@ -163,7 +163,7 @@ fn all(alloc: Global, verb: &str, documents: &[Document]) -> Result<String, Allo
     Ok(all)
 }
 
-/// What each document of the body is, with a bar between them.
+/// Returns what each document of the body is, with a bar between them.
 pub fn each(alloc: Global, verb: &str, body: &str) -> Result<String, AllocError> {
     match Document::read(alloc, body.as_bytes()) {
         Ok(documents) => all(alloc, verb, &documents),
@@ -187,7 +187,7 @@ fn root_names(alloc: Global, root: &Object) -> Result<String, AllocError> {
     format!(in alloc; "the root: {names}")
 }
 
-/// The names of the members of the class at the path, or of the root.
+/// Returns the names of the members of the class at the path, or of the root.
 fn members_at(alloc: Global, document: &Document, path: &Path) -> Result<String, AllocError> {
     match document.class(path) {
         None => String::from_str(alloc, "none"),
@@ -217,7 +217,7 @@ fn at_pointer(alloc: Global, pointer: &str, body: &str) -> Result<String, AllocE
     }
 }
 
-/// The body of a case.
+/// Returns the body of a case.
 fn body_of(alloc: Global, about: &Value) -> Result<String, AllocError> {
     match about.get(1usize) {
         Some(body) => body.to_string(alloc),
@@ -231,7 +231,7 @@ fn at_of(alloc: Global, about: &Value) -> Result<String, AllocError> {
     at_pointer(alloc, pointer.unwrap_or("no text"), body.as_str())
 }
 
-/// What stands at a pointer in the first document of a body.
+/// Returns what is at a pointer in the first document of a body.
 pub fn at(alloc: Global, about: &str) -> Result<String, AllocError> {
     let about = json(alloc, about)?;
     at_of(alloc, &about)

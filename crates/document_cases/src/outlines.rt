@@ -1,4 +1,4 @@
-//! Cases of outlines, and outlines as they are written in the table.
+//! Cases about outlines, and outlines as they are written in the table.
 
 use crate::bodies::id;
 use crate::pointers::json;
@@ -7,13 +7,13 @@ use iodef_tree::{Document, Kind, Line, OutlineFault, Text};
 use serde_json::Value;
 use std::alloc::{AllocError, Global};
 
-/// The text as JSON.
+/// Returns the text as JSON.
 fn quoted(alloc: Global, text: &str) -> Result<String, AllocError> {
     let value = Value::String(String::from_str(alloc, text)?);
     value.to_string(alloc)
 }
 
-/// What stands behind the kind: a text as JSON, anything else as it is.
+/// Returns what follows the kind: a text as JSON, anything else as it is.
 fn told(alloc: Global, line: &Line) -> Result<String, AllocError> {
     let text = line.text.as_str();
     match line.kind {
@@ -30,7 +30,7 @@ fn kind_in_front(kind: Kind) -> &'static str {
     }
 }
 
-/// The line as DEPTH NAME KIND TEXT.
+/// Returns the line as DEPTH NAME KIND TEXT.
 pub fn written(alloc: Global, line: &Line) -> Result<String, AllocError> {
     let depth = line.depth;
     let name = line.name.as_str();
@@ -48,7 +48,7 @@ fn kind_of(word: &str) -> Kind {
     }
 }
 
-/// What stands behind the kind: of a text what its JSON says, and else as it is.
+/// Returns the text that follows the kind: for `text` what its JSON says, else the words as they are.
 fn text_of(alloc: Global, kind: &str, text: &str) -> Result<Text, AllocError> {
     let quoted = json(alloc, text)?;
     let text = match kind {

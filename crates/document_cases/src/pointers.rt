@@ -1,10 +1,10 @@
-//! Cases of JSON pointers.
+//! Cases about JSON pointers.
 
 use iodef_tree::{Path, PathFault};
 use serde_json::Value;
 use std::alloc::{AllocError, Global};
 
-/// The JSON of a case; null where it is none.
+/// Returns the JSON of a case, or null if it is none.
 pub fn json(alloc: Global, about: &str) -> Result<Value, AllocError> {
     match Value::from_str(alloc, about) {
         Ok(value) => Ok(value),
@@ -17,7 +17,7 @@ pub fn json(alloc: Global, about: &str) -> Result<Value, AllocError> {
     }
 }
 
-/// The path of a text, if it is a pointer.
+/// Returns the path of a text, if it is a pointer.
 pub fn path_of(alloc: Global, text: &str) -> Result<Option<Path>, AllocError> {
     match Path::parse(alloc, text) {
         Ok(path) => Ok(Some(path)),
@@ -26,7 +26,7 @@ pub fn path_of(alloc: Global, text: &str) -> Result<Option<Path>, AllocError> {
     }
 }
 
-/// The tokens as JSON.
+/// Returns the tokens as JSON.
 fn tokens(alloc: Global, path: &Path) -> Result<String, AllocError> {
     let mut all = Vec::new(alloc);
     for token in path.tokens() {
@@ -35,7 +35,7 @@ fn tokens(alloc: Global, path: &Path) -> Result<String, AllocError> {
     Value::Array(all).to_string(alloc)
 }
 
-/// The tokens of the path, where it prints as the text; else what it prints as.
+/// Returns the tokens of the path if it prints as the text, else what it prints as.
 fn printed_as(alloc: Global, path: &Path, text: &str) -> Result<String, AllocError> {
     let printed = path.print(alloc)?;
     if printed.as_str() == text {
@@ -57,7 +57,7 @@ pub fn pointer(alloc: Global, about: &str) -> Result<String, AllocError> {
     read_back(alloc, value.as_str().unwrap_or("no text"))
 }
 
-/// The path of these tokens.
+/// Returns the path of these tokens.
 fn path_to(alloc: Global, parts: &[Value]) -> Result<Path, AllocError> {
     let mut path = Path::root(alloc);
     for part in parts {
@@ -79,7 +79,7 @@ pub fn print(alloc: Global, about: &str) -> Result<String, AllocError> {
     }
 }
 
-/// Whether the first path is a prefix of the second, if both texts are pointers.
+/// Returns whether the first path is a prefix of the second, if both texts are pointers.
 fn compared(alloc: Global, first: &str, second: &str) -> Result<Option<bool>, AllocError> {
     match (path_of(alloc, first)?, path_of(alloc, second)?) {
         (Some(prefix), Some(path)) => Ok(Some(prefix.is_prefix_of(&path))),

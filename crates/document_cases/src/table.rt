@@ -4,7 +4,7 @@ use crate::{bodies, outlines, pointers};
 use std::alloc::{AllocError, Global};
 use trying::written_out;
 
-/// What stands in front of the first space, and what stands behind it.
+/// Returns the words before the first space, and the words behind it.
 pub fn parts(line: &str) -> (&str, &str) {
     match line.split_once(' ') {
         Some(parts) => parts,
@@ -27,7 +27,7 @@ fn answered(alloc: Global, line: &str) -> Result<String, AllocError> {
     }
 }
 
-/// The answer of a case.
+/// Returns the answer of a case.
 pub fn answer(alloc: Global, line: &str) -> Result<String, AllocError> {
     let line = written_out(alloc, line)?;
     answered(alloc, line.as_str())

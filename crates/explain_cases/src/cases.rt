@@ -1,11 +1,11 @@
-//! The lines of the table, their words apart by bars:
+//! The lines of the table, with bars between their words:
 //!
-//!     report|JSON                                     reads the report that the lines behind ask of, and checks its markings
-//!     explain|STANDING|GATES|PERMISSIONS|POINTER      the text of the trace of the pointer, or NoClass
-//!     fields|STANDING|GATES|PERMISSIONS|POINTER       the gates and permissions of the trace, in its own order
+//!     report|JSON                                  reads the report that the lines behind ask about, and checks its markings
+//!     explain|STANDING|GATES|PERMISSIONS|POINTER   the text of the trace of the pointer, or NoClass
+//!     fields|STANDING|GATES|PERMISSIONS|POINTER    the gates and permissions of the trace, in its own order
 //!
-//! `words` of `trying_policy` tells how standings, gates and permissions are written. Lines that begin with # are headings, which
-//! are printed as they are; empty lines are skipped.
+//! `words` of `trying_policy` says how standings, gates and permissions are written. Lines that begin with # are
+//! headings, which are printed as they are; empty lines are skipped.
 
 use explain::{ExplainFault, Trace, explain};
 use iodef_tree::Path;
@@ -16,7 +16,7 @@ use trying_policy::{Report, Unfit, case_of, gate_word, permission_word, standing
 /// The source of each case.
 const SOURCE: u32 = 2;
 
-/// The answer of a line, with its newlines; the report is the one that the last line with one gave.
+/// Returns the answer of a line, with its newlines. The report is the one of the last line with one.
 pub fn answer(report: &mut Report, alloc: Global, line: &str) -> Result<String, Unfit> {
     let words: Vec<&str> = line.split('|').collect(alloc)?;
     match words.as_slice() {
@@ -55,7 +55,7 @@ fn trace_of(
     }
 }
 
-/// A gate as a word, with what became of it.
+/// Returns a gate as a word, and the rule by which it refuses, or `passes`.
 fn gate_told(alloc: Global, gate: &Gate, refusal: Option<Rule>) -> Result<String, AllocError> {
     let word = gate_word(alloc, gate)?;
     let result = match refusal {
@@ -65,7 +65,7 @@ fn gate_told(alloc: Global, gate: &Gate, refusal: Option<Rule>) -> Result<String
     format!(in alloc; "{word} {result}; ")
 }
 
-/// The gates and the permissions of a trace, as its fields have them.
+/// Returns the gates and the permissions of a trace, as its fields have them.
 fn fields_of(alloc: Global, trace: &Trace) -> Result<String, AllocError> {
     let mut told = String::from_str(alloc, "gates ")?;
     for (gate, refusal) in trace.gates.as_slice() {

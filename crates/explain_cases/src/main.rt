@@ -1,5 +1,5 @@
-//! The traces of the cases on standard input, one a line; each answer is the lines of the trace, or a word. A line that begins
-//! with `#` is printed as it is. What a case may say stands in `cases`.
+//! The traces of the cases on standard input, one a line; each answer is the lines of the trace, or a word. A line that
+//! begins with `#` is printed as it is. `cases` says what a case may say.
 #![tactic(auto)]
 
 mod cases;

@@ -1,4 +1,4 @@
-//! What the shelf found out, by words.
+//! The facts that the shelf found, by words.
 
 use circle::command::CircleFacts;
 use circle::text::Text;
@@ -39,7 +39,7 @@ fn known_of(alloc: Global, words: &str) -> Result<Option<IncidentFacts>, AllocEr
     }))
 }
 
-/// The first document of the body; none where there is no body, or where it can't be read.
+/// Returns the first document of the body, or none if there is no body or it can't be read.
 fn document_of(alloc: Global, words: &str) -> Option<Document> {
     let body = value(words, "document")?;
     match Document::read(alloc, body.as_bytes()) {
@@ -90,7 +90,7 @@ fn told_circle(alloc: Global, facts: &CircleFacts) -> Result<String, AllocError>
     Ok(all)
 }
 
-/// The facts by the same words.
+/// Returns the facts by the same words.
 pub fn describe_facts(alloc: Global, facts: &Facts) -> Result<String, AllocError> {
     let mut all = told_circle(alloc, &facts.circle)?;
     if let Some(known) = &facts.incident {

@@ -1,4 +1,4 @@
-//! What a shelf tells, as text.
+//! What a shelf returns, as text.
 
 use crate::told::{named_text, permitted_text};
 use circle::directory::Person;
@@ -67,7 +67,7 @@ fn push_numbers(
     Ok(())
 }
 
-/// Who shares a community with the source, or is in the one that the incident names, or in that alone.
+/// Returns the word for a person who shares a community with the source, is a peer, or both.
 fn community_word(community: bool, peer: bool) -> &'static str {
     match (community, peer) {
         (true, true) => " community",

@@ -1,4 +1,4 @@
-//! Requests one after another over a shelf in memory, from the test world on.
+//! Requests one after another over a shelf in memory, which begins with the test world.
 
 use crate::facts::describe_facts;
 use crate::world::world;
@@ -13,7 +13,7 @@ fn person<S: Shelf>(shelf: &mut S, number: u32) -> Result<Option<Person>, ShelfF
     shelf.person_by_key(&key_of(number))
 }
 
-/// What the person's request is answered, and is made where nothing refuses it.
+/// Returns the answer to the person's request, and makes its change if nothing refuses it.
 fn ask<S: Shelf>(
     alloc: Global,
     shelf: &mut S,
@@ -40,7 +40,7 @@ fn found<S: Shelf>(
     Ok(describe_facts(alloc, &facts)?)
 }
 
-/// A request of a person: the facts alone, or all that follows.
+/// Runs a request of a person: only its facts, or all that follows.
 fn request<S: Shelf>(
     alloc: Global,
     shelf: &mut S,
@@ -74,7 +74,7 @@ fn joined_groups<S: Shelf>(
     }
 }
 
-/// What stands of an incident or of a person.
+/// Returns what the shelf has of an incident or of a person.
 fn read<S: Shelf>(
     alloc: Global,
     shelf: &mut S,
@@ -112,7 +112,7 @@ fn founded<S: Shelf>(shelf: &mut S, edits: &[Edit]) -> Result<(), ShelfFault> {
     shelf.apply(edits)
 }
 
-/// The answer to each step, the steps and the answers with a semicolon between them.
+/// Returns the answer to each step. Steps and answers have a semicolon between them.
 pub fn answer(alloc: Global, steps: &str) -> Result<String, AllocError> {
     let mut shelf = ListShelf::new(alloc);
     let edits = world(alloc)?;

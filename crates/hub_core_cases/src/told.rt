@@ -9,7 +9,7 @@ use iodef_tree::Path;
 use policy::Grantee;
 use std::alloc::{AllocError, Global};
 
-/// Whom a permission is for, and its end if it has one.
+/// Returns the grantee of a permission, and its end if it has one.
 pub fn permitted_text(
     alloc: Global,
     permission: &policy::Permission,
@@ -38,7 +38,7 @@ fn recipient(alloc: Global, recipient: &Recipient) -> Result<String, AllocError>
     }
 }
 
-/// The community that an incident names, if it names one.
+/// Returns the community that an incident names, if it names one.
 pub fn named_text(alloc: Global, community: Option<u32>) -> Result<String, AllocError> {
     match community {
         None => Ok(String::new(alloc)),
@@ -104,7 +104,7 @@ fn group_member(alloc: Global, member: &GroupMember) -> Result<String, AllocErro
     format!(in alloc; "put member {org} of group {group}{extend}")
 }
 
-/// What the table of the directory says of its edits, of those that occur here.
+/// Returns an edit of the directory in the words of its table, for the edits that occur here.
 fn directory(alloc: Global, row: &RowEdit) -> Result<String, AllocError> {
     match row {
         RowEdit::PutOrg(org) => {
@@ -166,7 +166,7 @@ fn numbers(alloc: Global, edits: &[Edit]) -> Result<String, AllocError> {
     Ok(all)
 }
 
-/// In short what is answered where nothing refused the request: `nothing` of a reading one, the revision of an exchanged
+/// Returns a short answer to a request that nothing refused: `nothing` if it only reads, the revision of an exchanged
 /// document, the numbers of new incidents, else `done`.
 pub fn outcome(alloc: Global, edits: &[Edit]) -> Result<String, AllocError> {
     match edits {

@@ -8,7 +8,7 @@ use hub_core::Edit;
 use std::alloc::{AllocError, Global};
 use trying_hub::key_of;
 
-/// A row with a name; where the text is none, an edit that changes nothing stands in its place.
+/// Returns an edit that puts an organisation. If there is no text, returns an edit that changes nothing.
 fn put_org(alloc: Global, number: u32, name: &str) -> Result<Edit, AllocError> {
     Ok(Edit::Directory(match Name::of(alloc, name)? {
         Some(name) => RowEdit::PutOrg(Org { number, name }),
@@ -72,7 +72,7 @@ fn put_persons(alloc: Global, edits: &mut Vec<Edit>) -> Result<(), AllocError> {
     Ok(())
 }
 
-/// The rows of the test world, as edits of a state without a row.
+/// Returns the rows of the test world, as edits of a state without a row.
 pub fn world(alloc: Global) -> Result<Vec<Edit>, AllocError> {
     let mut edits = Vec::new(alloc);
     for (number, name) in [(1, "Hub"), (2, "Src"), (3, "Mem"), (4, "Far"), (5, "Cli")] {

@@ -1,4 +1,4 @@
-//! What is asked by the bytes of a request, in words.
+//! The request in the bytes of a message, in words.
 
 use crate::bytes::bytes_of;
 use crate::commands::command;
@@ -49,7 +49,7 @@ fn target(target: Target) -> (&'static str, u32) {
     }
 }
 
-/// A request that reads.
+/// Returns the words of a request that reads.
 fn reading(alloc: Global, request: &Request) -> Result<Option<String>, AllocError> {
     let told = match request {
         Request::View { incident } => format!(in alloc; "View {incident}")?,
@@ -88,7 +88,7 @@ fn reading(alloc: Global, request: &Request) -> Result<Option<String>, AllocErro
     Ok(Some(told))
 }
 
-/// What stands behind a grant with an end.
+/// Returns the words behind a grant with an end.
 fn end_text(alloc: Global, until: Option<i64>) -> Result<String, AllocError> {
     match until {
         None => Ok(String::new(alloc)),
@@ -96,7 +96,7 @@ fn end_text(alloc: Global, until: Option<i64>) -> Result<String, AllocError> {
     }
 }
 
-/// What stands in front of how far an incident reaches that names a community.
+/// Returns the words in front of the level of an incident that names a community.
 fn community_text(alloc: Global, community: Option<u32>) -> Result<String, AllocError> {
     match community {
         None => Ok(String::new(alloc)),
@@ -112,7 +112,7 @@ fn distribution(alloc: Global, wanted: &Distribution) -> Result<String, AllocErr
     format!(in alloc; "{community}level {level} group {group} gates{gates}")
 }
 
-/// A request with a document.
+/// Returns the words of a request with a document.
 fn posting(alloc: Global, request: &Request) -> Result<Option<String>, AllocError> {
     let told = match request {
         Request::Post(asked) => {
@@ -133,7 +133,7 @@ fn posting(alloc: Global, request: &Request) -> Result<Option<String>, AllocErro
     Ok(Some(told))
 }
 
-/// A request that changes who sees an incident.
+/// Returns the words of a request that changes who sees an incident.
 fn redistribute(alloc: Global, asked: &Redistribute) -> Result<String, AllocError> {
     let (incident, revision, level) = (asked.incident, asked.revision, asked.level);
     let path = asked.path.as_str();
@@ -189,7 +189,7 @@ fn request(alloc: Global, request: &Request) -> Result<String, AllocError> {
     }
 }
 
-/// The key's digest, or `absent`, and the request.
+/// Returns the key's digest, or `absent`, and the request.
 fn describe(alloc: Global, key: &Key, wanted: &Request) -> Result<String, AllocError> {
     let key = match key {
         Key::Absent => String::from_str(alloc, "absent")?,
@@ -199,7 +199,7 @@ fn describe(alloc: Global, key: &Key, wanted: &Request) -> Result<String, AllocE
     format!(in alloc; "{key} {told}")
 }
 
-/// The answer to the bytes of a request.
+/// Returns the answer to the bytes of a request.
 pub fn answer(alloc: Global, line: &str) -> Result<String, AllocError> {
     let bytes = bytes_of(alloc, line)?;
     match request_of(alloc, &bytes) {

@@ -1,9 +1,9 @@
-//! The bytes that a line stands for.
+//! The bytes of a line.
 
 use std::alloc::{AllocError, Global};
 use trying::written_out;
 
-/// The byte of two hexadecimal digits, or 0.
+/// Returns the byte of two hexadecimal digits, or 0.
 fn byte_of(digits: &[u8]) -> u8 {
     let mut byte = [0];
     match hex::decode_to_slice(digits, &mut byte) {
@@ -12,7 +12,7 @@ fn byte_of(digits: &[u8]) -> u8 {
     }
 }
 
-/// What stands behind a backslash.
+/// Adds what follows a backslash.
 fn push_escaped(all: &mut Vec<u8>, piece: &[u8]) -> Result<(), AllocError> {
     let (byte, rest) = match piece {
         [b'r', rest @ ..] => (b'\r', rest),

@@ -76,7 +76,7 @@ fn handling_name(handling: Handling) -> &'static str {
     }
 }
 
-/// The role, the handling or the flag that the command sets, if it sets one.
+/// Returns the role, the handling or the flag that the command sets, if it sets one.
 fn setting_of(command: &CircleCommand) -> &'static str {
     match command {
         CircleCommand::AddPerson { role, .. } => role_name(*role),
@@ -89,7 +89,7 @@ fn setting_of(command: &CircleCommand) -> &'static str {
     }
 }
 
-/// Its word, its numbers and texts in their order, what it sets, and a digest.
+/// Returns its word, its numbers and texts in their order, what it sets, and a digest.
 pub fn command(alloc: Global, command: &CircleCommand) -> Result<String, AllocError> {
     let mut all = String::from_str(alloc, command_name(command))?;
     for number in numbers_of(command).into_iter().flatten() {

@@ -1,4 +1,4 @@
-//! What a hub has, as its callers see it.
+//! The content of a hub, as its callers read it.
 
 use crate::serving::NOW;
 use hub::Hub;
@@ -9,7 +9,7 @@ use std::alloc::{AllocError, Global};
 /// The keys of the persons.
 const KEYS: [&str; 6] = ["abc", "key-2", "key-3", "key-4", "key-5", "key-6"];
 
-/// What each of them asks.
+/// The targets that each of them asks for.
 const TARGETS: [&str; 6] = [
     "/me",
     "/me/groups",
@@ -35,7 +35,7 @@ fn push_told(
     Ok(())
 }
 
-/// The bytes of all that the persons are told of themselves, of their groups and of the incidents.
+/// Returns the bytes of all replies to the persons, about themselves, their groups and the incidents.
 pub fn content(alloc: Global, hub: &mut Hub<ListShelf>) -> Result<Vec<u8>, AllocError> {
     let mut all = Vec::new(alloc);
     for key in KEYS {

@@ -1,33 +1,37 @@
-//! Answers the cases on standard input, one a line, and prints each answer. A line that begins with `#` is printed as it is.
-//! In what is printed `\r` and `\n` stand for CR and LF; so they do in the bytes of a request, where `\x41` is any byte
-//! (`\x5c` the backslash) and `<3*a:b\r\n>` is three times what stands behind the star.
+//! Answers the cases on standard input, one a line, and prints each answer. A line that begins with `#` is printed as
+//! it is. In the output `\r` and `\n` mean CR and LF. They do so too in the bytes of a request, where `\x41` is any
+//! byte (`\x5c` the backslash) and `<3*a:b\r\n>` is three times what follows the star.
 //!
-//! What is asked: `asked|BYTES`, answered by the key and what is asked with it, or by the first fault of the bytes.
+//! A request: `asked|BYTES`, answered by the key and the request, or by the first fault of the bytes.
 //!
-//! What is replied: `reply|REPLY`, answered by the bytes of the reply, and `body|REPLY`, by the body alone. REPLY is one of
+//! A reply: `reply|REPLY`, answered by the bytes of the reply, and `body|REPLY`, answered only by the body. REPLY is
+//! one of
 //!
-//! - `done`; `numbers|1,2`; `revision|2`; `trace|TEXT`; `caller|NUMBER|ORG|NAME|ROLE|nominated`, the last empty where it isn't
-//! - `incidents|NUMBER REVISION SOURCE,..` and `groups|NUMBER:OWNER:NAME:RELEASABILITY:FLAGS,..` with the flags `active` and `extend`
-//! - `view|NUMBER|REVISION|SOURCE|STANDING|GATES|PERMISSIONS|DOCUMENT`: what a reader is served of a document, if anything.
-//!   `words` of `trying_policy` tells how standings, gates and permissions are written.
+//! - `done`; `numbers|1,2`; `revision|2`; `trace|TEXT`; `caller|NUMBER|ORG|NAME|ROLE|nominated`, the last empty if it
+//!   isn't
+//! - `incidents|NUMBER REVISION SOURCE,..` and `groups|NUMBER:OWNER:NAME:RELEASABILITY:FLAGS,..` with the flags
+//!   `active` and `extend`
+//! - `view|NUMBER|REVISION|SOURCE|STANDING|GATES|PERMISSIONS|DOCUMENT`: what a reader is served of a document, if
+//!   anything. `words` of `trying_policy` says how standings, gates and permissions are written.
 //! - `refused|CODE|DETAIL`
 //!
 //! and `fault|NAME` is answered by the bytes of that fault.
 //!
-//! Whole connections over memory: `WAY|BYTES`, answered by the outcome and what was written. The hub keeps what it is told from
-//! line to line; it begins with organisation 1 and its administrator, person 1, whose key is `abc`. WAY is one of
+//! Whole connections over memory: `WAY|BYTES`, answered by the outcome and what was written. The hub keeps its changes
+//! from line to line. It begins with organisation 1 and its administrator, person 1, whose key is `abc`. WAY is one of
 //!
 //! - `whole`: the reader gives all bytes at once;
-//! - `unchanged`: the same; where something is changed by it that the six persons are told, `changed` stands before the answer;
-//! - `bytes`: it gives them one by one, and the count of reads is told;
-//! - `prefixes`: each proper prefix, and how many of them ended as cut off with nothing written;
-//! - `reads`: one by one, and the k-th read fails, for each k up to the last read that a request takes; told is how many ended so with
-//!   nothing written;
-//! - `writes`: the writer takes 16 bytes at a time, and its k-th write fails, for each k up to the last write that the reply takes;
-//!   told is how many ended so;
-//! - `writes anew`, with two requests and a bar between them: the same for the second, which the first one takes back before each k;
-//!   told is the outcome for each k, and with which code it is then refused;
-//! - `disturbed`: the first read is interrupted, and no byte is asked of the line; `unwritten`: the writer takes nothing.
+//! - `unchanged`: the same; if it changes some reply to the six persons, the answer begins with `changed`;
+//! - `bytes`: the reader gives them one by one, and the answer has the count of reads;
+//! - `prefixes`: each proper prefix, answered by how many of them ended as cut off with nothing written;
+//! - `reads`: one by one, and the k-th read fails, for each k up to the last read that a request takes; answered by how
+//!   many ended so with nothing written;
+//! - `writes`: the writer takes 16 bytes at a time, and its k-th write fails, for each k up to the last write that the
+//!   reply takes; answered by how many ended so;
+//! - `writes anew`, with two requests and a bar between them: the same for the second, which the first one takes back
+//!   before each k; answered by the outcome for each k, and by the code with which the second is then refused;
+//! - `disturbed`: the first read is interrupted, and no byte is asked of the line; `unwritten`: the writer takes
+//!   nothing.
 #![tactic(auto)]
 
 mod asked;

@@ -1,4 +1,4 @@
-//! The reply that a line tells.
+//! The reply that a line names.
 
 use crate::views::view_of;
 use circle::directory::Person;
@@ -112,7 +112,7 @@ fn refused_of(alloc: Global, fields: &str) -> Reply {
     Reply::Refused(Refusal::new(alloc, code_of(code), detail))
 }
 
-/// The reply of a line; none where it tells none.
+/// Returns the reply of a line, or none if it names none.
 pub fn reply_of(alloc: Global, line: &str) -> Result<Option<Reply>, AllocError> {
     let (kind, fields) = line.split_once('|').unwrap_or((line, ""));
     match kind {

@@ -40,7 +40,7 @@ fn whole(alloc: Global, hub: &mut Hub<ListShelf>, bytes: &[u8]) -> Result<String
     describe(alloc, served, &out)
 }
 
-/// The same, and whether all that the persons are told is the same behind it as before.
+/// Returns the same, and whether all replies to the persons are the same after it as before.
 fn unchanged(alloc: Global, hub: &mut Hub<ListShelf>, bytes: &[u8]) -> Result<String, AllocError> {
     let before = content(alloc, hub)?;
     let told = whole(alloc, hub, bytes)?;
@@ -125,8 +125,8 @@ fn failing_writes(
     String::from_str(alloc, "every write failed")
 }
 
-/// One request, of whose reply the k-th write fails, for each k. Before each it is taken back by another one, and behind each
-/// failure it is asked again, with a writer that takes all.
+/// Serves one request whose reply fails at the k-th write, for each k. Before each k another request takes it back.
+/// After each failure it is asked again, with a writer that takes all bytes.
 fn failing_writes_anew(
     alloc: Global,
     hub: &mut Hub<ListShelf>,
@@ -165,7 +165,7 @@ fn unwritten(alloc: Global, hub: &mut Hub<ListShelf>, bytes: &[u8]) -> Result<St
     String::from_str(alloc, outcome(served))
 }
 
-/// The answer to the bytes of a request that are served in this way.
+/// Returns the answer to the bytes of a request that are served in this way.
 pub fn answer(
     alloc: Global,
     hub: &mut Hub<ListShelf>,

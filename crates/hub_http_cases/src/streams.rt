@@ -1,9 +1,9 @@
-//! Readers and writers that give and take little, and fail.
+//! Readers and writers that give and take few bytes, and fail.
 
 use std::io;
 use std::io::{ErrorKind, Read, Write};
 
-/// Gives a byte at a time. Behind so many reads one fails.
+/// Gives a byte at a time. After so many reads one fails.
 #[derive(Drop)]
 pub struct Drip<'a> {
     pub bytes: &'a [u8],
@@ -28,7 +28,7 @@ impl Read for Drip<'_> {
     }
 }
 
-/// Takes 16 bytes at a time. Behind so many writes one fails.
+/// Takes 16 bytes at a time. After so many writes one fails.
 #[derive(Drop)]
 pub struct Narrow {
     pub writes: u32,
@@ -49,7 +49,7 @@ impl Write for Narrow {
     }
 }
 
-/// Gives nothing, since a signal came in between.
+/// Gives nothing, because a signal interrupted it.
 #[derive(Drop)]
 pub struct Disturbed;
 

@@ -1,4 +1,4 @@
-//! What a reader is served of a document.
+//! The part of a document that a reader is served.
 
 use hub_core::{Reply, View, Withheld};
 use redact::{Excerpt, excerpt};
@@ -31,7 +31,7 @@ fn asked_of(fields: &str) -> Option<Asked<'_>> {
     })
 }
 
-/// What the reader is served of the document, by the gates and the permissions.
+/// Returns what the reader is served of the document, by the gates and the permissions.
 fn serve_excerpt(alloc: Global, asked: &Asked<'_>) -> Result<Option<Excerpt>, Unfit> {
     let mut report = Report::new();
     report.read(alloc, asked.document)?;
@@ -40,7 +40,7 @@ fn serve_excerpt(alloc: Global, asked: &Asked<'_>) -> Result<Option<Excerpt>, Un
     Ok(excerpt(alloc, report.document()?, &case, &standing)?)
 }
 
-/// The view of a line; none where it tells none, or where nothing is visible.
+/// Returns the view of a line, or none if it names none or if nothing is visible.
 pub fn view_of(alloc: Global, fields: &str) -> Result<Option<Reply>, AllocError> {
     let Some(asked) = asked_of(fields) else {
         return Ok(None);

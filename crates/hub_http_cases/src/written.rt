@@ -4,7 +4,7 @@ use crate::replies::reply_of;
 use hub_http::{WireFault, body_text, fault_bytes, reply_bytes};
 use std::alloc::{AllocError, Global};
 
-/// The text with `\r` and `\n` for CR and LF.
+/// Returns the text with `\r` and `\n` for CR and LF.
 fn show_ends(alloc: Global, text: &str) -> Result<String, AllocError> {
     let mut all = String::new(alloc);
     for c in text.chars() {
@@ -17,7 +17,7 @@ fn show_ends(alloc: Global, text: &str) -> Result<String, AllocError> {
     Ok(all)
 }
 
-/// Bytes as they are printed.
+/// Returns bytes as they are printed.
 pub fn shown_bytes(alloc: Global, bytes: &[u8]) -> Result<String, AllocError> {
     match std::str::from_utf8(bytes) {
         Ok(text) => show_ends(alloc, text),
@@ -40,7 +40,7 @@ fn fault_named(name: &str) -> Option<WireFault> {
     }
 }
 
-/// The answer to the name of a fault.
+/// Returns the answer to the name of a fault.
 pub fn fault(alloc: Global, name: &str) -> Result<String, AllocError> {
     match fault_named(name) {
         Some(fault) => shown_bytes(alloc, &fault_bytes(alloc, fault)?),
@@ -48,7 +48,7 @@ pub fn fault(alloc: Global, name: &str) -> Result<String, AllocError> {
     }
 }
 
-/// The answer to a reply: its bytes.
+/// Returns the answer to a reply: its bytes.
 pub fn reply(alloc: Global, line: &str) -> Result<String, AllocError> {
     match reply_of(alloc, line)? {
         Some(reply) => shown_bytes(alloc, &reply_bytes(alloc, &reply)?),
@@ -56,7 +56,7 @@ pub fn reply(alloc: Global, line: &str) -> Result<String, AllocError> {
     }
 }
 
-/// The answer to a reply: its body alone.
+/// Returns the answer to a reply: only its body.
 pub fn body(alloc: Global, line: &str) -> Result<String, AllocError> {
     match reply_of(alloc, line)? {
         Some(reply) => body_text(alloc, &reply),

@@ -1,4 +1,4 @@
-//! The answers of the lines that ask of no report.
+//! The answers of the lines that ask about no report.
 
 use crate::labels::{compared, read_label};
 use crate::line::Line;
@@ -32,7 +32,7 @@ fn order(alloc: Global, first: &str, second: &str) -> Result<String, Unfit> {
     Ok(compared(alloc, first, second)?)
 }
 
-/// How the reader passes a gate of this level at the root.
+/// Returns how the reader passes a gate of this level at the root.
 fn gate(alloc: Global, standing: &Standing, passage: &str) -> Result<String, Unfit> {
     let (level, group) = passage_of(passage)?;
     let path = Path::root(alloc);
@@ -54,7 +54,7 @@ fn numbers(alloc: Global, standing: &str) -> Result<String, Unfit> {
     Ok(groups_given_back(alloc, standing)?)
 }
 
-/// The moment that the text says.
+/// Returns the moment that the text says.
 fn moment(alloc: Global, text: &str) -> Result<String, Unfit> {
     match read_moment(text) {
         Ok(seconds) => Ok(format!(in alloc; "{seconds}")?),
@@ -63,7 +63,7 @@ fn moment(alloc: Global, text: &str) -> Result<String, Unfit> {
     }
 }
 
-/// The answer of a line that asks of a reader.
+/// Returns the answer of a line that asks about a reader.
 fn answer_of_reader(alloc: Global, line: &Line<'_>) -> Result<String, Unfit> {
     let standing = standing_of(alloc, line.first)?;
     match line.kind {
@@ -74,7 +74,7 @@ fn answer_of_reader(alloc: Global, line: &Line<'_>) -> Result<String, Unfit> {
     }
 }
 
-/// The answer of a line that asks of no report.
+/// Returns the answer of a line that asks about no report.
 pub fn answer_alone(alloc: Global, line: &Line<'_>) -> Result<String, Unfit> {
     match line.kind {
         "label" => label(alloc, line.first, line.second, line.third),

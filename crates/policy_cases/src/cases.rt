@@ -1,10 +1,10 @@
-//! The lines of the table, their words apart by bars:
+//! The lines of the table, with bars between their words:
 //!
 //!     label|ARRANGED|RESTRICTION            the label that it spells, and its handling; ARRANGED is a handling or -
 //!     label|ARRANGED|RESTRICTION|EXT        the same with a text in ext-restriction
 //!     order|HANDLING|HANDLING               how the two compare
 //!     incident|TOKEN|TOKEN                  whether the path of the two tokens is the Incident's
-//!     report|JSON                           reads the report that the lines behind ask of, and checks its markings
+//!     report|JSON                           reads the report that the lines behind ask about, and checks its markings
 //!     marks                                 each class of the report with its label
 //!     site|POINTER                          the labels at a path of it
 //!     clearance|STANDING                    what the reader is cleared for
@@ -13,21 +13,21 @@
 //!     decide|STANDING|GATES|PERMISSIONS|POINTERS      the verdict of each pointer
 //!     excerpt|STANDING|GATES|PERMISSIONS              what the reader is served of it, at once and line by line
 //!     kept|STANDING|GATES|PERMISSIONS|POINTER         the labels at a path of what the reader is served
-//!     feed|STANDING|GATES|PERMISSIONS|LINES           what a pass answers of these lines and at the end, of no report
+//!     feed|STANDING|GATES|PERMISSIONS|LINES           what a pass answers to these lines and at the end, of no report
 //!     listed|STANDING|GATES|PERMISSIONS               whether it is listed to the reader
 //!     find|STANDING|GATES|PERMISSIONS|NEEDLE          whether the reader finds the needle in it
 //!     find|STANDING|GATES|PERMISSIONS|NEEDLE|CLASS    the same, in classes of this name
-//!     probe|STANDING|GATES|PERMISSIONS                at which of its lines a search is sure that it is listed, and the end
-//!     probe|STANDING|GATES|PERMISSIONS|NEEDLE         the same of the needle, if there is one
+//!     probe|STANDING|GATES|PERMISSIONS                at which of its lines a search is sure it's listed, and the end
+//!     probe|STANDING|GATES|PERMISSIONS|NEEDLE         the same for the needle, if there is one
 //!     probe|STANDING|GATES|PERMISSIONS|NEEDLE|CLASS   the same, in classes of this name
-//!     seek|STANDING|GATES|PERMISSIONS|LINES           what a search answers of these lines and at the end, of no report
-//!     seek|STANDING|GATES|PERMISSIONS|LINES|NEEDLE    the same of a needle
+//!     seek|STANDING|GATES|PERMISSIONS|LINES           what a search answers to these lines and at the end, of no report
+//!     seek|STANDING|GATES|PERMISSIONS|LINES|NEEDLE    the same for a needle
 //!     lists|GATES|PERMISSIONS               the gates and permissions that a case gives back
 //!     numbers|STANDING                      the groups that the reader's standing gives back
 //!     moment|TEXT                           the moment that the text says
 //!
-//! `words` of `trying_policy` tells how standings, gates, permissions and grantees are written. Lines that begin with # are
-//! headings, which are printed as they are; empty lines are skipped.
+//! `words` of `trying_policy` says how standings, gates, permissions and grantees are written. Lines that begin with #
+//! are headings, which are printed as they are; empty lines are skipped.
 
 use crate::alone::answer_alone;
 use crate::labels::{marked, sited};
@@ -39,7 +39,7 @@ use iodef_tree::Path;
 use std::alloc::Global;
 use trying_policy::{Report, Unfit};
 
-/// The answer of a line; the report is the one that the last line with one gave.
+/// Returns the answer of a line. The report is the one of the last line with one.
 pub fn answer(report: &mut Report, alloc: Global, line: &str) -> Result<String, Unfit> {
     let line = Line::of(line)?;
     match line.kind {

@@ -10,7 +10,7 @@ use std::alloc::{AllocError, Global};
 use std::cmp::Ordering;
 use trying_policy::Unfit;
 
-/// The label that the two texts spell, and how it is handled.
+/// Returns the label that the two texts spell, and how it is handled.
 pub fn read_label(
     alloc: Global,
     restriction: &str,
@@ -25,7 +25,7 @@ pub fn read_label(
     format!(in alloc; "{text}: {handling}")
 }
 
-/// How two handlings compare, and whether the first is at most the second.
+/// Returns how two handlings compare, and whether the first is at most the second.
 pub fn compared(alloc: Global, first: Handling, second: Handling) -> Result<String, AllocError> {
     let order = match first.cmp(&second) {
         Ordering::Less => "less",
@@ -36,7 +36,7 @@ pub fn compared(alloc: Global, first: Handling, second: Handling) -> Result<Stri
     format!(in alloc; "{order}, at most: {at_most}")
 }
 
-/// Each class with its label, that label's handling and its site.
+/// Returns each class with its label, that label's handling and its site.
 pub fn marked(alloc: Global, document: &Document) -> Result<String, Unfit>
     requires { first_bad_marking (located document.now) ≡ None }
 {
@@ -53,7 +53,7 @@ struct Told {
     text: String,
 }
 
-/// Nothing is promised of the text, which the table compares.
+/// It has no contract for the text, which the table compares.
 impl MarkWriter for Told {
     ghost text = { λ _. [] };
 
@@ -79,7 +79,7 @@ fn text_of(alloc: Global, label: Option<Label<'_>>) -> Result<String, AllocError
     }
 }
 
-/// The label that holds at a path, and its site.
+/// Returns the label that holds at a path, and its site.
 fn placed(alloc: Global, site: &Path, label: Label<'_>) -> Result<String, AllocError> {
     let site = site.print(alloc)?;
     let label = label.text(alloc)?;
@@ -96,7 +96,7 @@ fn site_of(alloc: Global, document: &Document, path: &Path) -> Result<String, Al
     }
 }
 
-/// What is written at the path, its own label, and the site with the label that holds there.
+/// Returns what is written at the path, its own label, and the site with the label that holds there.
 pub fn sited(alloc: Global, document: &Document, path: &Path) -> Result<String, Unfit>
     requires { first_bad_marking (located document.now) ≡ None }
 {

@@ -2,20 +2,21 @@
 
 use trying_policy::Unfit;
 
-/// What a line asks, and the words behind it; those that aren't there are empty.
+/// The kind of a line, and the words behind it. Words that aren't there are empty.
 #[derive(Clone, Copy)]
 pub struct Line<'a> {
     pub kind: &'a str,
     pub first: &'a str,
     pub second: &'a str,
-    /// Of a label its extended text, if there is one; of what is asked of a report the permissions.
+    /// The extended text of a label, if there is one; for a report the permissions.
     pub third: Option<&'a str>,
     pub fourth: &'a str,
-    /// Of a search of the report the name of the class, if it is in one; of a search of lines the needle, if there is one.
+    /// In a search of the report the name of the class, if there is one; in a search of lines the needle, if there is
+    /// one.
     pub fifth: Option<&'a str>,
 }
 
-/// How many words may stand behind the kind, at least and at most; none of another kind.
+/// Returns the least and the greatest number of words behind the kind, or none for another kind.
 fn words_of(kind: &str) -> Option<(usize, usize)> {
     match kind {
         "marks" => Some((0, 0)),
@@ -30,7 +31,7 @@ fn words_of(kind: &str) -> Option<(usize, usize)> {
     }
 }
 
-/// Whether the line is of a known kind, with as many words as its kind wants.
+/// Returns whether the line is of a known kind, with as many words as its kind wants.
 fn is_whole(kind: &str, words: usize) -> bool {
     match words_of(kind) {
         Some((least, most)) => least <= words && words <= most,

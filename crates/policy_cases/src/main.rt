@@ -1,5 +1,5 @@
-//! Labels, markings, verdicts and what readers are served, by the cases on standard input, one a line; each answer is a line.
-//! A line that begins with `#` is printed as it is. What a case may say stands in `cases`.
+//! Labels, markings, verdicts and excerpts, by the cases on standard input, one a line; each answer is a line. A line
+//! that begins with `#` is printed as it is. `cases` says what a case may say.
 #![tactic(auto)]
 
 mod alone;
@@ -39,7 +39,7 @@ fn print_answer(rt: &HostRuntime, report: &mut Report, line: &str) -> io::Result
     println!(rt; "{answer}")
 }
 
-/// The answer of a line, or why there is none.
+/// Returns the answer of a line, or why there is none.
 fn answer(report: &mut Report, alloc: Global, line: &str) -> Result<String, AllocError> {
     match cases::answer(report, alloc, line) {
         Ok(answer) => Ok(answer),

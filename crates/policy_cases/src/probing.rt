@@ -7,7 +7,7 @@ use redact::{Probe, Want};
 use std::alloc::{AllocError, Global};
 use trying_policy::Unfit;
 
-/// The text, or none where nothing stands there.
+/// Returns the text, or none if it is empty.
 fn text_of(alloc: Global, word: &str) -> Result<Option<String>, AllocError> {
     if word.is_empty() {
         return Ok(None);
@@ -15,7 +15,7 @@ fn text_of(alloc: Global, word: &str) -> Result<Option<String>, AllocError> {
     Ok(Some(String::from_str(alloc, word)?))
 }
 
-/// A search by what is looked for; of the needle and of the class none where nothing stands there.
+/// Returns a search by its want. The needle and the class are none if they are empty.
 pub fn probe_of(
     alloc: Global,
     asker: Asker,
@@ -28,7 +28,7 @@ pub fn probe_of(
     Ok(Probe::new(alloc, case, standing, Want { needle, class })?)
 }
 
-/// What the search answers of one more line, or at the end.
+/// Returns what the search answers to one more line, or at the end.
 fn answer_of(answer: Result<bool, OutlineFault>) -> Result<&'static str, Unfit> {
     match answer {
         Ok(true) => Ok("sure"),
@@ -38,7 +38,7 @@ fn answer_of(answer: Result<bool, OutlineFault>) -> Result<&'static str, Unfit> 
     }
 }
 
-/// What it answers at the end.
+/// Returns what the search answers at the end.
 fn finish_of(probe: Probe) -> Result<&'static str, Unfit> {
     match answer_of(probe.finish())? {
         "sure" => Ok("met"),
@@ -47,7 +47,7 @@ fn finish_of(probe: Probe) -> Result<&'static str, Unfit> {
     }
 }
 
-/// The number of the first line at which the search is sure, with the first line as 1. All lines are fed.
+/// Returns the number of the first line at which the search is sure, with the first line as 1. Feeds all lines.
 fn sure_at(probe: &mut Probe, lines: Vec<Line>) -> Result<Option<usize>, Unfit> {
     let mut sure = None;
     for (i, line) in lines.into_iter().enumerate() {
@@ -59,7 +59,7 @@ fn sure_at(probe: &mut Probe, lines: Vec<Line>) -> Result<Option<usize>, Unfit> 
     Ok(sure)
 }
 
-/// At which line of a document the search is sure, and what it answers at the end.
+/// Returns at which line of a document the search is sure, and what it answers at the end.
 pub fn probed(alloc: Global, document: &Document, mut probe: Probe) -> Result<String, Unfit> {
     let sure = sure_at(&mut probe, document.outline(alloc)?)?;
     let finish = finish_of(probe)?;
@@ -69,7 +69,7 @@ pub fn probed(alloc: Global, document: &Document, mut probe: Probe) -> Result<St
     }
 }
 
-/// What the search answers of each of these lines, which spaces stand between, and at the end.
+/// Returns what the search answers to each of these lines, which have spaces between them, and at the end.
 pub fn sought(alloc: Global, mut probe: Probe, words: &str) -> Result<String, Unfit> {
     let mut told = String::new(alloc);
     for word in words.split_whitespace() {

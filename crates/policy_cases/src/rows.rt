@@ -6,7 +6,7 @@ use redact::RowPass;
 use std::alloc::Global;
 use trying_policy::{Unfit, number_of, said};
 
-/// What the pass answers of one more line.
+/// Returns what the pass answers to one more line.
 fn answer_of(pass: &mut RowPass, line: Line) -> Result<&'static str, Unfit> {
     match pass.feed(line) {
         Ok(()) => Ok("taken"),
@@ -15,7 +15,7 @@ fn answer_of(pass: &mut RowPass, line: Line) -> Result<&'static str, Unfit> {
     }
 }
 
-/// What the pass gives at the end.
+/// Returns what the pass gives at the end.
 fn finish_of(alloc: Global, pass: RowPass) -> Result<String, Unfit> {
     match pass.finish() {
         Ok(Some(excerpt)) => show(alloc, &excerpt),
@@ -25,7 +25,7 @@ fn finish_of(alloc: Global, pass: RowPass) -> Result<String, Unfit> {
     }
 }
 
-/// What the reader is served of a document, by its lines one after another.
+/// Returns what the reader is served of a document, by its lines one after another.
 pub fn served_by_lines(alloc: Global, document: &Document, asker: Asker) -> Result<String, Unfit> {
     let Asker { standing, case } = asker;
     let mut pass = RowPass::new(alloc, case, standing)?;
@@ -35,7 +35,7 @@ pub fn served_by_lines(alloc: Global, document: &Document, asker: Asker) -> Resu
     finish_of(alloc, pass)
 }
 
-/// What a word says of a member: its name, its kind and its text.
+/// Returns the name, the kind and the text of a member by its word.
 fn member_of(word: &str) -> (&str, Kind, &str) {
     if let Some((name, text)) = word.split_once('=') {
         return (name, Kind::Text, text);
@@ -46,8 +46,8 @@ fn member_of(word: &str) -> (&str, Kind, &str) {
     }
 }
 
-/// A line by its depth and its member, as `1:version`, with its text behind `=`; `{}` behind the name makes a class, and `[]` an
-/// element of an array.
+/// Returns a line by its depth and its member, as `1:version`, with its text behind `=`. `{}` behind the name makes a
+/// class, and `[]` an element of an array.
 pub fn line_of(alloc: Global, word: &str) -> Result<Line, Unfit> {
     let (depth, member) = word.split_once(':').ok_or(Unfit::NoCase)?;
     let (name, kind, text) = member_of(member);
@@ -64,7 +64,7 @@ pub fn line_of(alloc: Global, word: &str) -> Result<Line, Unfit> {
     })
 }
 
-/// What a pass answers of each of these lines, which spaces stand between, and at the end.
+/// Returns what a pass answers to each of these lines, which have spaces between them, and at the end.
 pub fn feed_words(alloc: Global, asker: Asker, words: &str) -> Result<String, Unfit> {
     let Asker { standing, case } = asker;
     let mut pass = RowPass::new(alloc, case, standing)?;

@@ -1,4 +1,4 @@
-//! What a reader is answered of a report: verdicts, its excerpt, whether it is listed, and what a search finds in it.
+//! The answers to a reader about a report: verdicts, its excerpt, whether it is listed, and what a search finds in it.
 
 ghost use Rattle.std.specs.Prelude.{◌≡◌, None};
 ghost use Rattle.iodef_tree.specs.Paths.{located};
@@ -17,14 +17,14 @@ use trying_policy::{Unfit, case_of, said, standing_of};
 /// The source of each case.
 pub const SOURCE: u32 = 2;
 
-/// Who asks of a report, and by what it is judged.
+/// The reader who asks about a report, and the case by which it is judged.
 #[derive(Drop)]
 pub struct Asker {
     pub standing: Standing,
     pub case: Case,
 }
 
-/// For whom the line asks.
+/// Returns the reader and the case of the line.
 pub fn asker_of(alloc: Global, line: &Line<'_>) -> Result<Asker, Unfit> {
     Ok(Asker {
         standing: standing_of(alloc, line.first)?,
@@ -39,7 +39,7 @@ fn push_pair(told: &mut String, alloc: Global, place: &Path, rule: Rule) -> Resu
     told.push_str(pair.as_str())
 }
 
-/// How many classes are visible, the document, and each withheld pair.
+/// Returns how many classes are visible, the document, and each withheld pair.
 pub fn show(alloc: Global, excerpt: &Excerpt) -> Result<String, Unfit> {
     let classes = excerpt.classes;
     let text = excerpt.document.text(alloc)?;
@@ -59,7 +59,7 @@ fn serve(alloc: Global, document: &Document, asker: &Asker) -> Result<String, Un
     }
 }
 
-/// What the reader is served, where it is the same line by line, else both.
+/// Returns what the reader is served if it is the same line by line, else both.
 fn served_twice(
     alloc: Global,
     document: &Document,
@@ -76,7 +76,7 @@ fn served_twice(
     Ok(format!(in alloc; "{served} and line by line {by_lines}")?)
 }
 
-/// The labels at a path of what the reader is served.
+/// Returns the labels at a path of what the reader is served.
 fn kept_labels(
     alloc: Global,
     document: &Document,
@@ -114,7 +114,7 @@ fn found(
     }
 }
 
-/// The answer to what a line asks of a report.
+/// Returns the answer to a line that asks about a report.
 pub fn answer_to(
     alloc: Global,
     document: &Document,

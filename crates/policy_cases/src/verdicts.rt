@@ -60,7 +60,7 @@ fn push_verdict(
     push_words(told, side, rule)
 }
 
-/// The verdict of each pointer, with commas between them.
+/// Returns the verdict of each pointer, with commas between them.
 pub fn verdicts(
     alloc: Global,
     document: &Document,
@@ -76,7 +76,7 @@ pub fn verdicts(
     Ok(told)
 }
 
-/// The gates and permissions that a case gives back.
+/// Returns the gates and permissions that a case gives back.
 pub fn given_back(alloc: Global, case: Case) -> Result<String, AllocError> {
     let source = case.source;
     let mut told = format!(in alloc; "source {source}")?;
@@ -100,7 +100,7 @@ fn groups_told(alloc: Global, groups: &[u32]) -> Result<String, AllocError> {
     Ok(told)
 }
 
-/// The numbers of the groups that a standing gives back.
+/// Returns the numbers of the groups that a standing gives back.
 pub fn groups_given_back(alloc: Global, standing: Standing) -> Result<String, AllocError> {
     let groups = standing.groups.into_vec();
     groups_told(alloc, &groups)

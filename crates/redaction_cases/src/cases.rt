@@ -1,5 +1,5 @@
-//! A case: a verb and what it is about, with a space between two parts. The last part is the rest of the line. `%` and two
-//! hexadecimal digits stand for a byte in it.
+//! A case: a verb and what it is about, with a space between two parts. The last part is the rest of the line. `%` and
+//! two hexadecimal digits in it mean a byte.
 //!
 //! - `report BYTES`: the report of the cases behind it; nothing is answered.
 //! - `excerpt VIEW`, `document VIEW`: what is answered, and a newline.
@@ -46,14 +46,14 @@ const FAULTS: [Fault; 23] = [
     Fault::NothingVisible,
 ];
 
-/// The bytes that a part stands for.
+/// Returns the bytes of a part.
 fn bytes_of(alloc: Global, part: &str) -> Result<Vec<u8>, AllocError> {
     let mut bytes = Vec::new(alloc);
     percent_decode(part.as_bytes()).append_to(&mut bytes)?;
     Ok(bytes)
 }
 
-/// The text of an answer, or its fault's number and name.
+/// Returns the text of an answer, or its fault's number and name.
 fn told(alloc: Global, answer: Result<Vec<u8>, Fault>) -> Result<String, AllocError> {
     match answer {
         Ok(bytes) => {
@@ -67,7 +67,7 @@ fn told(alloc: Global, answer: Result<Vec<u8>, Fault>) -> Result<String, AllocEr
     }
 }
 
-/// The answer on a line that ends.
+/// Returns the answer on a line that ends.
 fn line_of(alloc: Global, answer: Result<Vec<u8>, Fault>) -> Result<String, AllocError> {
     let mut text = told(alloc, answer)?;
     if !text.ends_with('\n') {
@@ -93,7 +93,7 @@ impl Table {
         }
     }
 
-    /// The answer to a case.
+    /// Returns the answer to a case.
     pub fn answer(&mut self, alloc: Global, line: &str) -> Result<String, AllocError> {
         let (verb, rest) = line.split_once(' ').unwrap_or((line, ""));
         match verb {
@@ -106,7 +106,7 @@ impl Table {
         }
     }
 
-    /// What the library answers.
+    /// Returns what the library answers.
     fn asked(
         &self,
         alloc: Global,

@@ -1,5 +1,5 @@
-//! Answers the cases on standard input, one a line, and prints each answer. A line that begins with `#` is printed as it is.
-//! `cases` says what a case may say.
+//! Answers the cases on standard input, one a line, and prints each answer. It prints a line that begins with `#` as it
+//! is. `cases` says what a case may say.
 #![tactic(auto)]
 
 mod cases;

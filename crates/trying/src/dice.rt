@@ -1,4 +1,4 @@
-//! Numbers for generated cases, the same for the same seed.
+//! Numbers for generated cases. The same seed gives the same numbers.
 
 ghost use Rattle.std.specs.Prelude.{◌≡◌, ◌+◌, ◌<◌, ◌≤◌, ◌↔◌, IsSome, length};
 ghost use Rattle.rand_pcg.specs.Lcg.{started, increment_of};
@@ -31,14 +31,14 @@ impl Dice {
         }
     }
 
-    /// A number below `sides`; 0 where there is none.
+    /// Returns a number below `sides`, or 0 if there is none.
     pub fn roll(&mut self, sides: u32) -> u32
         ensures { 0 < sides → result < sides }
     {
         self.numbers.next_word().checked_rem(sides).unwrap_or(0)
     }
 
-    /// A place among so many; 0 where there is none.
+    /// Returns a place among so many, or 0 if there is none.
     pub fn place(&mut self, count: usize) -> usize
         ensures { 0 < count → result < count }
     {
@@ -47,12 +47,12 @@ impl Dice {
             .unwrap_or(0)
     }
 
-    /// Once in so many times. Which times these are is left to the numbers.
+    /// Returns true once in so many times. The numbers decide which times.
     pub fn once_in(&mut self, sides: u32) -> bool {
         self.roll(sides) == 0
     }
 
-    /// A number from 1 to this one; 1 where there is none.
+    /// Returns a number from 1 to this one, or 1 if there is none.
     pub fn one_to(&mut self, count: u32) -> u32
         ensures positive { 1 ≤ result }
         ensures most { 0 < count → result ≤ count }
@@ -60,7 +60,7 @@ impl Dice {
         self.roll(count).saturating_add(1)
     }
 
-    /// One of these; none where there is none.
+    /// Returns one of these, or none if there is none.
     pub fn one_of<'a, T>(&mut self, items: &'a [T]) -> Option<&'a T>
         ensures { IsSome result ↔ (0 < length items.now) }
     {
@@ -68,7 +68,7 @@ impl Dice {
         items.get(place)
     }
 
-    /// One of these once in so many times, and else the other number; that too where there is none.
+    /// Returns one of these once in so many times, and otherwise the other number. Returns that too if there are none.
     pub fn one_of_or(&mut self, sides: u32, numbers: &[u32], other: u32) -> u32 {
         match self.one_of(numbers) {
             Some(number) if self.once_in(sides) => *number,
@@ -76,7 +76,8 @@ impl Dice {
         }
     }
 
-    /// Where rows are numbered from 1 to this one: the number of one of the first mostly; sometimes 0, or the one behind.
+    /// Returns the number of a row, if rows are numbered from 1 to this one: mostly of one of the first, sometimes 0 or
+    /// the next.
     pub fn number(&mut self, count: u32) -> u32
         ensures { 0 < count → result ≤ count + 1 }
     {

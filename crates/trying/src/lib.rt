@@ -1,6 +1,6 @@
-//! What test programs share and what is nothing of the product: dice for generated cases, a tally of what was met, and how a
-//! line of a table says numbers. Each program that compares or reads a table stands above it, so it stands on no library of
-//! the repository.
+//! What test programs share and the product doesn't use: dice for generated cases, a tally of what was met, and the
+//! numbers in a line of a table. Each program that compares or reads a table uses it. So it uses no library of the
+//! repository.
 //!
 //! The rooms: [`Dice`]; [`Tally`]; `lines`: [`written_out`], [`number_of`], [`number_if_any`].
 #![tactic(auto)]

@@ -1,13 +1,13 @@
-//! What the fields of a line of a table say. Nothing is promised of them: `stdout` of the program shows what they said.
+//! The fields of a line of a table. They have no contracts: the program's `stdout` shows what they said.
 
 use std::alloc::{AllocError, Global};
 
-/// The number, or 0.
+/// Returns the number, or 0.
 pub fn number_of(word: &str) -> u32 {
     word.parse::<u32>().unwrap_or(0)
 }
 
-/// The number, or none for `-`.
+/// Returns the number, or none for `-`.
 pub fn number_if_any(word: &str) -> Option<u32> {
     if word == "-" {
         None
@@ -16,7 +16,7 @@ pub fn number_if_any(word: &str) -> Option<u32> {
     }
 }
 
-/// The line with each `<3*0,>` written out as `0,0,0,`.
+/// Returns the line with each `<3*0,>` written out as `0,0,0,`.
 pub fn written_out(alloc: Global, line: &str) -> Result<String, AllocError> {
     let mut all = String::new(alloc);
     for piece in line.split('<') {

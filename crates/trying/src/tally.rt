@@ -9,7 +9,7 @@ struct Count {
     count: u32,
 }
 
-/// Counts of what cases show, each by a kind and an outcome. Nothing is promised of them: the programs print them.
+/// Counts of what cases show, each by a kind and an outcome. They have no contracts: the programs print them.
 #[derive(Drop)]
 pub struct Tally {
     alloc: Global,
@@ -47,13 +47,13 @@ impl Tally {
         Ok(())
     }
 
-    /// How often it did.
+    /// Returns how often the kind met the outcome.
     pub fn met(&self, kind: &str, outcome: &str) -> u32 {
         let found = self.counts.iter().find(|count| count.is_of(kind, outcome));
         found.map_or(0, |count| count.count)
     }
 
-    /// Whether nothing was met but what the rows have: of each kind its outcomes, with commas between them.
+    /// Returns whether only outcomes of the rows were met. A row has a kind and its outcomes, with commas between them.
     pub fn is_among(&self, rows: &[(&str, &str)]) -> bool {
         self.counts.iter().all(|count| {
             rows.iter().any(|row| row.0 == count.kind

@@ -1,11 +1,11 @@
-//! The command of the directory that a line names, and the names of its parts.
+//! The commands of the directory by name, and the names of their parts.
 
 use crate::fields::Fields;
 use circle::command::CircleCommand;
 use circle::directory::{Handling, Role};
 use std::alloc::{AllocError, Global};
 
-/// The key of the person of this number: 32 bytes of it.
+/// Returns the key of the person of this number: 32 bytes of it.
 pub fn key_of(person: u32) -> [u8; 32] {
     [u8::try_from(person).unwrap_or(0); 32]
 }
@@ -38,7 +38,7 @@ fn handling_of(word: &str) -> Handling {
     }
 }
 
-/// A command with a name.
+/// Returns a command with a name.
 fn naming(
     alloc: Global,
     command: &str,
@@ -65,7 +65,7 @@ fn naming(
     })
 }
 
-/// A command of an administrator, by numbers.
+/// Returns a command of an administrator, by numbers.
 fn of_administrators(command: &str, fields: &mut Fields<'_>) -> Option<CircleCommand> {
     match command {
         "SuspendPerson" => Some(CircleCommand::SuspendPerson {
@@ -99,7 +99,7 @@ fn of_administrators(command: &str, fields: &mut Fields<'_>) -> Option<CircleCom
     }
 }
 
-/// A command of a coordinator, by numbers.
+/// Returns a command of a coordinator, by numbers.
 fn of_coordinators(command: &str, fields: &mut Fields<'_>) -> Option<CircleCommand> {
     match command {
         "GroupAdd" => Some(CircleCommand::GroupAdd {
@@ -132,7 +132,7 @@ fn of_coordinators(command: &str, fields: &mut Fields<'_>) -> Option<CircleComma
     }
 }
 
-/// The command of this name; none where there is none.
+/// Returns the command of this name, or none if there is none.
 pub fn command_of(
     alloc: Global,
     command: &str,

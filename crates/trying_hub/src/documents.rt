@@ -15,7 +15,7 @@ const DOC6: &str =
 const DOC7: &str =
     r#"{"Incident":[{"Contact":[],"EventData":[{"Description":["x"],"Flow":[{"System":[],"restriction":"red"}]}],"GenerationTime":"g","IncidentID":"7","purpose":"reporting","restriction":"private"}],"version":"2.0"}"#;
 
-/// The document of that name, or the text itself.
+/// Returns the document of that name, or the text itself.
 pub fn document_text(text: &str) -> &str {
     match text {
         "DOC1" => DOC1,

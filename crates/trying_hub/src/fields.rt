@@ -1,4 +1,4 @@
-//! What a field of a line says.
+//! The fields of a line.
 
 use circle::text::Text;
 use std::alloc::{AllocError, Global};
@@ -18,7 +18,7 @@ impl<'a> Fields<'a> {
         }
     }
 
-    /// The next field, empty behind the last.
+    /// Returns the next field, empty behind the last.
     pub fn word(&mut self) -> &'a str {
         self.rest.next().unwrap_or("")
     }
@@ -27,22 +27,22 @@ impl<'a> Fields<'a> {
         number_of(self.word())
     }
 
-    /// A number, or none for `-`.
+    /// Returns the next field as a number, or none for `-`.
     pub fn number_if_any(&mut self) -> Option<u32> {
         number_if_any(self.word())
     }
 
-    /// A moment, in seconds since the beginning of 1970, or none for `-` and behind the last field.
+    /// Returns a moment, in seconds since the beginning of 1970, or none for `-` and behind the last field.
     pub fn moment_if_any(&mut self) -> Option<i64> {
         self.word().parse::<i64>().ok()
     }
 
-    /// Whether a flag holds: any word but `0` and `-`.
+    /// Returns whether a flag holds: any word but `0` and `-`.
     pub fn flag(&mut self) -> bool {
         !matches!(self.word(), "" | "0" | "-")
     }
 
-    /// The number of a person, also as `key-4`.
+    /// Returns the number of a person, also for `key-4`.
     pub fn owner(&mut self) -> u32 {
         let word = self.word();
         number_of(word.strip_prefix("key-").unwrap_or(word))

@@ -1,11 +1,11 @@
-//! What a line of a table says of the hub in words: what is asked of it, and with which rows it begins. A new field of a
-//! request is written here for each table.
+//! The words of a table for the hub: its requests, and the rows with which it begins. A new field of a request is
+//! written here for each table.
 //!
 //! The rooms: `fields`: [`Fields`], the fields of a line; `requests`: [`request_of`], the request that they name;
 //! `documents`: bodies by name; `commands`: [`command_of`], the directory's, and names of roles and commands; `rows`:
 //! [`first_rows`], [`first_shelf`]; `refusals`: [`refusal_text`].
 //!
-//! Nothing is promised of what words say: it would be said by the same words again, and `stdout` of the programs shows it.
+//! The words have no contracts: one would say the same words again, and the programs' `stdout` shows what they make.
 #![tactic(auto)]
 
 mod commands;

@@ -3,7 +3,7 @@
 use hub_core::Refusal;
 use std::alloc::{AllocError, Global};
 
-/// The code, and the detail where there is one.
+/// Returns the code and, if there is one, the detail.
 pub fn refusal_text(alloc: Global, refusal: &Refusal) -> Result<String, AllocError> {
     let code = refusal.code.name();
     let detail = refusal.detail.as_str();

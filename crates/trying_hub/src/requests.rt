@@ -1,8 +1,8 @@
 //! The request that the fields of a line name: WORD|FIELD|FIELD.. with the fields in the request's order.
 //!
-//! The level of a Post or a Replace is `1@3` where its incidents name community 3. A group is `-` for none, and so is a class;
-//! gates are LEVEL:GROUP:POINTER with a space between; targets and grantees are `person 4`, `org 3`, `community 1` or `group 1`.
-//! A grant's end is a number of seconds, and `-` or missing for none.
+//! The level of a Post or a Replace is `1@3` if its incidents name community 3. A group is `-` for none, and so is a
+//! class. Gates are LEVEL:GROUP:POINTER with a space between them. Targets and grantees are `person 4`, `org 3`,
+//! `community 1` or `group 1`. A grant's end is a number of seconds; it is `-` or missing for none.
 
 use crate::commands::command_of;
 use crate::documents::document_text;
@@ -58,7 +58,7 @@ fn body_of(alloc: Global, text: &str) -> Result<Bytes, AllocError> {
     Ok(Bytes::new(document_text(text).as_bytes().to_vec(alloc)?))
 }
 
-/// A level, and the community that is named, if one is.
+/// Returns a level, and the community if one is named.
 fn level_of(word: &str) -> (u32, Option<u32>) {
     match word.split_once('@') {
         Some((level, community)) => (number_of(level), Some(number_of(community))),
@@ -76,7 +76,7 @@ fn distribution(alloc: Global, fields: &mut Fields<'_>) -> Result<Distribution, 
     })
 }
 
-/// A request with a document.
+/// Returns a request with a document.
 fn posting(
     alloc: Global,
     name: &str,
@@ -97,7 +97,7 @@ fn posting(
     })
 }
 
-/// A request on an incident that is there.
+/// Returns a request about an incident that is there.
 fn sharing(
     alloc: Global,
     name: &str,
@@ -169,7 +169,7 @@ fn reading(alloc: Global, name: &str, fields: &mut Fields<'_>) -> Result<Request
     })
 }
 
-/// The request of this word and of the fields behind it.
+/// Returns the request of this word and of the fields behind it.
 pub fn request_of(alloc: Global, fields: &mut Fields<'_>) -> Result<Request, AllocError> {
     let name = fields.word();
     if let Some(command) = command_of(alloc, name, fields)? {

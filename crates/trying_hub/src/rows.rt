@@ -26,7 +26,7 @@ fn administrator(name: Name, key: [u8; 32]) -> Account {
     }
 }
 
-/// Organisation 1 and its administrator, person 1, who has this key.
+/// Returns organisation 1 and its administrator, person 1, who has this key.
 pub fn first_rows(alloc: Global, key: [u8; 32]) -> Result<Vec<Edit>, AllocError> {
     let mut edits = Vec::new(alloc);
     if let Some(name) = Name::of(alloc, "Hub")? {
@@ -39,7 +39,7 @@ pub fn first_rows(alloc: Global, key: [u8; 32]) -> Result<Vec<Edit>, AllocError>
     Ok(edits)
 }
 
-/// The shelf with these rows; none where it wasn't made.
+/// Returns the shelf with these rows, or none if it wasn't made.
 pub fn first_shelf(alloc: Global, key: [u8; 32]) -> Result<Option<ListShelf>, AllocError> {
     let edits = first_rows(alloc, key)?;
     let mut shelf = ListShelf::new(alloc);

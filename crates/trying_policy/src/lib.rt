@@ -1,8 +1,8 @@
-//! What a line of a table says of a report, of who reads it and of what it is judged by, in words. Each table of readers, gates
-//! or permissions is read and told by it.
+//! The words of a table for a report, its readers and the case by which it is judged. Each table of readers, gates or
+//! permissions uses it to read them and to write them.
 //!
-//! The rooms: `words`: readers, gates, grantees and permissions of words, and the words of these; `report`: [`Report`], the one
-//! that lines ask of; [`Unfit`]: why a line has no answer.
+//! The rooms: `words`: readers, gates, grantees and permissions from words, and the words of these; `report`:
+//! [`Report`], the one that lines ask about; [`Unfit`]: why a line has no answer.
 #![tactic(auto)]
 
 mod report;

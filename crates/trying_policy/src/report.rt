@@ -1,4 +1,4 @@
-//! The report that the lines of a table ask of.
+//! The report that the lines of a table ask about.
 
 ghost use Rattle.std.specs.Prelude.{◌≡◌, None, IfOk};
 ghost use Rattle.iodef_tree.specs.Paths.{located};
@@ -23,12 +23,12 @@ pub struct Report {
 }
 
 impl Report {
-    /// None as yet.
+    /// Makes a report that isn't read yet.
     pub fn new() -> Report {
         Report { last: None }
     }
 
-    /// Reads a body. What is told of it: that it was accepted, that it wasn't read, or which marking isn't accepted.
+    /// Reads a body. Returns that it was accepted, that it wasn't read, or which marking isn't accepted.
     pub fn read(&mut self, alloc: Global, body: &str) -> Result<String, Unfit> {
         self.last = None;
         let Ok(mut documents) = Document::read(alloc, body.as_bytes()) else {
@@ -48,7 +48,7 @@ impl Report {
         }
     }
 
-    /// The document that the last line with one gave; no case where none was accepted.
+    /// Returns the document of the last line with one. Fails with `NoCase` if none was accepted.
     pub fn document(&self) -> Result<&Document, Unfit>
         ensures { IfOk result (λ document. first_bad_marking (located document.now) ≡ None) }
     {

@@ -7,15 +7,15 @@ use std::alloc::{AllocError, AllocFailed, Global};
 
 #[derive(Clone, Copy)]
 pub enum Unfit {
-    /// The line is no case, or asks of a report where none was accepted.
+    /// The line is no case, or asks about a report and none was accepted.
     NoCase,
-    /// There is no class at the path.
+    /// No class is at the path.
     NoClass,
     NoMemory,
 }
 
 impl Unfit {
-    /// As the table prints it.
+    /// Returns the word that the table prints.
     pub fn name(self) -> &'static str {
         match self {
             Unfit::NoCase => "no case",
@@ -46,7 +46,7 @@ impl From<PathFault> for Unfit {
     }
 }
 
-/// The answer of these words.
+/// Returns these words as an answer.
 pub fn said(alloc: Global, words: &str) -> Result<String, Unfit>
     ensures { IfOk result (λ answer. string_bytes answer ≡ words.now) }
 {

@@ -1,5 +1,5 @@
-//! What the words of a line stand for, and the words that tell it. Of what words make nothing is promised: it would be said by
-//! the same words again, and `stdout` of the programs shows it.
+//! Readers, gates, grantees and permissions from the words of a line, and the words of these. They have no contracts:
+//! one would say the same words again, and the programs' `stdout` shows what they make.
 
 use crate::unfit::Unfit;
 use iodef_tree::Path;
@@ -18,7 +18,7 @@ pub fn handling_of(word: &str) -> Result<Handling, Unfit> {
     }
 }
 
-/// What was arranged, `-` for nothing.
+/// Returns the handling that is arranged, or none for `-`.
 pub fn arranged_of(word: &str) -> Result<Option<Handling>, Unfit> {
     if word == "-" {
         return Ok(None);
@@ -30,12 +30,12 @@ pub fn number_of(word: &str) -> Result<u32, Unfit> {
     word.parse::<u32>().ok().ok_or(Unfit::NoCase)
 }
 
-/// A moment, in seconds since the beginning of 1970.
+/// Returns a moment, in seconds since the beginning of 1970.
 fn moment_of(word: &str) -> Result<i64, Unfit> {
     word.parse::<i64>().ok().ok_or(Unfit::NoCase)
 }
 
-/// Numbers with commas between them.
+/// Returns numbers that have commas between them.
 fn numbers_of(alloc: Global, words: &str) -> Result<Numbers, Unfit> {
     let mut numbers = Vec::new(alloc);
     for word in words.split(',') {
@@ -44,11 +44,12 @@ fn numbers_of(alloc: Global, words: &str) -> Result<Numbers, Unfit> {
     Ok(Numbers::new(numbers))
 }
 
-/// A reader by the numbers of the person and of its organisation, as `4/3`, and what holds of it, each a word behind a
-/// space: `source`, `person`, `nominated`, `addressed`, `client`, `community`, `connected`, `arranged:GREEN`, and lists
-/// as `groups:1,7`, `active:7` and `communities:2`. The moment is 0, or another as `now:1000`. Who shares a `community` with
-/// the source is a peer too, as where the incident names none; who shares one but isn't in the one that it names is a
-/// `neighbour`, and who is in that alone a `peer`.
+/// Returns a reader. The first word has the numbers of the person and of its organisation, as `4/3`. Each word behind a
+/// space says something that holds of it: `source`, `person`, `nominated`, `addressed`, `client`, `community`,
+/// `connected`, `arranged:GREEN`, and lists as `groups:1,7`, `active:7` and `communities:2`. The moment is 0, or
+/// another as `now:1000`. A reader who shares a `community` with the source is a peer too, as if the incident names
+/// none. A reader who shares one but isn't in the one that the incident names is a `neighbour`. A reader who is only in
+/// that one is a `peer`.
 pub fn standing_of(alloc: Global, words: &str) -> Result<Standing, Unfit> {
     let mut words = words.split(' ');
     let mut standing = stranger_of(alloc, words.next().unwrap_or(""))?;
@@ -58,7 +59,7 @@ pub fn standing_of(alloc: Global, words: &str) -> Result<Standing, Unfit> {
     Ok(standing)
 }
 
-/// A reader of whom nothing holds, by its two numbers.
+/// Returns a reader of whom nothing holds, by its two numbers.
 fn stranger_of(alloc: Global, word: &str) -> Result<Standing, Unfit> {
     let (who, org) = word.split_once('/').ok_or(Unfit::NoCase)?;
     let who = number_of(who)?;
@@ -100,7 +101,7 @@ fn hold_named(alloc: Global, standing: &mut Standing, name: &str, list: &str) ->
     Ok(())
 }
 
-/// A level, and its group behind a colon if it has one: `4:1`.
+/// Returns a level, and its group if it has one behind a colon: `4:1`.
 pub fn passage_of(word: &str) -> Result<(u8, Option<u32>), Unfit> {
     let (level, group) = match word.split_once(':') {
         Some((level, group)) => (level, Some(number_of(group)?)),
@@ -110,7 +111,7 @@ pub fn passage_of(word: &str) -> Result<(u8, Option<u32>), Unfit> {
     Ok((level, group))
 }
 
-/// A gate by its level and group, and its pointer behind an `@`: `4:1@/Incident/0`.
+/// Returns a gate by its level and group, and its pointer behind an `@`: `4:1@/Incident/0`.
 fn gate_of(alloc: Global, word: &str) -> Result<Gate, Unfit> {
     let (passage, pointer) = word.split_once('@').ok_or(Unfit::NoCase)?;
     let (level, group) = passage_of(passage)?;
@@ -118,7 +119,7 @@ fn gate_of(alloc: Global, word: &str) -> Result<Gate, Unfit> {
     Ok(Gate { path, level, group })
 }
 
-/// A grantee by its kind and number: `person:4`, `org:3`, `community:2`, `group:7`.
+/// Returns a grantee by its kind and number: `person:4`, `org:3`, `community:2`, `group:7`.
 pub fn grantee_of(word: &str) -> Result<Grantee, Unfit> {
     let (kind, number) = word.split_once(':').ok_or(Unfit::NoCase)?;
     let number = number_of(number)?;
@@ -131,7 +132,8 @@ pub fn grantee_of(word: &str) -> Result<Grantee, Unfit> {
     }
 }
 
-/// A grantee, and the moment up to which a permission holds behind a `<`, if it has an end: `org:4`, `org:4<1000`.
+/// Returns a grantee, and the moment up to which a permission holds, if it has an end behind a `<`: `org:4`,
+/// `org:4<1000`.
 fn grant_of(word: &str) -> Result<(Grantee, Option<i64>), Unfit> {
     let (grantee, until) = match word.split_once('<') {
         Some((grantee, end)) => (grantee, Some(moment_of(end)?)),
@@ -140,7 +142,8 @@ fn grant_of(word: &str) -> Result<(Grantee, Option<i64>), Unfit> {
     Ok((grantee_of(grantee)?, until))
 }
 
-/// A permission by its grantee with its end, if it has one, and its pointer: `org:4@/Incident/0`, `org:4<1000@/Incident/0`.
+/// Returns a permission by its grantee, its end if it has one, and its pointer: `org:4@/Incident/0`,
+/// `org:4<1000@/Incident/0`.
 fn permission_of(alloc: Global, word: &str) -> Result<Permission, Unfit> {
     let (grant, pointer) = word.split_once('@').ok_or(Unfit::NoCase)?;
     let (grantee, until) = grant_of(grant)?;
@@ -152,7 +155,7 @@ fn permission_of(alloc: Global, word: &str) -> Result<Permission, Unfit> {
     })
 }
 
-/// The number of a community, if the word names one: `in:3`.
+/// Returns the number of a community, if the word names one: `in:3`.
 fn community_of(word: &str) -> Result<Option<u32>, Unfit> {
     match word.strip_prefix("in:") {
         None => Ok(None),
@@ -160,7 +163,7 @@ fn community_of(word: &str) -> Result<Option<u32>, Unfit> {
     }
 }
 
-/// The community that is named, if one is, and the gates.
+/// Returns the community, if one is named, and the gates.
 fn gates_of(alloc: Global, words: &str) -> Result<(Option<u32>, Gates), Unfit> {
     let mut named = None;
     let mut gates = Vec::new(alloc);
@@ -181,8 +184,8 @@ fn permissions_of(alloc: Global, words: &str) -> Result<Permissions, Unfit> {
     Ok(Permissions::new(permissions))
 }
 
-/// A case by its gates and its permissions, with spaces between them. Among the gates stands the community that it names, if
-/// it names one, as `in:3`.
+/// Returns a case by its gates and its permissions, with spaces between them. The community that it names, if it names
+/// one, is among the gates, as `in:3`.
 pub fn case_of(alloc: Global, source: u32, gates: &str, permissions: &str) -> Result<Case, Unfit> {
     let (community, gates) = gates_of(alloc, gates)?;
     Ok(Case {
@@ -193,7 +196,7 @@ pub fn case_of(alloc: Global, source: u32, gates: &str, permissions: &str) -> Re
     })
 }
 
-/// The kind and the number of a grantee.
+/// Returns the kind and the number of a grantee.
 pub fn kind_of(grantee: Grantee) -> (&'static str, u32) {
     match grantee {
         Grantee::Person(number) => ("person", number),
@@ -203,7 +206,7 @@ pub fn kind_of(grantee: Grantee) -> (&'static str, u32) {
     }
 }
 
-/// The word of a gate.
+/// Returns the word of a gate.
 pub fn gate_word(alloc: Global, gate: &Gate) -> Result<String, AllocError> {
     let level = gate.level;
     let pointer = gate.path.print(alloc)?;
@@ -213,7 +216,7 @@ pub fn gate_word(alloc: Global, gate: &Gate) -> Result<String, AllocError> {
     }
 }
 
-/// The word of a permission.
+/// Returns the word of a permission.
 pub fn permission_word(alloc: Global, permission: &Permission) -> Result<String, AllocError> {
     let (kind, number) = kind_of(permission.grantee);
     let pointer = permission.path.print(alloc)?;
