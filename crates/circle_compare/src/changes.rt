@@ -34,8 +34,8 @@ fn nominate(world: &mut World, person: u32, nominated: bool) {
     }
 }
 
-/// Changes the rows as the command of a person of this organisation says, with no edit between. A text outside
-/// the limits adds nothing.
+/// Changes the rows as the command of a person of this organisation says, without an edit. A text outside the limits
+/// adds nothing.
 pub fn obey(
     world: &mut World,
     alloc: Global,
@@ -47,7 +47,7 @@ pub fn obey(
     coordinate(world, own, command)
 }
 
-/// The numbered rows that are added.
+/// Adds the numbered rows.
 fn add(
     world: &mut World,
     alloc: Global,
@@ -71,7 +71,7 @@ fn add(
     }
 }
 
-/// The number behind the greatest, or 1.
+/// Returns the number behind the greatest, or 1.
 fn behind(greatest: Option<u32>) -> u32 {
     greatest.unwrap_or(0).saturating_add(1)
 }
@@ -136,7 +136,7 @@ fn found(
     Ok(())
 }
 
-/// Adds a group. Its number, where both texts are within the limits.
+/// Adds a group, and returns its number, if both texts are within the limits.
 fn add_group(
     groups: &mut Vec<Group>,
     alloc: Global,
@@ -161,7 +161,7 @@ fn add_group(
     Ok(Some(number))
 }
 
-/// What an administrator changes beside them.
+/// Makes the other changes of an administrator.
 fn relate(world: &mut World, command: &CircleCommand) -> Result<(), AllocError> {
     match command {
         CircleCommand::SuspendPerson { person } => suspend(world, *person),
@@ -212,7 +212,7 @@ fn in_order(one: u32, other: u32) -> Connection {
     }
 }
 
-/// What a coordinator of the organisation changes.
+/// Makes the change of a coordinator of the organisation.
 fn coordinate(world: &mut World, own: u32, command: &CircleCommand) -> Result<(), AllocError> {
     match command {
         CircleCommand::GroupAdd { group, org, extend } => {

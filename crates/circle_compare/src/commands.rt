@@ -1,4 +1,4 @@
-//! Generated commands; the numbers that they name are mostly there.
+//! Generated commands. The numbers that they name mostly exist.
 use circle::command::CircleCommand;
 use circle::directory::{Handling, Role};
 use circle::text::Text;
@@ -11,7 +11,7 @@ pub const KINDS: u32 = 18;
 /// How many of them are an administrator's.
 pub const ADMINISTRATORS: u32 = 10;
 
-/// A name, mostly a good one.
+/// Returns a name, mostly a good one.
 fn any_name(dice: &mut Dice) -> &'static str {
     match dice.roll(14) {
         0 => "",
@@ -50,7 +50,7 @@ fn any_handling(dice: &mut Dice) -> Handling {
     }
 }
 
-/// A releasability; one in eight is too long by a byte.
+/// Returns a releasability; one in eight is too long by a byte.
 fn any_releasability(alloc: Global, dice: &mut Dice) -> Result<Text, AllocError> {
     if !dice.once_in(8) {
         return Text::of(alloc, "TLP:GREEN");
@@ -62,7 +62,7 @@ fn any_releasability(alloc: Global, dice: &mut Dice) -> Result<Text, AllocError>
     Ok(Text::new(text))
 }
 
-/// A command of this kind.
+/// Returns a command of this kind.
 pub fn any_command(alloc: Global, dice: &mut Dice, kind: u32) -> Result<CircleCommand, AllocError> {
     match kind {
         0 => Ok(CircleCommand::AddOrg {
@@ -89,7 +89,7 @@ pub fn any_command(alloc: Global, dice: &mut Dice, kind: u32) -> Result<CircleCo
     }
 }
 
-/// A command of numbers and flags.
+/// Returns a command of numbers and flags.
 fn any_pair(dice: &mut Dice, kind: u32) -> CircleCommand {
     let org = dice.roll(7);
     let client = dice.roll(7);

@@ -1,4 +1,4 @@
-//! What a store finds out about a command, by the plain program.
+//! The facts that a store finds about a command, by the plain program.
 use crate::rows::World;
 use circle::command::{CircleCommand, CircleFacts};
 use circle::directory::Person;
@@ -8,7 +8,7 @@ fn as_count(len: usize) -> u32 {
 }
 
 impl World {
-    /// What a store would find out about the command.
+    /// Returns the facts that a store would find about the command.
     pub fn facts(&self, actor: &Person, command: &CircleCommand) -> CircleFacts {
         let mut facts = CircleFacts {
             exists: true,
@@ -24,7 +24,7 @@ impl World {
         facts
     }
 
-    /// Of an administrator's command.
+    /// Finds the facts of an administrator's command.
     fn find_of_administrators(&self, facts: &mut CircleFacts, command: &CircleCommand) {
         match command {
             CircleCommand::AddOrg { name } => {
@@ -62,7 +62,7 @@ impl World {
         }
     }
 
-    /// Of a coordinator's command.
+    /// Finds the facts of a coordinator's command.
     fn find_of_coordinators(
         &self,
         facts: &mut CircleFacts,

@@ -18,7 +18,7 @@ use trying::{Dice, Tally};
 /// How many commands are asked of one directory.
 const STEPS: u32 = 200;
 
-/// Both directories: that in memory, changed by the edits that were judged, and that of the plain program.
+/// Both directories: the one in memory, changed by the edits that were judged, and the plain program's.
 #[derive(Drop)]
 struct Pair {
     judged: DirectoryRows,
@@ -33,7 +33,7 @@ impl Pair {
         }
     }
 
-    /// What the crate answers to the command.
+    /// Returns the crate's answer to the command.
     fn answer(
         &self,
         alloc: Global,
@@ -44,7 +44,8 @@ impl Pair {
         judge(alloc, actor, &facts, command)
     }
 
-    /// Has both change their rows, the one by the edit, the plain one by the command. Whether there is an edit.
+    /// Changes the rows of both, in memory by the edit and in the plain program by the command. Returns whether there
+    /// is an edit.
     fn change(
         &mut self,
         alloc: Global,
@@ -72,7 +73,7 @@ fn setter(alloc: Global, role: Role, org: u32) -> Result<Option<Person>, AllocEr
     }))
 }
 
-/// Has both obey a command that is let through. Whether it is.
+/// Has both obey a command that must be allowed. Returns whether it is.
 fn begin_by(
     alloc: Global,
     pair: &mut Pair,
@@ -100,7 +101,7 @@ fn begin_orgs(alloc: Global, pair: &mut Pair) -> Result<bool, AllocError> {
     Ok(true)
 }
 
-/// The first person is an administrator, the next two are coordinators.
+/// Adds the first three persons: an administrator and two coordinators.
 fn begin_persons(alloc: Global, dice: &mut Dice, pair: &mut Pair) -> Result<bool, AllocError> {
     for (org, key) in [(1, 1), (2, 2), (3, 3), (4, 4), (5, 5), (2, 6)] {
         let role = match key {
@@ -134,7 +135,7 @@ fn begin_communities(alloc: Global, pair: &mut Pair) -> Result<bool, AllocError>
     Ok(true)
 }
 
-/// A group of organisation 2.
+/// Adds a group of organisation 2.
 fn begin_group(alloc: Global, pair: &mut Pair) -> Result<bool, AllocError> {
     let name = Text::of(alloc, "g")?;
     let releasability = Text::new(String::new(alloc));
@@ -145,7 +146,7 @@ fn begin_group(alloc: Global, pair: &mut Pair) -> Result<bool, AllocError> {
     begin_by(alloc, pair, Role::Coordinator, 2, &command)
 }
 
-/// Organisation 3 is a member of it, and may extend it or not.
+/// Makes organisation 3 a member of it, which may extend it or not.
 fn begin_member(alloc: Global, dice: &mut Dice, pair: &mut Pair) -> Result<bool, AllocError> {
     let command = CircleCommand::GroupAdd {
         group: 1,
@@ -155,7 +156,7 @@ fn begin_member(alloc: Global, dice: &mut Dice, pair: &mut Pair) -> Result<bool,
     begin_by(alloc, pair, Role::Coordinator, 2, &command)
 }
 
-/// Has both directories begin. Whether each command is let through.
+/// Has both directories begin. Returns whether each command is allowed.
 fn begins(alloc: Global, dice: &mut Dice, pair: &mut Pair) -> Result<bool, AllocError> {
     Ok(
         begin_orgs(alloc, pair)?
@@ -166,7 +167,7 @@ fn begins(alloc: Global, dice: &mut Dice, pair: &mut Pair) -> Result<bool, Alloc
     )
 }
 
-/// Who asks: as a rule the administrator or a coordinator, as the kind wants it; anybody in one of four.
+/// Returns who asks: mostly the administrator or a coordinator, as the kind wants it; anybody in one of four.
 fn any_place(dice: &mut Dice, kind: u32) -> usize {
     if dice.once_in(4) {
         dice.place(6)
@@ -177,7 +178,7 @@ fn any_place(dice: &mut Dice, kind: u32) -> usize {
     }
 }
 
-/// Whether the answer is an edit where no refusal is wanted, or the wanted one.
+/// Returns whether the answer is the wanted refusal, or an edit if none is wanted.
 fn is_answer(answer: &Result<Edit, Refusal>, wanted: Option<(Code, &'static str)>) -> bool {
     match answer {
         Ok(_) => wanted.is_none(),
@@ -185,7 +186,7 @@ fn is_answer(answer: &Result<Edit, Refusal>, wanted: Option<(Code, &'static str)
     }
 }
 
-/// Has both judge the command, and change their rows where it is let through. Whether they agree.
+/// Has both judge the command, and change their rows if it is allowed. Returns whether they agree.
 fn agree_on_command(
     alloc: Global,
     pair: &mut Pair,
@@ -205,7 +206,8 @@ fn agree_on_command(
     Ok(is_same)
 }
 
-/// Has the person at this place among all ask for the command. Whether both agree on it, and on the rows behind it.
+/// Has the person at this place among all ask for the command. Returns whether both agree on it, and on the rows after
+/// it.
 fn agree_on_asked(
     alloc: Global,
     pair: &mut Pair,
@@ -224,7 +226,7 @@ fn agree_on_asked(
     )
 }
 
-/// Asks for one command of a random person. Whether both agree.
+/// Asks for one command of a random person. Returns whether both agree.
 fn step(
     alloc: Global,
     dice: &mut Dice,
@@ -251,7 +253,7 @@ fn agree_on_steps(
     Ok(true)
 }
 
-/// Whether both agree on a directory that begins so, on the commands that change it, and on all that may be asked of it.
+/// Returns whether both agree on the first rows, on the commands that change them, and on all questions.
 fn agree_on(
     alloc: Global,
     tally: &mut Tally,
@@ -265,7 +267,7 @@ fn agree_on(
     )
 }
 
-/// Whether the crate and the plain program agree on a directory of this seed.
+/// Returns whether the crate and the plain program agree on a directory of this seed.
 pub fn agrees_at(alloc: Global, tally: &mut Tally, seed: u64) -> Result<bool, AllocError> {
     let mut dice = Dice::new(seed);
     let mut pair = Pair::new(alloc);

@@ -1,4 +1,4 @@
-//! The last numbered row of each kind, and the one behind it.
+//! The last numbered row of each kind, and the next one.
 use crate::changes::obey;
 use crate::refusals::code_of;
 use crate::rows::World;
@@ -10,7 +10,7 @@ use circle::refusal::{Code, Refusal};
 use circle::text::Text;
 use std::alloc::{AllocError, Global};
 
-/// Whether the edit puts the last row that there is now.
+/// Returns whether the edit puts the last row that there is now.
 fn is_last(world: &World, edit: &Edit) -> bool {
     match edit {
         Edit::Row(RowEdit::PutOrg(org)) => world.orgs.last() == Some(org),
@@ -32,7 +32,7 @@ fn anna(alloc: Global, role: Role) -> Result<Option<Person>, AllocError> {
     }))
 }
 
-/// What the crate answers to the command.
+/// Returns the crate's answer to the command.
 fn answer_of(
     alloc: Global,
     world: &World,
@@ -43,7 +43,7 @@ fn answer_of(
     judge(alloc, actor, &facts, command)
 }
 
-/// Whether the answer puts the last row that there is now, or is the wanted refusal.
+/// Returns whether the answer puts the last row that there is now, or is the wanted refusal.
 fn is_answer(world: &World, answer: &Result<Edit, Refusal>, wanted: Option<Code>) -> bool {
     match answer {
         Ok(edit) => wanted.is_none() && is_last(world, edit),
@@ -51,7 +51,7 @@ fn is_answer(world: &World, answer: &Result<Edit, Refusal>, wanted: Option<Code>
     }
 }
 
-/// Whether the command is done, or refused so.
+/// Returns whether the command is done, or refused with this code.
 fn is_outcome(
     alloc: Global,
     world: &mut World,
@@ -85,7 +85,7 @@ fn naming(alloc: Global, kind: u32, name: &str, key: u8) -> Result<CircleCommand
     }
 }
 
-/// So many rows of this kind.
+/// Adds so many rows of this kind.
 fn fill(world: &mut World, alloc: Global, kind: u32, count: u32) -> Result<(), AllocError> {
     for number in 0..count {
         let text = format!(in alloc; "row {number}")?;
@@ -95,7 +95,7 @@ fn fill(world: &mut World, alloc: Global, kind: u32, count: u32) -> Result<(), A
     Ok(())
 }
 
-/// So many persons of organisation 1.
+/// Adds so many persons of organisation 1.
 fn add_persons(world: &mut World, alloc: Global, count: u32) -> Result<(), AllocError> {
     for number in 0..count {
         if let Some(name) = Name::of(alloc, "p")? {
@@ -116,7 +116,7 @@ fn add_persons(world: &mut World, alloc: Global, count: u32) -> Result<(), Alloc
     Ok(())
 }
 
-/// Each numbered set with all rows but one that there may be.
+/// Fills each numbered set with all rows except for one.
 fn fill_nearly(world: &mut World, alloc: Global) -> Result<(), AllocError> {
     for kind in [0, 2, 3] {
         fill(world, alloc, kind, 999)?;
@@ -124,7 +124,7 @@ fn fill_nearly(world: &mut World, alloc: Global) -> Result<(), AllocError> {
     add_persons(world, alloc, 9999)
 }
 
-/// Whether a row of this kind and name is let in, or refused.
+/// Returns whether a row of this kind and name is allowed, or refused.
 fn is_let_in(
     alloc: Global,
     world: &mut World,
@@ -138,7 +138,7 @@ fn is_let_in(
     is_outcome(alloc, world, actor, &command, wanted)
 }
 
-/// Whether the last row of this kind is let in, and the next is refused.
+/// Returns whether the last row of this kind is allowed, and the next is refused.
 fn holds_limit(alloc: Global, world: &mut World, kind: u32) -> Result<bool, AllocError> {
     let role = if kind < 3 {
         Role::Administrator
@@ -158,7 +158,7 @@ fn is_last_named(number: u32, name: &Name, limit: u32) -> bool {
     number == limit && name.as_str() == "last"
 }
 
-/// Whether each kind has its last row under its number.
+/// Returns whether each kind has its last row under its number.
 fn has_last_rows(world: &World) -> bool {
     world
         .orgs
@@ -178,7 +178,7 @@ fn has_last_rows(world: &World) -> bool {
             .any(|g| is_last_named(g.number, &g.name, 1000))
 }
 
-/// Whether each kind, with all rows but one, takes the last and no other.
+/// Returns whether each kind, with all rows except for one, takes the last and no other.
 fn hold_in(alloc: Global, world: &mut World) -> Result<bool, AllocError> {
     fill_nearly(world, alloc)?;
     for kind in 0..4u32 {
@@ -189,7 +189,7 @@ fn hold_in(alloc: Global, world: &mut World) -> Result<bool, AllocError> {
     Ok(true)
 }
 
-/// Whether the last row of each kind is let in under its number, and the next is refused.
+/// Returns whether the last row of each kind is allowed under its number, and the next is refused.
 pub fn hold_limits(alloc: Global) -> Result<bool, AllocError> {
     let mut world = World::new(alloc);
     Ok(hold_in(alloc, &mut world)? && has_last_rows(&world))

@@ -1,6 +1,6 @@
-//! `circle_compare SEEDS`: compares a directory in memory, `judge` and its edits with a plain, slow program that asks the
-//! rows themselves, over so many directories of 200 generated commands each. A difference is told by its seed, with
-//! status 1. Behind each kind of command stand the outcomes that were met at least 20 times.
+//! `circle_compare SEEDS`: compares a directory in memory, `judge` and its edits with a plain, slow program that asks
+//! the rows themselves, over so many directories of 200 generated commands each. A difference is printed by its seed,
+//! with status 1. Each kind of command is printed with the outcomes that were met at least 20 times.
 #![tactic(auto)]
 
 mod changes;
@@ -18,10 +18,10 @@ use std::{env, io};
 use tally::lines_of;
 use trying::Tally;
 
-/// How many directories, where the words name no number.
+/// The number of directories, if the words name none.
 const SEEDS: u64 = 192;
 
-/// Compares over so many directories. Whether there is no difference.
+/// Compares over so many directories. Returns whether there is no difference.
 fn compare(rt: &HostRuntime, tally: &mut Tally, seeds: u64) -> io::Result<bool> {
     for seed in 0..seeds {
         if !generated::agrees_at(rt.alloc(), tally, seed)? {
@@ -33,7 +33,7 @@ fn compare(rt: &HostRuntime, tally: &mut Tally, seeds: u64) -> io::Result<bool> 
     Ok(true)
 }
 
-/// Tells which outcomes each kind of command met.
+/// Prints which outcomes each kind of command met.
 fn tell(rt: &HostRuntime, tally: &Tally) -> io::Result<()> {
     let lines = lines_of(rt.alloc(), tally)?;
     print!(rt; "{lines}")
@@ -48,14 +48,14 @@ fn compare_at_limits(rt: &HostRuntime) -> io::Result<bool> {
     Ok(true)
 }
 
-/// How many directories are asked for.
+/// Returns how many directories are asked for.
 fn asked(rt: &HostRuntime) -> io::Result<u64> {
     let words: Vec<String> = env::args(rt)?.skip(1).collect(rt.alloc())?;
     let seeds = words.first().and_then(|word| word.parse::<u64>().ok());
     Ok(seeds.unwrap_or(SEEDS))
 }
 
-/// Compares so many directories, and the one at the limits. Whether there is no difference.
+/// Compares so many directories, and the one at the limits. Returns whether there is no difference.
 fn holds(rt: &HostRuntime, seeds: u64) -> io::Result<bool> {
     let mut tally = Tally::new(rt.alloc());
     if !compare(rt, &mut tally, seeds)? {

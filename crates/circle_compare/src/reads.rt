@@ -1,4 +1,4 @@
-//! What is asked of a directory beside its commands, by the plain program.
+//! The questions to a directory beside its commands, by the plain program.
 use crate::rows::World;
 use circle::directory::{Group, GroupMember, Handling, Person};
 use circle_rows::DirectoryRows;
@@ -50,7 +50,7 @@ impl World {
         false
     }
 
-    /// Two different communities, one with each organisation, are connected.
+    /// Returns whether two different communities, one of each organisation, are connected.
     fn has_connected(&self, org: u32, other: u32) -> bool {
         for one in self.memberships.iter() {
             for two in self.memberships.iter() {
@@ -65,7 +65,7 @@ impl World {
         false
     }
 
-    /// The communities, groups, active groups or sponsors of an organisation, by number.
+    /// Returns the communities, groups, active groups or sponsors of an organisation, by number.
     fn related(&self, alloc: Global, kind: u32, org: u32) -> Result<Vec<u32>, AllocError> {
         let mut found = Vec::new(alloc);
         for number in 0..32u32 {
@@ -83,7 +83,7 @@ impl World {
     }
 }
 
-/// Whether both answer alike for two organisations.
+/// Returns whether both give the same answers for two organisations.
 fn agree_on_pair(rows: &DirectoryRows, plain: &World, org: u32, other: u32) -> bool {
     rows.share_community(org, other) == plain.share_community(org, other)
         && rows.are_connected(org, other) == plain.has_connected(org, other)
@@ -93,7 +93,7 @@ fn agree_on_pair(rows: &DirectoryRows, plain: &World, org: u32, other: u32) -> b
         && rows.has_client(org, other) == plain.has_client(org, other)
 }
 
-/// Whether the organisation's rows among the groups' members are those of its groups.
+/// Returns whether the organisation's rows among the groups' members are those of its groups.
 fn is_member_of(plain: &World, rows: &[GroupMember], org: u32, groups: &[u32]) -> bool {
     rows.len() == groups.len()
         && rows.iter().all(|row| row.org == org
@@ -101,7 +101,7 @@ fn is_member_of(plain: &World, rows: &[GroupMember], org: u32, groups: &[u32]) -
             && plain.may_extend(row.group, org) == row.extend)
 }
 
-/// Whether both answer alike about the groups of an organisation.
+/// Returns whether both give the same answers about the groups of an organisation.
 fn agree_on_groups(
     alloc: Global,
     rows: &DirectoryRows,
@@ -116,7 +116,7 @@ fn agree_on_groups(
     )
 }
 
-/// Whether both answer alike about what else an organisation has to do with.
+/// Returns whether both give the same answers about an organisation's other rows.
 fn agree_on_related(
     alloc: Global,
     rows: &DirectoryRows,
@@ -132,7 +132,7 @@ fn agree_on_related(
     Ok(numbers == plain.related(alloc, kind, org)?)
 }
 
-/// Whether both answer alike for an organisation, or for the person or the group of its number.
+/// Returns whether both give the same answers for an organisation, or for the person or the group of its number.
 fn agree_on_number(
     alloc: Global,
     rows: &DirectoryRows,
@@ -151,7 +151,7 @@ fn agree_on_number(
     )
 }
 
-/// Whether the directory in memory and the plain program give the same answers.
+/// Returns whether the directory in memory and the plain program give the same answers.
 pub fn agree_on_reads(
     alloc: Global,
     rows: &DirectoryRows,

@@ -1,14 +1,14 @@
-//! Why a command is refused, from the rows alone.
+//! The reasons for which a command is refused, from the rows only.
 use crate::rows::World;
 use circle::command::CircleCommand;
 use circle::directory::{Person, Role};
 use circle::refusal::Code;
 use circle::text::Text;
 
-/// A condition, and the refusal where it holds.
+/// A condition, and the refusal if it holds.
 type Ground = (bool, Code, &'static str);
 
-/// The first ground that holds.
+/// Returns the first ground that holds.
 fn first(grounds: &[Ground]) -> Option<(Code, &'static str)> {
     for (holds, code, detail) in grounds {
         if *holds {
@@ -18,7 +18,7 @@ fn first(grounds: &[Ground]) -> Option<(Code, &'static str)> {
     None
 }
 
-/// The code of what is told, where it is a refusal.
+/// Returns the code of an answer, if it is a refusal.
 pub fn code_of(told: Option<(Code, &'static str)>) -> Option<Code> {
     let (code, _) = told?;
     Some(code)
@@ -30,7 +30,7 @@ fn is_bad_name(text: &Text) -> bool {
 }
 
 impl World {
-    /// Why an administrator's command on organisations and persons is refused.
+    /// Returns why an administrator's command on organisations and persons is refused.
     fn refusal_of_members(
         &self,
         actor: &Person,
@@ -61,7 +61,7 @@ impl World {
         }
     }
 
-    /// Why an administrator's command on clients, or on the members of communities, is refused.
+    /// Returns why an administrator's command on clients, or on the members of communities, is refused.
     fn refusal_of_pairs(
         &self,
         actor: &Person,
@@ -95,7 +95,7 @@ impl World {
         }
     }
 
-    /// Why an administrator's command on communities is refused.
+    /// Returns why an administrator's command on communities is refused.
     fn refusal_of_communities(
         &self,
         actor: &Person,
@@ -125,7 +125,7 @@ impl World {
         }
     }
 
-    /// Why a coordinator's command on groups is refused.
+    /// Returns why a coordinator's command on groups is refused.
     fn refusal_of_groups(
         &self,
         actor: &Person,
@@ -170,7 +170,7 @@ impl World {
         }
     }
 
-    /// Why a coordinator's command on arrangements and nominations is refused.
+    /// Returns why a coordinator's command on arrangements and nominations is refused.
     fn refusal_of_trust(
         &self,
         actor: &Person,
@@ -205,7 +205,7 @@ impl World {
         }
     }
 
-    /// Why the command is refused, from the rows alone: the code and its detail.
+    /// Returns why the command is refused, from the rows only: the code and its detail.
     pub fn refusal(&self, actor: &Person, command: &CircleCommand) -> Option<(Code, &'static str)> {
         self.refusal_of_members(actor, command)
             .or(self.refusal_of_pairs(actor, command))

@@ -1,4 +1,4 @@
-//! A plain program's directory: rows in the order in which they came, each question answered by going over all.
+//! A plain program's directory: rows in the order in which they came. It answers each question by going over all rows.
 use circle::directory::{
     Account, Arrangement, Client, Community, Connection, Group, GroupMember, Membership, Org,
 };
@@ -39,7 +39,7 @@ impl World {
         }
     }
 
-    /// Whether the directory in memory has the same rows.
+    /// Returns whether the directory in memory has the same rows.
     pub fn is_same(&self, other: &DirectoryRows) -> bool {
         same_rows(self.orgs.as_slice(), other.orgs())
             && same_rows(self.accounts.as_slice(), other.accounts())
@@ -52,7 +52,7 @@ impl World {
             && same_rows(self.arrangements.as_slice(), other.arrangements())
     }
 
-    // ---- is there such a row?
+    // ---- whether there is such a row
 
     pub fn has_org(&self, n: u32) -> bool {
         self.orgs.iter().any(|o| o.number == n)
@@ -78,7 +78,7 @@ impl World {
         self.has_community(community) && self.has_org(org)
     }
 
-    /// A member of the group names an organisation.
+    /// Returns whether the organisation is a member of the group and the one that it names exists.
     pub fn sees_in(&self, member: u32, group: u32, org: u32) -> bool {
         self.has_member(group, member) && self.has_org(org)
     }
@@ -109,7 +109,7 @@ impl World {
         self.memberships.contains(&Membership { community, org })
     }
 
-    /// Named in either order.
+    /// Returns whether they are connected, named in either order.
     pub fn are_connected(&self, one: u32, other: u32) -> bool {
         self.connections.contains(&Connection {
             low: one,

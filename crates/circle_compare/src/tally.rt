@@ -26,12 +26,12 @@ const NAMES: [&str; 18] = [
     "Unnominate",
 ];
 
-/// The outcomes that are told, in this order.
+/// The outcomes that are printed, in this order.
 const OUTCOMES: [&str; 8] = [DONE, "W1", "B1", "N2", "W2", "W3", "S1", "S2"];
 
 const DONE: &str = "done";
 
-/// How often an outcome is to be met before it is told.
+/// How often an outcome must be met before it is printed.
 const FLOOR: u32 = 20;
 
 /// Notes that a command of this kind was done (none), or refused.
@@ -40,7 +40,7 @@ pub fn note(tally: &mut Tally, kind: u32, outcome: Option<Code>) -> Result<(), A
     tally.note(name, outcome.map_or(DONE, |code| code.name()))
 }
 
-/// For each kind a line: its name, and each outcome that was met often enough.
+/// Returns a line for each kind: its name, and each outcome that was met often enough.
 pub fn lines_of(alloc: Global, tally: &Tally) -> Result<String, AllocError> {
     let mut text = String::new(alloc);
     for name in NAMES {

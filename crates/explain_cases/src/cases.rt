@@ -1,6 +1,6 @@
 //! The lines of the table, with bars between their words:
 //!
-//!     report|JSON                                  reads the report that the lines behind ask about, and checks its markings
+//!     report|JSON                                  reads the report for the lines behind, and checks its markings
 //!     explain|STANDING|GATES|PERMISSIONS|POINTER   the text of the trace of the pointer, or NoClass
 //!     fields|STANDING|GATES|PERMISSIONS|POINTER    the gates and permissions of the trace, in its own order
 //!

@@ -4,7 +4,7 @@
 //!     label|ARRANGED|RESTRICTION|EXT        the same with a text in ext-restriction
 //!     order|HANDLING|HANDLING               how the two compare
 //!     incident|TOKEN|TOKEN                  whether the path of the two tokens is the Incident's
-//!     report|JSON                           reads the report that the lines behind ask about, and checks its markings
+//!     report|JSON                           reads the report for the lines behind, and checks its markings
 //!     marks                                 each class of the report with its label
 //!     site|POINTER                          the labels at a path of it
 //!     clearance|STANDING                    what the reader is cleared for
@@ -13,14 +13,14 @@
 //!     decide|STANDING|GATES|PERMISSIONS|POINTERS      the verdict of each pointer
 //!     excerpt|STANDING|GATES|PERMISSIONS              what the reader is served of it, at once and line by line
 //!     kept|STANDING|GATES|PERMISSIONS|POINTER         the labels at a path of what the reader is served
-//!     feed|STANDING|GATES|PERMISSIONS|LINES           what a pass answers to these lines and at the end, of no report
+//!     feed|STANDING|GATES|PERMISSIONS|LINES           what a pass answers to lines and at the end, of no report
 //!     listed|STANDING|GATES|PERMISSIONS               whether it is listed to the reader
 //!     find|STANDING|GATES|PERMISSIONS|NEEDLE          whether the reader finds the needle in it
 //!     find|STANDING|GATES|PERMISSIONS|NEEDLE|CLASS    the same, in classes of this name
 //!     probe|STANDING|GATES|PERMISSIONS                at which of its lines a search is sure it's listed, and the end
 //!     probe|STANDING|GATES|PERMISSIONS|NEEDLE         the same for the needle, if there is one
 //!     probe|STANDING|GATES|PERMISSIONS|NEEDLE|CLASS   the same, in classes of this name
-//!     seek|STANDING|GATES|PERMISSIONS|LINES           what a search answers to these lines and at the end, of no report
+//!     seek|STANDING|GATES|PERMISSIONS|LINES           what a search answers to lines and at the end, of no report
 //!     seek|STANDING|GATES|PERMISSIONS|LINES|NEEDLE    the same for a needle
 //!     lists|GATES|PERMISSIONS               the gates and permissions that a case gives back
 //!     numbers|STANDING                      the groups that the reader's standing gives back

@@ -5,10 +5,10 @@ use std::io;
 use std::io::{ErrorKind, Read, Write};
 use std::net::{Ipv4Addr, TcpStream};
 
-/// What a caller sends who leaves at once.
+/// The bytes of a caller that leaves at once.
 const LEAVES: &[u8] = b"-";
 
-/// A caller of the port who has sent these bytes, unless it left.
+/// Returns a caller of the port that has sent these bytes, unless it left.
 fn call(rt: &HostRuntime, port: u16, bytes: &[u8]) -> io::Result<Option<TcpStream>> {
     let mut caller = TcpStream::connect(rt, (Ipv4Addr::LOCALHOST, port))?;
     if bytes == LEAVES {
@@ -18,7 +18,7 @@ fn call(rt: &HostRuntime, port: u16, bytes: &[u8]) -> io::Result<Option<TcpStrea
     Ok(Some(caller))
 }
 
-/// The callers of a port, each of whom has sent its bytes, but for those that left.
+/// Returns the callers of a port, each of which has sent its bytes, except for those that left.
 pub fn call_all(
     rt: &HostRuntime,
     port: u16,
@@ -33,7 +33,7 @@ pub fn call_all(
     Ok(())
 }
 
-/// All that a caller is replied, and `(reset)` behind it if the connection isn't ended in order.
+/// Returns the whole reply to a caller, with `(reset)` behind it if the connection doesn't end in order.
 pub fn reply_to(rt: &HostRuntime, caller: &mut TcpStream) -> io::Result<Vec<u8>> {
     let mut reply = Vec::new(rt.alloc());
     if caller.read_to_end(&mut reply).is_err() {
@@ -42,7 +42,7 @@ pub fn reply_to(rt: &HostRuntime, caller: &mut TcpStream) -> io::Result<Vec<u8>>
     Ok(reply)
 }
 
-/// What each caller is replied, a line each.
+/// Adds the reply to each caller, a line each.
 pub fn push_replies(
     rt: &HostRuntime,
     callers: &mut Vec<TcpStream>,
@@ -55,7 +55,7 @@ pub fn push_replies(
     Ok(())
 }
 
-/// Standard output, behind which callers connect to a port as soon as it is flushed. It takes all bytes, or none.
+/// Standard output. As soon as it is flushed, callers connect to a port. It takes all bytes, or none.
 #[derive(Drop)]
 pub struct Calling<'a> {
     pub rt: &'a HostRuntime,

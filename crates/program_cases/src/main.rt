@@ -1,28 +1,30 @@
-//! Starts the program for the cases on standard input, one a line, and prints what comes of each. A line that begins with `#` is
-//! printed as it is; the cases behind it begin with no store. In a line `\n`, `\r` and `\x41` stand for LF, CR and any byte,
-//! `<3*ab>` for `ababab`, and a field `@NAME` for the file NAME in `data/`.
+//! Starts the program for the cases on standard input, one a line, and prints the outcome of each. A line that begins
+//! with `#` is printed as it is; the cases behind it begin with no store. In a line `\n`, `\r` and `\x41` mean LF, CR
+//! and any byte, `<3*ab>` means `ababab`, and a field `@NAME` means the file NAME in `data/`.
 //!
-//! A start: `WAY|WORDS|INPUT`. Between words stands a space, `""` is the empty word, `STORE` the file of the store, and `PORT` a
-//! port that is free. WAY is one of
+//! A start: `WAY|WORDS|INPUT`. Words have a space between them, `""` is the empty word, `STORE` the file of the store,
+//! and `PORT` a port that is free. WAY is one of
 //!
-//! - `run`: the input is given whole, and all that is printed and told is taken;
-//! - `cut`: behind the input reading fails; `starved`: behind it there is no memory for reading;
+//! - `run`: the input is given whole, and all output is taken;
+//! - `cut`: reading fails behind the input; `starved`: there is no memory for reading behind it;
 //! - `unwritten`: the output takes nothing; `untold`: standard error takes nothing either;
 //! - `wordless`: there is no memory for the words;
 //! - `held`: another program has the store open; `taken`: another program has the port.
 //!
-//! Told is the exit status, behind `>` each line that is printed, and behind `!` each on standard error; of a usage the first one.
+//! The answer is the exit status, each line of the output behind `>`, and each line of standard error behind `!`; of a
+//! usage only the first.
 //!
-//! Connections: `serve|BYTES|BYTES..` starts `serve STORE PORT` for so many callers, who connect as soon as the port is printed,
-//! and send these bytes; one that sends `-` leaves at once. Behind `<` stands what each of the others is replied, with `\r` and
-//! `\n` for CR and LF. `memory|CLOCK|BYTES..` is the same over a hub in memory, with organisation 1 and its administrator, whose
-//! key is `abc`, and with a clock that stands at so many seconds since 1970, or is `stopped`. `post|KEY|TARGET|BODY` posts to the
-//! store, also several times, a line each: told is how many are done, or else the first reply to one that isn't.
+//! Connections: `serve|BYTES|BYTES..` starts `serve STORE PORT` for so many callers. They connect as soon as the port
+//! is printed, and send these bytes; one that sends `-` leaves at once. Behind `<` follows the reply to each of the
+//! others, with `\r` and `\n` for CR and LF. `memory|CLOCK|BYTES..` is the same over a hub in memory, with organisation
+//! 1 and its administrator, whose key is `abc`. CLOCK is the time that its clock always has, in seconds since 1970, or
+//! `stopped`. `post|KEY|TARGET|BODY` posts to the store, also several times, a line each; the answer is how many are
+//! done, or else the first reply to one that isn't.
 //!
-//! What stands around them: `sql|STATEMENTS` over the file of the store, which is made where it isn't there; `file|BYTES` puts
-//! these there; `modes|WORD` tells the mode of the file of this name, and of its log. `clock|CLOCK` tells the present moment, and
-//! `ask|CLOCK|INPUT` what is replied over the hub in memory to who is in the input, as `ask starved` where there is no memory
-//! for reading.
+//! Files and clocks: `sql|STATEMENTS` runs over the file of the store, which is made if it isn't there; `file|BYTES`
+//! puts these there; `modes|WORD` prints the mode of the file of this name, and of its log. `clock|CLOCK` prints the
+//! present moment, and `ask|CLOCK|INPUT` the reply of the hub in memory to the caller in the input. `ask starved` has
+//! no memory for reading.
 #![tactic(auto)]
 
 mod calls;
@@ -39,7 +41,7 @@ use place::Place;
 use std::io;
 use std::io::Read;
 
-/// What is printed for a line, each of its lines ended.
+/// Returns what is printed for a line, each of its lines ended.
 fn answer(rt: &HostRuntime, place: &Place, line: &str) -> io::Result<String> {
     let (way, rest) = line.split_once('|').unwrap_or((line, ""));
     match way {

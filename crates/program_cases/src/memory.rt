@@ -1,4 +1,4 @@
-//! A hub over memory, and clocks that stand.
+//! A hub over memory, and clocks that don't move.
 
 use crate::calls::{call_all, push_replies};
 use crate::streams::{Ending, Input, Output};
@@ -19,7 +19,7 @@ use std::time::{Clock, Duration};
 /// The SHA-256 of `abc`.
 const ABC: &str = "ba7816bf8f01cfea414140de5dae2223b00361a396177a9cb410ff61f20015ad";
 
-/// A clock that stands at so many seconds since 1970, or can't be read.
+/// A clock that always has the same time, in seconds since 1970, or can't be read.
 #[derive(Drop)]
 enum Hands {
     At(u64),
@@ -49,7 +49,7 @@ fn clock_of(word: &str) -> Hands {
     }
 }
 
-/// The present moment of a clock.
+/// Returns the present moment of a clock.
 pub fn moment(rt: &HostRuntime, word: &str) -> io::Result<String> {
     match seconds(&clock_of(word)) {
         Ok(now) => Ok(format!(in rt.alloc(); "{now}\n")?),
@@ -62,7 +62,7 @@ fn told_fault(alloc: Global, fault: Fault) -> Result<String, AllocError> {
     format!(in alloc; "! {name}\n")
 }
 
-/// A hub over memory with organisation 1 and its administrator.
+/// Returns a hub over memory with organisation 1 and its administrator.
 fn new_hub(alloc: Global) -> io::Result<Hub<ListShelf>> {
     let mut shelf = ListShelf::new(alloc);
     if let (Some(name), Some(key)) = (Name::of(alloc, "Hub")?, digest_of(ABC)) {
@@ -79,7 +79,8 @@ fn told_reply(alloc: Global, reply: &Reply) -> Result<String, AllocError> {
     Ok(all)
 }
 
-/// What is replied to who asks which person it is, by the first line of an input, at the moment of a clock.
+/// Returns the reply to the caller in the first line of an input, who asks which person it is, at the moment of a
+/// clock.
 pub fn ask(rt: &HostRuntime, way: &str, rest: &str) -> io::Result<String> {
     let alloc = rt.alloc();
     let (clock, field) = rest.split_once('|').unwrap_or((rest, ""));
@@ -101,7 +102,7 @@ pub fn ask(rt: &HostRuntime, way: &str, rest: &str) -> io::Result<String> {
     }
 }
 
-/// How serving so many connections ends.
+/// Returns how serving so many connections ends.
 fn ended_by(
     alloc: Global,
     listener: &TcpListener,
@@ -114,7 +115,7 @@ fn ended_by(
     Ok(ended(alloc, status, b"", &errors.written)?)
 }
 
-/// What comes of serving callers over a hub in memory, and what each is replied.
+/// Serves callers over a hub in memory. Returns the outcome, and the reply to each.
 pub fn serve(rt: &HostRuntime, rest: &str) -> io::Result<String> {
     let (clock, line) = rest.split_once('|').unwrap_or((rest, ""));
     let requests = fields_of(rt, line)?;

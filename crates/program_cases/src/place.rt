@@ -4,7 +4,7 @@ use crate::texts::field_of;
 use std::os::unix::fs::PermissionsExt;
 use std::{env, fs, io, process};
 
-/// The store's file, which no other program has the name of, and its log.
+/// The store's file, whose name no other program has, and its log.
 #[derive(Drop)]
 pub struct Place {
     path: String,
@@ -12,7 +12,7 @@ pub struct Place {
 }
 
 impl Place {
-    /// A place where no file is.
+    /// Returns a place without a file.
     pub fn new(rt: &HostRuntime) -> io::Result<Place> {
         let alloc = rt.alloc();
         let id = process::id(rt.process());
@@ -29,7 +29,7 @@ impl Place {
         self.path.as_str()
     }
 
-    /// Takes the files away, if they are there.
+    /// Removes the files, if they are there.
     pub fn clear(&self, rt: &HostRuntime) {
         let _ = fs::remove_file(rt, self.path.as_str());
         let _ = fs::remove_file(rt, self.log.as_str());
@@ -42,7 +42,7 @@ impl Place {
         Ok(String::from_str(rt.alloc(), "done\n")?)
     }
 
-    /// The mode of the file of this name, and of its log.
+    /// Returns the mode of the file of this name, and of its log.
     pub fn modes(&self, rt: &HostRuntime, word: &str) -> io::Result<String> {
         let path = if word == "STORE" { self.path() } else { word };
         let log = format!(in rt.alloc(); "{path}-wal")?;
@@ -52,7 +52,7 @@ impl Place {
     }
 }
 
-/// Who may read and write a file, in octal digits; `none` where it isn't there.
+/// Returns who may read and write a file, in octal digits, or `none` if it isn't there.
 fn mode_of(rt: &HostRuntime, path: &str) -> io::Result<String> {
     match fs::metadata(rt, path) {
         Ok(found) => {

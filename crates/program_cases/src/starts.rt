@@ -13,7 +13,7 @@ use std::io;
 use std::net::{Ipv4Addr, TcpListener, TcpStream};
 use std::str::from_utf8;
 
-/// The start that all cases make.
+/// Returns the start that all cases make.
 fn begin(
     rt: &HostRuntime,
     words: io::Result<Args>,
@@ -24,14 +24,14 @@ fn begin(
     cli_start(rt, words, input, output, errors)
 }
 
-/// A port that nobody has, held for as long as it isn't let go of, and its number.
+/// Returns a port that nobody has, which is held until the listener is dropped, and its number.
 fn held_port(rt: &HostRuntime) -> io::Result<(TcpListener, u16)> {
     let listener = TcpListener::bind(rt, (Ipv4Addr::LOCALHOST, 0))?;
     let port = listener.local_addr()?.port();
     Ok((listener, port))
 }
 
-/// How the program ended, with `PORT` for the number of the port.
+/// Returns how the program ended, with `PORT` for the number of the port.
 fn told_of(
     alloc: Global,
     status: Status,
@@ -47,7 +47,7 @@ fn told_of(
     ended(alloc, status, written, &errors.written)
 }
 
-/// What comes behind the input, and whether standard output and standard error take anything.
+/// Returns what follows the input, and whether standard output and standard error take anything.
 fn streams_of(way: &str) -> (Ending, bool, bool) {
     match way {
         "cut" => (Ending::Failure, true, true),
@@ -84,7 +84,7 @@ fn start_at(
     Ok(told_of(alloc, status, &output, &errors)?)
 }
 
-/// What comes of a start in this way.
+/// Starts the program in this way. Returns the outcome.
 pub fn start(rt: &HostRuntime, place: &Place, way: &str, rest: &str) -> io::Result<String> {
     let (listener, port) = held_port(rt)?;
     if way == "taken" {
@@ -96,7 +96,7 @@ pub fn start(rt: &HostRuntime, place: &Place, way: &str, rest: &str) -> io::Resu
     start_at(rt, place, port, way, rest)
 }
 
-/// What comes of a `serve` for as many callers as there are requests, and the callers.
+/// Runs a `serve` for as many callers as there are requests. Returns the outcome, and the callers.
 fn served(
     rt: &HostRuntime,
     place: &Place,
@@ -119,7 +119,7 @@ fn served(
     Ok((told, output.callers))
 }
 
-/// What comes of a `serve`, and what each caller is replied.
+/// Runs a `serve`. Returns the outcome, and the reply to each caller.
 pub fn serve(rt: &HostRuntime, place: &Place, rest: &str) -> io::Result<String> {
     let requests = fields_of(rt, rest)?;
     let (mut all, mut callers) = served(rt, place, &requests)?;
@@ -127,7 +127,7 @@ pub fn serve(rt: &HostRuntime, place: &Place, rest: &str) -> io::Result<String> 
     Ok(all)
 }
 
-/// The bytes of a post that is written KEY|TARGET|BODY.
+/// Returns the bytes of a post that is written KEY|TARGET|BODY.
 fn post_of(alloc: Global, line: &str) -> Result<Vec<u8>, AllocError> {
     let (key, rest) = line.split_once('|').unwrap_or((line, ""));
     let (target, body) = rest.split_once('|').unwrap_or((rest, ""));
@@ -147,7 +147,7 @@ fn posts_of(rt: &HostRuntime, field: &str) -> io::Result<Vec<Vec<u8>>> {
     Ok(all)
 }
 
-/// Prints how many callers got `200 OK`, or the first other reply, if there is one.
+/// Returns how many callers got `200 OK`, or the first other reply, if there is one.
 fn told_done(rt: &HostRuntime, callers: &mut Vec<TcpStream>) -> io::Result<String> {
     let alloc = rt.alloc();
     let mut count: usize = 0;

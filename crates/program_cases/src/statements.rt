@@ -1,4 +1,4 @@
-//! The store's file in the hands of another program.
+//! The store's file, opened by another program.
 
 use crate::place::Place;
 use crate::starts::start;
@@ -7,7 +7,7 @@ use sqlite::{Alter, Connection, File, FileStore};
 use std::io;
 use std::str::from_utf8;
 
-/// A connection over the file, which is made where it isn't there.
+/// Returns a connection over the file, which is made if it isn't there.
 fn connect(rt: &HostRuntime, place: &Place) -> Option<Connection<FileStore<File>>> {
     Connection::open(rt, place.path()).ok()
 }
@@ -33,7 +33,7 @@ pub fn run(rt: &HostRuntime, place: &Place, field: &str) -> io::Result<String> {
     Ok(String::from_str(rt.alloc(), told)?)
 }
 
-/// What comes of a start while another program has the store open.
+/// Returns the outcome of a start while another program has the store open.
 pub fn hold(rt: &HostRuntime, place: &Place, rest: &str) -> io::Result<String> {
     let Some(held) = connect(rt, place) else {
         return Ok(String::from_str(rt.alloc(), "not opened\n")?);

@@ -4,7 +4,7 @@ use std::alloc::Global;
 use std::io;
 use std::io::{ErrorKind, Read, Write};
 
-/// What comes behind the bytes of an input.
+/// What follows the bytes of an input.
 #[derive(Clone, Copy)]
 pub enum Ending {
     Nothing,

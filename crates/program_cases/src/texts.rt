@@ -1,10 +1,10 @@
-//! The bytes that a field stands for.
+//! The bytes of a field.
 
 use std::alloc::{AllocError, Global};
 use std::{fs, io};
 use trying::written_out;
 
-/// The byte of two hexadecimal digits, or 0.
+/// Returns the byte of two hexadecimal digits, or 0.
 fn byte_of(digits: &[u8]) -> u8 {
     let mut byte = [0];
     match hex::decode_to_slice(digits, &mut byte) {
@@ -13,7 +13,7 @@ fn byte_of(digits: &[u8]) -> u8 {
     }
 }
 
-/// The byte that an escape is for.
+/// Adds the byte of an escape.
 fn push_escaped(all: &mut Vec<u8>, piece: &[u8]) -> Result<(), AllocError> {
     let (byte, rest) = match piece {
         [b'r', rest @ ..] => (b'\r', rest),
@@ -25,7 +25,7 @@ fn push_escaped(all: &mut Vec<u8>, piece: &[u8]) -> Result<(), AllocError> {
     all.extend_from_slice(rest)
 }
 
-/// The bytes of a text in a line.
+/// Returns the bytes of a text in a line.
 pub fn bytes_of(alloc: Global, text: &str) -> Result<Vec<u8>, AllocError> {
     let text = written_out(alloc, text)?;
     let mut all = Vec::new(alloc);
@@ -39,7 +39,7 @@ pub fn bytes_of(alloc: Global, text: &str) -> Result<Vec<u8>, AllocError> {
     Ok(all)
 }
 
-/// The bytes of a field, which may be those of a file.
+/// Returns the bytes of a field, which may be those of a file.
 pub fn field_of(rt: &HostRuntime, field: &str) -> io::Result<Vec<u8>> {
     match field.strip_prefix('@') {
         Some(name) => fs::read(rt, name),
@@ -47,7 +47,7 @@ pub fn field_of(rt: &HostRuntime, field: &str) -> io::Result<Vec<u8>> {
     }
 }
 
-/// The fields of a line, each as its bytes.
+/// Returns the fields of a line, each as its bytes.
 pub fn fields_of(rt: &HostRuntime, line: &str) -> io::Result<Vec<Vec<u8>>> {
     let mut all = Vec::new(rt.alloc());
     for field in line.split('|') {

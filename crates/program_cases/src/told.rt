@@ -1,10 +1,10 @@
-//! How what comes of a case is printed.
+//! The outcome of a case, as it is printed.
 
 use hub_program::Status;
 use std::alloc::{AllocError, Global};
 use std::str::from_utf8;
 
-/// Each of the first lines of a text behind a mark; one that isn't ended has `..` behind it.
+/// Adds each of the first lines of a text behind a mark. A line that isn't ended has `..` behind it.
 fn push_lines(all: &mut String, mark: &str, text: &str, most: usize) -> Result<(), AllocError> {
     for line in text.split_inclusive('\n').take(most) {
         all.push_str(mark)?;
@@ -16,17 +16,17 @@ fn push_lines(all: &mut String, mark: &str, text: &str, most: usize) -> Result<(
     Ok(())
 }
 
-/// Each of the first lines of an output behind a mark.
+/// Adds each of the first lines of an output behind a mark.
 fn push_output(all: &mut String, mark: &str, bytes: &[u8], most: usize) -> Result<(), AllocError> {
     push_lines(all, mark, from_utf8(bytes).unwrap_or("not UTF-8"), most)
 }
 
-/// What is printed.
+/// Adds the output.
 pub fn push_printed(all: &mut String, output: &[u8]) -> Result<(), AllocError> {
     push_output(all, "> ", output, usize::MAX)
 }
 
-/// How the program ended, and what it printed and told.
+/// Returns how the program ended, its output and its standard error.
 pub fn ended(
     alloc: Global,
     status: Status,
@@ -44,7 +44,7 @@ pub fn ended(
     Ok(all)
 }
 
-/// A reply behind its mark, on one line.
+/// Adds a reply behind its mark, on one line.
 pub fn push_reply(all: &mut String, reply: &[u8]) -> Result<(), AllocError> {
     all.push_str("< ")?;
     for c in from_utf8(reply).unwrap_or("not UTF-8").chars() {

@@ -43,7 +43,7 @@ fn word_of(alloc: Global, place: &Place, port: &str, word: &str) -> Result<Vec<u
     }
 }
 
-/// The words of a field, as a start gives them to the program.
+/// Returns the words of a field, as a start gives them to the program.
 pub fn args_of(alloc: Global, place: &Place, port: u16, field: &str) -> io::Result<Args> {
     let port = format!(in alloc; "{port}")?;
     let mut all = Vec::new(alloc);
@@ -56,7 +56,7 @@ pub fn args_of(alloc: Global, place: &Place, port: u16, field: &str) -> io::Resu
     env::args(&(Words { all }, alloc))
 }
 
-/// Words for which there is no memory.
+/// Returns words for which there is no memory.
 pub fn no_args() -> io::Result<Args> {
     Err(io::Error::from(ErrorKind::OutOfMemory))
 }

@@ -1,4 +1,4 @@
-//! What `RowPass` answers of the lines of a case, against a pass that keeps all of them and is asked at the end.
+//! Compares `RowPass` over the lines of a case with a pass that keeps all of them and is asked at the end.
 
 use crate::compared::{any_document, case_over, same_lines};
 use crate::readers::any_standing;
@@ -9,7 +9,7 @@ use redact::{Excerpt, RowPass, excerpt_if_marked};
 use std::alloc::{AllocError, Global};
 use trying::Dice;
 
-/// A case of a seed: a report by its document, what it is judged by, and a reader.
+/// The case of a seed: a report by its document, the case by which it is judged, and a reader.
 #[derive(Drop)]
 pub struct World {
     pub document: Document,
@@ -17,7 +17,7 @@ pub struct World {
     pub standing: Standing,
 }
 
-/// The case of this seed, if its report is read.
+/// Returns the case of this seed, if its report is read.
 pub fn world_at(alloc: Global, seed: u64) -> Result<Option<World>, AllocError> {
     let mut dice = Dice::new(seed);
     let Some(document) = any_document(alloc, &mut dice)? else {
@@ -32,7 +32,7 @@ pub fn world_at(alloc: Global, seed: u64) -> Result<Option<World>, AllocError> {
     }))
 }
 
-/// What the pass that keeps all lines serves: the document of them, redacted at once.
+/// Returns what the pass that keeps all lines serves: their document, redacted at once.
 fn plainly(alloc: Global, world: World) -> Result<Option<Excerpt>, AllocError> {
     let lines = world.document.outline(alloc)?;
     let document = match Document::from_outline(alloc, &lines) {
@@ -42,7 +42,7 @@ fn plainly(alloc: Global, world: World) -> Result<Option<Excerpt>, AllocError> {
     excerpt_if_marked(alloc, &document, &world.case, &world.standing)
 }
 
-/// What `RowPass` serves, and whether it took each line.
+/// Returns what `RowPass` serves. Fails if it refuses a line.
 fn by_lines(alloc: Global, world: World) -> Result<Option<Excerpt>, OutlineFault> {
     let World {
         document,
@@ -61,7 +61,7 @@ fn same_pair(alloc: Global, one: &(Path, Rule), other: &(Path, Rule)) -> Result<
     Ok(place.as_str() == other.0.print(alloc)?.as_str() && one.1.name() == other.1.name())
 }
 
-/// Whether both tell the same of what is withheld, in the same order.
+/// Returns whether both withhold the same, in the same order.
 fn same_withheld(
     alloc: Global,
     one: &[(Path, Rule)],
@@ -85,7 +85,7 @@ fn same_excerpt(alloc: Global, one: &Excerpt, other: &Excerpt) -> Result<bool, A
     )
 }
 
-/// Whether both serve the same; the tally is told whether something is served.
+/// Returns whether both serve the same. Notes in the tally whether something is served.
 fn agree_on(
     alloc: Global,
     tally: &mut Tally,
@@ -102,7 +102,7 @@ fn agree_on(
     }
 }
 
-/// Whether both serve the same of the case of this seed.
+/// Returns whether both serve the same in the case of this seed.
 pub fn agree_by_lines(alloc: Global, tally: &mut Tally, seed: u64) -> Result<bool, AllocError> {
     let (Some(first), Some(second)) = (world_at(alloc, seed)?, world_at(alloc, seed)?) else {
         return Ok(false);

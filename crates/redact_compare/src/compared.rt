@@ -1,4 +1,4 @@
-//! One case: what `excerpt`, `is_listed` and `finds` answer, against the slow program.
+//! One case: compares `excerpt`, `is_listed` and `finds` with the slow program.
 
 ghost use Rattle.std.specs.Prelude.{◌≡◌, None};
 ghost use Rattle.iodef_tree.specs.Paths as spec;
@@ -73,7 +73,7 @@ fn same_withheld(alloc: Global, pairs: &[(Path, Rule)], told: &[Told]) -> Result
     Ok(pairs.len() == told.len())
 }
 
-/// What the slow program says of a case.
+/// The answers of the slow program for a case.
 #[derive(Drop)]
 pub struct Expected {
     pub outline: Vec<Line>,
@@ -81,7 +81,7 @@ pub struct Expected {
     pub withheld: Vec<Told>,
 }
 
-/// What is withheld beside the classes that are kept at these places.
+/// Returns what is withheld beside the classes that are kept at these places.
 fn withheld_at(
     tally: &mut Tally,
     alloc: Global,
@@ -95,7 +95,7 @@ fn withheld_at(
     Ok(withheld)
 }
 
-/// What is withheld beside these kept lines; the tally is told where they stand.
+/// Returns what is withheld beside these kept lines. Notes in the tally where they are.
 fn withheld_beside(
     tally: &mut Tally,
     world: &World<'_, '_>,
@@ -107,7 +107,7 @@ fn withheld_beside(
     withheld_at(tally, world.alloc, list, &pairs)
 }
 
-/// What is withheld beside this kept outline.
+/// Returns what is withheld beside this kept outline.
 fn slow_withheld(
     tally: &mut Tally,
     world: &World<'_, '_>,
@@ -118,7 +118,7 @@ fn slow_withheld(
     withheld_beside(tally, world, list, &lines)
 }
 
-/// The slow program's answer.
+/// Returns the slow program's answer.
 fn slow_answer(
     tally: &mut Tally,
     world: &World<'_, '_>,
@@ -133,7 +133,7 @@ fn slow_answer(
     })
 }
 
-/// Whether an answer is the one that is expected: none exactly where no class is visible.
+/// Returns whether an answer is the expected one: none exactly if no class is visible.
 fn is_expected(
     alloc: Global,
     answer: &Option<Excerpt>,
@@ -151,12 +151,12 @@ fn is_expected(
     )
 }
 
-/// Whether the text stands somewhere in the stored document.
+/// Returns whether the text is somewhere in the stored document.
 fn is_stored(list: &[Judged<'_>], needle: &str) -> bool {
     list.iter().any(|line| line.line.kind == Kind::Text && line.line.text.as_str().contains(needle))
 }
 
-/// What the crate finds.
+/// Returns whether the crate finds it.
 fn answer_found(
     world: &World<'_, '_>,
     document: &Document,
@@ -172,7 +172,7 @@ fn answer_found(
     )
 }
 
-/// What the slow program finds; the tally is told.
+/// Returns whether the slow program finds it. Notes that in the tally.
 fn slow_found(tally: &mut Tally, list: &[Judged<'_>], sought: &Sought<'_>) -> bool {
     let found = search(list, sought);
     tally.note("needles found", found);
@@ -180,7 +180,7 @@ fn slow_found(tally: &mut Tally, list: &[Judged<'_>], sought: &Sought<'_>) -> bo
     found
 }
 
-/// Whether both find it, or neither does.
+/// Returns whether both find it, or neither does.
 fn agrees_on_search(
     tally: &mut Tally,
     world: &World<'_, '_>,
@@ -192,7 +192,7 @@ fn agrees_on_search(
     Ok(answer_found(world, document, sought)? == found)
 }
 
-/// Whether the searches agree.
+/// Returns whether the searches agree.
 fn agrees_on_searches(
     tally: &mut Tally,
     world: &World<'_, '_>,
@@ -207,7 +207,7 @@ fn agrees_on_searches(
     Ok(true)
 }
 
-/// Whether the excerpt is as expected, and the report is listed where there is one.
+/// Returns whether the excerpt is the expected one, and the report is listed if there is one.
 fn agrees_on_excerpt(
     world: &World<'_, '_>,
     document: &Document,
@@ -220,7 +220,7 @@ fn agrees_on_excerpt(
     Ok(listed == (expected.classes > 0) && is_expected(world.alloc, &answer, expected)?)
 }
 
-/// Tells the tally what the case shows.
+/// Notes in the tally what the case shows.
 fn note_case(
     tally: &mut Tally,
     world: &World<'_, '_>,
@@ -231,7 +231,7 @@ fn note_case(
     note_stations(tally, world)
 }
 
-/// Whether both agree where the slow program's verdicts are these.
+/// Returns whether both agree if the slow program's verdicts are these.
 fn agrees_by(
     tally: &mut Tally,
     world: &World<'_, '_>,
@@ -247,7 +247,7 @@ fn agrees_by(
     )
 }
 
-/// Whether both agree; the tally is told what the case shows.
+/// Returns whether both agree. Notes in the tally what the case shows.
 fn agrees_in(
     tally: &mut Tally,
     world: &World<'_, '_>,
@@ -260,7 +260,7 @@ fn agrees_in(
     agrees_by(tally, world, &list, document)
 }
 
-/// Whether both agree on a document for a reader.
+/// Returns whether both agree on a document for a reader.
 fn agrees(
     alloc: Global,
     tally: &mut Tally,
@@ -281,13 +281,13 @@ fn agrees(
     agrees_in(tally, &world, document)
 }
 
-/// Any case over the classes of the document.
+/// Returns any case over the classes of the document.
 pub fn case_over(alloc: Global, dice: &mut Dice, document: &Document) -> Result<Case, AllocError> {
     let classes = document.classes(alloc)?;
     any_case(alloc, dice, &classes)
 }
 
-/// Whether both agree on the document in this case, for any reader.
+/// Returns whether both agree on the document in this case, for any reader.
 fn agrees_in_case(
     alloc: Global,
     tally: &mut Tally,
@@ -301,7 +301,7 @@ fn agrees_in_case(
     agrees(alloc, tally, document, case, &standing)
 }
 
-/// Whether both agree on the document, for any case and reader.
+/// Returns whether both agree on the document, for any case and reader.
 fn agrees_for_any(
     alloc: Global,
     tally: &mut Tally,
@@ -314,7 +314,7 @@ fn agrees_for_any(
     agrees_in_case(alloc, tally, dice, document, &case)
 }
 
-/// Whether both agree on the document. A report that isn't read, or isn't accepted, agrees on nothing.
+/// Returns whether both agree on the document. A report that isn't read, or isn't accepted, agrees on nothing.
 fn agrees_on(
     alloc: Global,
     tally: &mut Tally,
@@ -330,18 +330,18 @@ fn agrees_on(
     }
 }
 
-/// The document of a report, if it is read.
+/// Returns the document of a report, if it is read.
 fn document_of(alloc: Global, text: &str) -> Option<Document> {
     Document::read(alloc, text.as_bytes()).ok()?.pop()
 }
 
-/// The document of any report, if it is read.
+/// Returns the document of any report, if it is read.
 pub fn any_document(alloc: Global, dice: &mut Dice) -> Result<Option<Document>, AllocError> {
     let text = report_text(alloc, dice)?;
     Ok(document_of(alloc, text.as_str()))
 }
 
-/// Whether both agree on the case of this seed.
+/// Returns whether both agree on the case of this seed.
 pub fn agrees_at(alloc: Global, tally: &mut Tally, seed: u64) -> Result<bool, AllocError> {
     let mut dice = Dice::new(seed);
     let document = any_document(alloc, &mut dice)?;

@@ -4,10 +4,10 @@ use crate::writing::Writing;
 use std::alloc::{AllocError, Global};
 use trying::Dice;
 
-/// A text of this many bytes takes no further classes but such without members.
+/// A text of this many bytes takes no further classes except for those without members.
 const ROOM: usize = 600;
 
-/// A name that differs from the other long one in its last letter alone.
+/// A name that differs from the other long one only in its last letter.
 const LONG: &str =
     "a-name-as-long-as-a-line-of-a-report-may-have-it-which-agrees-with-another-one-up-to-its-last-letter-a";
 
@@ -83,7 +83,7 @@ fn class_name(dice: &mut Dice) -> &'static str {
     }
 }
 
-/// A member behind those of an object or an array that is open.
+/// Adds a member behind those of an object or an array that is open.
 fn push_member(text: &mut Writing, name: &str, value: &str) {
     let comma = text.comma();
     text.put(comma);
@@ -107,7 +107,7 @@ fn push_plain(text: &mut Writing, dice: &mut Dice) {
     }
 }
 
-/// One of these texts of classes, where there is room for it, or a class without members.
+/// Returns one of these texts of classes if there is room for it, else a class without members.
 fn any_class<'a>(dice: &mut Dice, classes: &'a [String], used: usize) -> &'a str {
     match classes.get(dice.roll(4) as usize) {
         Some(class) if used.saturating_add(class.len()) < ROOM => class.as_str(),
@@ -115,7 +115,7 @@ fn any_class<'a>(dice: &mut Dice, classes: &'a [String], used: usize) -> &'a str
     }
 }
 
-/// An array of classes, with other values among them, behind a text of so many bytes.
+/// Returns an array of classes, with other values among them, behind a text of so many bytes.
 fn array_text(
     alloc: Global,
     dice: &mut Dice,
@@ -139,7 +139,7 @@ fn array_text(
     text.done()
 }
 
-/// Members that are classes or arrays of them.
+/// Adds members that are classes or arrays of them.
 fn push_classes(
     text: &mut Writing,
     alloc: Global,
@@ -159,7 +159,7 @@ fn push_classes(
     Ok(())
 }
 
-/// A class over these.
+/// Returns a class over these.
 fn class_text(alloc: Global, dice: &mut Dice, classes: &[String]) -> Result<String, AllocError> {
     let mut text = Writing::new(alloc);
     text.put("{");
@@ -170,7 +170,7 @@ fn class_text(alloc: Global, dice: &mut Dice, classes: &[String]) -> Result<Stri
     text.done()
 }
 
-/// Three classes, each over some of the level below.
+/// Returns three classes, each over some of the level below.
 fn level(alloc: Global, dice: &mut Dice, classes: &[String]) -> Result<Vec<String>, AllocError> {
     let mut made = Vec::new(alloc);
     for _ in 0..3 {
@@ -179,7 +179,7 @@ fn level(alloc: Global, dice: &mut Dice, classes: &[String]) -> Result<Vec<Strin
     Ok(made)
 }
 
-/// A class, some with a label, over this one alone in an array.
+/// Returns a class, in some cases with a label, over an array that has only this class.
 fn link_text(alloc: Global, dice: &mut Dice, inner: &str) -> Result<String, AllocError> {
     let mut text = Writing::new(alloc);
     text.put("{");
@@ -224,7 +224,7 @@ fn put_into_levels(
     Ok(())
 }
 
-/// The classes that a report is made of.
+/// Returns the classes of which a report is made.
 fn any_classes(alloc: Global, dice: &mut Dice) -> Result<Vec<String>, AllocError> {
     let mut classes = Vec::new(alloc);
     put_into_levels(alloc, dice, &mut classes)?;
@@ -232,7 +232,7 @@ fn any_classes(alloc: Global, dice: &mut Dice) -> Result<Vec<String>, AllocError
     Ok(classes)
 }
 
-/// What stands in front of the Incident.
+/// Adds the members in front of the Incident.
 fn push_front(
     text: &mut Writing,
     alloc: Global,
@@ -263,7 +263,7 @@ fn incident_text(alloc: Global, dice: &mut Dice, classes: &[String]) -> Result<S
     text.done()
 }
 
-/// A report with one Incident.
+/// Returns a report with one Incident.
 pub fn report_text(alloc: Global, dice: &mut Dice) -> Result<String, AllocError> {
     let classes = any_classes(alloc, dice)?;
     let mut text = Writing::new(alloc);

@@ -11,7 +11,7 @@ pub struct Entry<'a> {
     pub line: &'a Line,
 }
 
-/// The path of the last line that is one less deep, else the root.
+/// Returns the path of the last line that is one less deep, else the root.
 fn parent_of(alloc: Global, before: &[Entry<'_>], depth: u32) -> Result<Path, AllocError> {
     for entry in before.iter().rev() {
         if entry.line.depth.saturating_add(1) == depth {
@@ -21,7 +21,7 @@ fn parent_of(alloc: Global, before: &[Entry<'_>], depth: u32) -> Result<Path, Al
     Ok(Path::root(alloc))
 }
 
-/// How many lines before have this parent and this name.
+/// Returns how many lines before have this parent and this name.
 fn place_among(before: &[Entry<'_>], parent: &Path, name: &Text) -> usize {
     before
         .iter()
@@ -29,13 +29,13 @@ fn place_among(before: &[Entry<'_>], parent: &Path, name: &Text) -> usize {
         .count()
 }
 
-/// The path of an element of the array at the path.
+/// Returns the path of an element of the array at the path.
 pub fn element(alloc: Global, path: &Path, place: usize) -> Result<Path, AllocError> {
     let place = format!(in alloc; "{place}")?;
     path.member(alloc, place.as_str())
 }
 
-/// A line behind these.
+/// Returns a line behind these.
 fn entry_of<'a>(
     alloc: Global,
     before: &[Entry<'a>],
@@ -61,7 +61,7 @@ fn push_entry<'a>(
     Ok(())
 }
 
-/// The lines of an outline with their paths.
+/// Returns the lines of an outline with their paths.
 pub fn located<'a>(alloc: Global, lines: &'a [Line]) -> Result<Vec<Entry<'a>>, AllocError> {
     let mut entries: Vec<Entry<'a>> = Vec::new(alloc);
     for line in lines {
@@ -70,7 +70,7 @@ pub fn located<'a>(alloc: Global, lines: &'a [Line]) -> Result<Vec<Entry<'a>>, A
     Ok(entries)
 }
 
-/// Whether one path lies below another.
+/// Returns whether one path is below another.
 pub fn is_below(path: &[Text], above: &[Text]) -> bool {
     path.len() > above.len() && path.starts_with(above)
 }

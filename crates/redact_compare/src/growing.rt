@@ -4,7 +4,7 @@ use iodef_tree::{Kind, Line, Shape, Text};
 use std::alloc::{AllocError, Global};
 use trying::Dice;
 
-/// Lines that stay an outline: one that may not come behind them is left out.
+/// Lines that always are an outline. A line that may not follow them is left out.
 #[derive(Drop)]
 struct Growing {
     alloc: Global,
@@ -64,7 +64,7 @@ fn label_text(dice: &mut Dice) -> &'static str {
 }
 
 impl Growing {
-    /// These lines.
+    /// Makes it of these lines.
     fn of(alloc: Global, lines: &[Line]) -> Result<Growing, AllocError> {
         let mut growing = Growing {
             alloc,
@@ -84,7 +84,7 @@ impl Growing {
         Ok(())
     }
 
-    /// How deep the next line may be.
+    /// Returns how deep the next line may be.
     fn deepest(&self) -> u32 {
         match self.lines.last() {
             Some(line) if line.kind == Kind::Class => line.depth.saturating_add(1),
@@ -116,7 +116,7 @@ impl Growing {
         self.put_member(depth, name, false, Kind::Text, text)
     }
 
-    /// A label, often with the text that `ext-value` asks for.
+    /// Puts a label, often with the text that `ext-value` asks for.
     fn put_label(&mut self, dice: &mut Dice, depth: u32) -> Result<(), AllocError> {
         if dice.once_in(3) {
             self.put_text(depth, "ext-restriction", label_text(dice))?;
@@ -142,7 +142,7 @@ impl Growing {
         }
     }
 
-    /// The label that a text for it in front asks for.
+    /// Puts the label that a text in front of it asks for.
     fn put_asked_label(&mut self, dice: &mut Dice) -> Result<(), AllocError> {
         match self.lines.last() {
             Some(line) if line.name.as_str() == "ext-restriction" => {
@@ -153,7 +153,7 @@ impl Growing {
         }
     }
 
-    /// Labels of the classes that are still open, of some.
+    /// Puts labels of some of the classes that are still open.
     fn put_labels(&mut self, dice: &mut Dice) -> Result<(), AllocError> {
         for up in 0..self.deepest() {
             if dice.once_in(2) {
@@ -165,7 +165,7 @@ impl Growing {
     }
 }
 
-/// The lines, and some more behind them.
+/// Returns the lines, and some more behind them.
 pub fn completion(alloc: Global, dice: &mut Dice, lines: &[Line]) -> Result<Vec<Line>, AllocError> {
     let mut growing = Growing::of(alloc, lines)?;
     growing.put_asked_label(dice)?;

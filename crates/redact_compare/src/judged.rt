@@ -1,11 +1,11 @@
-//! What is kept of a document, and what is withheld, from the verdict of each path.
+//! The lines that are kept and withheld of a document, from the verdict of each path.
 
 use crate::entry::{Entry, is_below};
 use crate::world::World;
 use iodef_tree::{Kind, Line, Path, Text};
 use std::alloc::{AllocError, Global};
 
-/// A line, and of a class whether it is visible and the rule that hides it otherwise.
+/// A line. For a class it has whether the class is visible, and the rule that hides it otherwise.
 #[derive(Drop)]
 pub struct Judged<'a> {
     pub parent: &'a Path,
@@ -22,7 +22,7 @@ pub struct Moved<'a> {
     pub place: &'a Path,
 }
 
-/// Something that is withheld: the printed place, and the rule.
+/// A withheld pair: the printed place, and the rule.
 #[derive(Drop)]
 pub struct Told {
     pub place: String,
@@ -49,13 +49,13 @@ pub fn judge<'r>(world: &World<'_, 'r>) -> Result<Vec<Judged<'r>>, AllocError> {
     Ok(list)
 }
 
-/// Whether a visible class stands at the path.
+/// Returns whether a visible class is at the path.
 pub fn is_seen(list: &[Judged<'_>], path: &[Text]) -> bool {
     list.iter()
         .any(|judged| judged.visible && judged.path.tokens() == path)
 }
 
-/// Whether a visible class lies below the path.
+/// Returns whether a visible class is below the path.
 pub fn holds_seen(list: &[Judged<'_>], path: &[Text]) -> bool {
     list.iter().any(|judged| judged.visible && is_below(judged.path.tokens(), path))
 }
@@ -77,7 +77,7 @@ pub fn is_kept(list: &[Judged<'_>], judged: &Judged<'_>) -> bool {
     }
 }
 
-/// Whether a class has its label added.
+/// Returns whether a class has its label added.
 pub fn says_label(world: &World<'_, '_>, list: &[Judged<'_>], judged: &Judged<'_>) -> bool {
     judged.visible
         && world.written(judged.path.tokens()).is_none()
@@ -104,7 +104,7 @@ fn text_line(alloc: Global, depth: u32, name: &str, text: &str) -> Result<Line, 
     })
 }
 
-/// Whether the line isn't below the class of the other, or is a member of a later name.
+/// Returns whether the line isn't below the class of the other, or is a member of a later name.
 fn comes_behind(line: &Line, other: &Line) -> bool {
     line.depth < other.depth
         || (line.depth == other.depth && other.name.as_str() < line.name.as_str())
@@ -147,7 +147,7 @@ fn add_label(
     }
 }
 
-/// Puts a kept line in front, and its label behind it where it says it.
+/// Puts a kept line in front and, if it says its label, the label behind it.
 fn put_kept(
     world: &World<'_, '_>,
     list: &[Judged<'_>],
@@ -161,7 +161,7 @@ fn put_kept(
     Ok(())
 }
 
-/// The kept outline.
+/// Returns the kept outline.
 pub fn kept_outline(world: &World<'_, '_>, list: &[Judged<'_>]) -> Result<Vec<Line>, AllocError> {
     let mut lines = Vec::new(world.alloc);
     for judged in list.iter().rev() {
@@ -176,7 +176,7 @@ pub fn count_seen(list: &[Judged<'_>]) -> usize {
     list.iter().filter(|judged| judged.visible).count()
 }
 
-/// The kept classes, by the lines of the kept outline.
+/// Returns the kept classes, by the lines of the kept outline.
 pub fn places<'a>(
     alloc: Global,
     list: &[Judged<'a>],
@@ -197,7 +197,7 @@ pub fn places<'a>(
     Ok(pairs)
 }
 
-/// The printed place of a kept class; the root's is the root's path.
+/// Returns the printed place of a kept class; the root's is the root's path.
 fn place_of(alloc: Global, pairs: &[Moved<'_>], path: &Path) -> Result<String, AllocError> {
     for pair in pairs {
         if *pair.path == *path {
@@ -207,7 +207,7 @@ fn place_of(alloc: Global, pairs: &[Moved<'_>], path: &Path) -> Result<String, A
     Ok(String::new(alloc))
 }
 
-/// The path at which the rule of a class is told, if it is.
+/// Returns the path at which the rule of a class is reported, if it is.
 fn told_at<'a>(list: &[Judged<'_>], judged: &Judged<'a>) -> Option<&'a Path> {
     let path = judged.path.tokens();
     if judged.line.kind != Kind::Class {
@@ -222,7 +222,7 @@ fn told_at<'a>(list: &[Judged<'_>], judged: &Judged<'a>) -> Option<&'a Path> {
     None
 }
 
-/// What is withheld, in stored order and with repeats.
+/// Returns what is withheld, in stored order and with repeats.
 pub fn withheld(
     alloc: Global,
     list: &[Judged<'_>],
@@ -254,7 +254,7 @@ fn put_told(list: &mut Vec<Told>, pair: Told) -> Result<(), AllocError> {
     Ok(())
 }
 
-/// The pairs by place and rule, without repeats.
+/// Returns the pairs by place and rule, without repeats.
 pub fn withheld_in_order(alloc: Global, pairs: Vec<Told>) -> Result<Vec<Told>, AllocError> {
     let mut list = Vec::new(alloc);
     for pair in pairs {
@@ -263,21 +263,21 @@ pub fn withheld_in_order(alloc: Global, pairs: Vec<Told>) -> Result<Vec<Told>, A
     Ok(list)
 }
 
-/// What is searched, and the name of the class in which, if it is to be one.
+/// The needle, and the name of the class that is searched, if one is given.
 #[derive(Clone, Copy)]
 pub struct Sought<'a> {
     pub needle: &'a str,
     pub class: Option<&'a str>,
 }
 
-/// Whether it is a visible class that directly holds the text, of the sought name if there is one.
+/// Returns whether it is a visible class, of the sought name if there is one, that directly holds the text.
 fn is_holder(judged: &Judged<'_>, text: &Judged<'_>, sought: &Sought<'_>) -> bool {
     judged.visible
         && *judged.path == *text.parent
         && (sought.class.is_none() || sought.class == Some(judged.line.name.as_str()))
 }
 
-/// Whether a visible class, of this name if one is given, directly holds a text with the needle.
+/// Returns whether a visible class, of this name if one is given, directly holds a text with the needle.
 pub fn search(list: &[Judged<'_>], sought: &Sought<'_>) -> bool {
     for text in list {
         if text.line.kind == Kind::Text && text.line.text.as_str().contains(sought.needle) {

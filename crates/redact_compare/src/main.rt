@@ -1,7 +1,7 @@
-//! `redact_compare CASES EVERY`: compares `excerpt`, `is_listed` and `finds` with a plain, slow program, over so many generated
-//! reports, gates, permissions and readers. That program judges each path alone over the flat outline. `RowPass` is compared with a
-//! pass that keeps all lines; where `Probe` is sure, in one case of EVERY, generated reports that begin with the same lines have to
-//! meet the want. A difference is told by its seed, with status 1.
+//! `redact_compare CASES EVERY`: compares `excerpt`, `is_listed` and `finds` with a plain, slow program, over so many
+//! generated reports, gates, permissions and readers. That program judges each path by itself over the flat outline.
+//! `RowPass` is compared with a pass that keeps all lines. In one case of EVERY, if `Probe` is sure, generated reports
+//! that begin with the same lines must meet the want. A difference is printed by its seed, with status 1.
 #![tactic(auto)]
 
 mod by_lines;
@@ -26,20 +26,20 @@ use std::process::ExitCode;
 use std::{env, io};
 use tally::Tally;
 
-/// How many cases, where the words name no number.
+/// The number of cases, if the words name none.
 const CASES: u64 = 2048;
 
-/// One case of so many is searched by lines, where the words name no number.
+/// One case of so many is searched by lines, if the words name no number.
 const EVERY: u64 = 4;
 
-/// What is asked for.
+/// The numbers that the words ask for.
 #[derive(Drop)]
 struct Asked {
     cases: u64,
     every: u64,
 }
 
-/// Whether the case of this seed shows no difference, and a search of it by lines, if it is searched, is right.
+/// Returns whether the case of this seed shows no difference, and its search by lines, if there is one, is right.
 fn is_right(
     alloc: Global,
     tally: &mut Tally,
@@ -49,7 +49,7 @@ fn is_right(
     Ok(agrees_at(alloc, tally, seed)? && (!is_searched || is_sure_rightly(alloc, tally, seed)?))
 }
 
-/// The seed of the first of the cases that shows a difference.
+/// Returns the seed of the first of the cases that shows a difference.
 fn difference(alloc: Global, tally: &mut Tally, asked: &Asked) -> Result<Option<u64>, AllocError> {
     for seed in 0..asked.cases {
         if !is_right(alloc, tally, seed, seed % asked.every.max(1) == 0)? {
@@ -59,7 +59,7 @@ fn difference(alloc: Global, tally: &mut Tally, asked: &Asked) -> Result<Option<
     Ok(None)
 }
 
-/// Compares the cases. Whether there is no difference.
+/// Compares the cases. Returns whether there is no difference.
 fn compare(rt: &HostRuntime, tally: &mut Tally, asked: &Asked) -> io::Result<bool> {
     let found = difference(rt.alloc(), tally, asked)?;
     let cases = asked.cases;
@@ -70,7 +70,7 @@ fn compare(rt: &HostRuntime, tally: &mut Tally, asked: &Asked) -> io::Result<boo
     Ok(found.is_none())
 }
 
-/// Tells what the cases showed. Whether nothing of it is rare.
+/// Prints what the cases showed. Returns whether nothing of it is rare.
 fn tell(rt: &HostRuntime, tally: &Tally) -> io::Result<bool> {
     if let Some(rare) = tally.rare() {
         let (name, count) = (rare.name, rare.count);
@@ -84,7 +84,7 @@ fn tell(rt: &HostRuntime, tally: &Tally) -> io::Result<bool> {
     Ok(true)
 }
 
-/// What the words ask for.
+/// Returns what the words ask for.
 fn words_of(rt: &HostRuntime) -> io::Result<Asked> {
     let words: Vec<String> = env::args(rt)?.skip(1).collect(rt.alloc())?;
     let number = |place: usize| words.get(place).and_then(|word| word.parse::<u64>().ok());
@@ -94,7 +94,7 @@ fn words_of(rt: &HostRuntime) -> io::Result<Asked> {
     })
 }
 
-/// Compares the cases. Whether there is no difference, and nothing was rare.
+/// Compares the cases. Returns whether there is no difference, and nothing was rare.
 fn holds(rt: &HostRuntime, asked: &Asked) -> io::Result<bool> {
     let mut tally = Tally::new(rt.alloc())?;
     Ok(compare(rt, &mut tally, asked)? && tell(rt, &tally)?)

@@ -26,7 +26,7 @@ fn rank_of_text(text: &str) -> u32 {
     4
 }
 
-/// How strictly a label is handled.
+/// Returns how strictly a label is handled.
 pub fn strictness(label: Written<'_>, arranged: Option<Handling>) -> u32 {
     match label.word {
         "public" | "white" => 0,
@@ -44,7 +44,7 @@ pub fn strictness(label: Written<'_>, arranged: Option<Handling>) -> u32 {
     }
 }
 
-/// The strictest handling that the reader is cleared for.
+/// Returns the strictest handling for which the reader is cleared.
 pub fn clearance(standing: &Standing) -> u32 {
     let table = [
         (standing.person, 4),
@@ -60,7 +60,7 @@ pub fn clearance(standing: &Standing) -> u32 {
     0
 }
 
-/// The rule that hides what is handled so.
+/// Returns the rule that hides what is handled so.
 pub fn rule_of(strictness: u32) -> &'static str {
     match strictness {
         0 | 1 => "H-GREEN",
@@ -83,7 +83,7 @@ fn group_refusal(standing: &Standing, group: Option<u32>) -> Option<&'static str
     None
 }
 
-/// The rule by which the gate refuses the reader, if it does.
+/// Returns the rule by which the gate refuses the reader, if it does.
 pub fn refusal(standing: &Standing, gate: &Gate) -> Option<&'static str> {
     let (rule, passes) = match gate.level {
         1 => ("G1", standing.community),
@@ -96,7 +96,7 @@ pub fn refusal(standing: &Standing, gate: &Gate) -> Option<&'static str> {
     if passes { None } else { Some(rule) }
 }
 
-/// Whether the reader is meant.
+/// Returns whether the grantee includes the reader.
 pub fn is_meant(standing: &Standing, grantee: Grantee) -> bool {
     match grantee {
         Grantee::Person(number) => standing.who == number,

@@ -1,4 +1,4 @@
-//! What `Probe` is sure of before the end: reports that begin with the same lines have to meet the want.
+//! The lines at which `Probe` is sure before the end: reports that begin with the same lines must meet the want.
 
 use crate::by_lines::{World, world_at};
 use crate::growing::completion;
@@ -10,16 +10,16 @@ use redact::{Probe, Want, finds, is_listed};
 use std::alloc::{AllocError, Global};
 use trying::Dice;
 
-/// So many reports begin with the lines up to each at which a search is sure.
+/// The number of reports that are made for each line at which a search is sure. They begin with the lines up to it.
 const COMPLETIONS: u32 = 10;
 
-/// For each of them so many are made at most; some have markings that aren't accepted.
+/// At most so many are made for each of these reports, as some have markings that aren't accepted.
 const TRIES: u32 = 4;
 
-/// By this the seed of the reports differs from that of the case.
+/// The difference between the seed of the reports and that of the case.
 const OTHER: u64 = 0x5EED_0000_0000;
 
-/// What is looked for, and in classes of which name; without a needle any visible class.
+/// The needle, and the name of the classes that are searched. Without a needle any visible class is looked for.
 #[derive(Clone, Copy)]
 struct Looked {
     needle: Option<&'static str>,
@@ -52,7 +52,7 @@ fn want_of(alloc: Global, looked: Looked) -> Result<Want, AllocError> {
     })
 }
 
-/// The search of a case.
+/// Returns the search of a case.
 fn probe_of(alloc: Global, world: World, looked: Looked) -> Result<Probe, AllocError> {
     let World {
         document: _,
@@ -62,7 +62,7 @@ fn probe_of(alloc: Global, world: World, looked: Looked) -> Result<Probe, AllocE
     Probe::new(alloc, case, standing, want_of(alloc, looked)?)
 }
 
-/// By what a whole report is judged, for whom, and what is looked for.
+/// The case by which a whole report is judged, the reader, and the want.
 #[derive(Clone, Copy)]
 struct Judging<'a> {
     alloc: Global,
@@ -86,7 +86,7 @@ impl Judging<'_> {
         }
     }
 
-    /// Whether the report of these lines meets it; none where its markings aren't accepted.
+    /// Returns whether the report of these lines meets the want, or none if its markings aren't accepted.
     fn meets_if_marked(&self, lines: &[Line]) -> Result<Option<bool>, AllocError> {
         let Ok(document) = Document::from_outline(self.alloc, lines) else {
             return Ok(None);
@@ -97,7 +97,7 @@ impl Judging<'_> {
         }
     }
 
-    /// Whether the generated reports that begin with these lines meet it.
+    /// Returns whether the generated reports that begin with these lines meet the want.
     fn is_sure(
         &self,
         tally: &mut Tally,
@@ -121,7 +121,8 @@ impl Judging<'_> {
     }
 }
 
-/// At how many lines the search is sure; none where it isn't right about one of them, or isn't sure at a later one.
+/// Returns at how many lines the search is sure, or none if it isn't right about one of them, or isn't sure at a later
+/// one.
 fn sure_lines(
     tally: &mut Tally,
     dice: &mut Dice,
@@ -143,7 +144,7 @@ fn sure_lines(
     Ok(Some(sure))
 }
 
-/// Whether the search is right about each line, and at the end.
+/// Returns whether the search is right about each line, and at the end.
 fn is_right(
     tally: &mut Tally,
     dice: &mut Dice,
@@ -162,7 +163,7 @@ fn is_right(
     Ok(judging.meets_if_marked(lines)? == Some(end))
 }
 
-/// Whether a search by lines of the case of this seed is right.
+/// Returns whether a search by lines of the case of this seed is right.
 pub fn is_sure_rightly(alloc: Global, tally: &mut Tally, seed: u64) -> Result<bool, AllocError> {
     let (Some(first), Some(second)) = (world_at(alloc, seed)?, world_at(alloc, seed)?) else {
         return Ok(false);

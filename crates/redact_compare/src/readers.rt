@@ -7,15 +7,15 @@ use policy::{Case, Gate, Gates, Grantee, Numbers, Permission, Permissions, Stand
 use std::alloc::{AllocError, Global};
 use trying::Dice;
 
-/// What stands above a path.
+/// Returns the path above a path.
 fn above(path: Path) -> Path {
     let mut tokens: Vec<Text> = path.into_tokens();
     tokens.pop();
     Path::new(tokens)
 }
 
-/// The path of a class, what stands above it (an array or a class), an element beside it or a member in it, or a path of
-/// nothing.
+/// Returns the path of a class, of what is above it (an array or a class), of an element beside it, of a member in it,
+/// or of nothing.
 fn any_path(alloc: Global, dice: &mut Dice, classes: &[Path]) -> Result<Path, AllocError> {
     let place = dice.place(classes.len().saturating_add(2));
     let Some(class) = classes.get(place) else {
@@ -31,7 +31,7 @@ fn any_path(alloc: Global, dice: &mut Dice, classes: &[Path]) -> Result<Path, Al
     }
 }
 
-/// The number of a group or a community, or none.
+/// Returns the number of a group or a community, or none.
 fn any_number(dice: &mut Dice) -> Option<u32> {
     match dice.roll(4) {
         0 => None,
@@ -39,7 +39,7 @@ fn any_number(dice: &mut Dice) -> Option<u32> {
     }
 }
 
-/// A level, one that lets everybody pass most often.
+/// Returns a level, mostly one that lets everybody pass.
 fn any_level(dice: &mut Dice) -> u8 {
     match dice.roll(16) {
         0 => 0,
@@ -52,7 +52,7 @@ fn any_level(dice: &mut Dice) -> u8 {
     }
 }
 
-/// A gate at the path.
+/// Adds a gate at the path.
 fn push_gate(gates: &mut Vec<Gate>, dice: &mut Dice, path: Path) -> Result<(), AllocError> {
     let level = any_level(dice);
     let group = any_number(dice);
@@ -60,7 +60,7 @@ fn push_gate(gates: &mut Vec<Gate>, dice: &mut Dice, path: Path) -> Result<(), A
     Ok(())
 }
 
-/// A gate at any path, or two.
+/// Adds a gate at any path, or two.
 fn push_gates(
     gates: &mut Vec<Gate>,
     alloc: Global,
@@ -74,7 +74,7 @@ fn push_gates(
     push_gate(gates, dice, path)
 }
 
-/// A gate at the root, and some at other places, of which two may have one.
+/// Returns a gate at the root, and some at other places, of which two may have one.
 fn any_gates(alloc: Global, dice: &mut Dice, classes: &[Path]) -> Result<Gates, AllocError> {
     let mut gates = Vec::new(alloc);
     let level = if dice.once_in(8) { any_level(dice) } else { 3 };
@@ -97,7 +97,7 @@ fn any_grantee(dice: &mut Dice) -> Grantee {
     }
 }
 
-/// A moment; there are few, so that an end often falls on one.
+/// Returns a moment. There are few, so that an end often falls on one.
 fn any_moment(dice: &mut Dice) -> i64 {
     dice.roll(5) as i64
 }
@@ -110,7 +110,7 @@ fn any_end(dice: &mut Dice) -> Option<i64> {
     }
 }
 
-/// A permission at any path, or two.
+/// Adds a permission at any path, or two.
 fn push_permissions(
     permissions: &mut Vec<Permission>,
     alloc: Global,

@@ -1,4 +1,4 @@
-//! What a generated case shows, as the slow program finds it.
+//! The features of a generated case, as the slow program finds them.
 
 use crate::entry::Entry;
 use crate::judged::{Judged, Moved, Told, holds_seen, is_frame, is_wholly_hidden, says_label};
@@ -20,7 +20,7 @@ pub fn note_reader(tally: &mut Tally, standing: &Standing) {
     tally.note(name, !standing.source);
 }
 
-/// How many gates at this very path refuse.
+/// Returns how many gates at this very path refuse.
 fn refusing(world: &World<'_, '_>, path: &[Text]) -> usize {
     world
         .case
@@ -82,7 +82,7 @@ fn note_class(tally: &mut Tally, world: &World<'_, '_>, list: &[Judged<'_>], jud
     note_permissions(tally, world, judged);
 }
 
-/// What is decided of each class.
+/// Notes the decision about each class.
 pub fn note_classes(tally: &mut Tally, world: &World<'_, '_>, list: &[Judged<'_>]) {
     for judged in list {
         if judged.line.kind == Kind::Class {
@@ -92,7 +92,7 @@ pub fn note_classes(tally: &mut Tally, world: &World<'_, '_>, list: &[Judged<'_>
     tally.note("nothing visible", !holds_seen(list, &[]));
 }
 
-/// Between which members of the class at the place a label was added.
+/// Notes between which members of the class at the place a label was added.
 fn note_added(tally: &mut Tally, lines: &[Entry<'_>], place: &Path) {
     let mut before = false;
     let mut behind = false;
@@ -106,7 +106,7 @@ fn note_added(tally: &mut Tally, lines: &[Entry<'_>], place: &Path) {
     tally.note("added labels between members", before && behind);
 }
 
-/// Whether the class at the path has its label added.
+/// Returns whether the class at the path has its label added.
 fn says_label_at(world: &World<'_, '_>, list: &[Judged<'_>], path: &Path) -> bool {
     for judged in list {
         if *judged.path == *path && says_label(world, list, judged) {
@@ -116,7 +116,7 @@ fn says_label_at(world: &World<'_, '_>, list: &[Judged<'_>], path: &Path) -> boo
     false
 }
 
-/// Which classes moved in an array, and where labels were added.
+/// Notes which classes moved in an array, and where labels were added.
 pub fn note_places(
     tally: &mut Tally,
     world: &World<'_, '_>,

@@ -1,4 +1,4 @@
-//! Where the gates and permissions of a generated case stand.
+//! The places of the gates and permissions of a generated case.
 
 use crate::entry::Entry;
 use crate::tally::Tally;
@@ -12,7 +12,7 @@ const LONG: usize = 100;
 /// A path of so many tokens is deep.
 const DEEP: usize = 12;
 
-/// The paths of the gates, and behind them those of the permissions.
+/// Returns the paths of the gates, and behind them those of the permissions.
 fn stations<'r>(world: &World<'_, 'r>) -> Result<Vec<&'r Path>, AllocError> {
     let mut paths = Vec::new(world.alloc);
     for gate in world.case.gates.as_slice() {
@@ -24,7 +24,7 @@ fn stations<'r>(world: &World<'_, 'r>) -> Result<Vec<&'r Path>, AllocError> {
     Ok(paths)
 }
 
-/// Whether they are elements of one array, or members of one class.
+/// Returns whether they are elements of one array, or members of one class.
 fn are_siblings(one: &[Text], other: &[Text]) -> bool {
     match (one.split_last(), other.split_last()) {
         (Some((last, above)), Some((last_too, above_too))) => above == above_too
@@ -33,7 +33,7 @@ fn are_siblings(one: &[Text], other: &[Text]) -> bool {
     }
 }
 
-/// Whether the path is that of an array with this element.
+/// Returns whether the path is that of an array with this element.
 fn is_array_of(path: &Path, entry: &Entry<'_>) -> bool {
     match entry.path.tokens().split_last() {
         Some((_, above)) => entry.line.in_array && above == path.tokens(),
@@ -41,7 +41,7 @@ fn is_array_of(path: &Path, entry: &Entry<'_>) -> bool {
     }
 }
 
-/// Whether the line stands at the path, or in an array that does.
+/// Notes what the line at the path is. Returns whether the line is at the path, or is an element of an array at it.
 fn note_line(tally: &mut Tally, entry: &Entry<'_>, path: &Path) -> bool {
     let here = entry.path == *path;
     let class = entry.line.kind == Kind::Class;
@@ -55,7 +55,7 @@ fn note_line(tally: &mut Tally, entry: &Entry<'_>, path: &Path) -> bool {
     here || inside
 }
 
-/// What stands at the path.
+/// Notes what is at the path.
 fn note_kind(tally: &mut Tally, world: &World<'_, '_>, path: &Path) {
     let mut nothing = !path.tokens().is_empty();
     for entry in world.entries {
@@ -66,7 +66,7 @@ fn note_kind(tally: &mut Tally, world: &World<'_, '_>, path: &Path) {
     tally.note("gates or permissions at nothing", nothing);
 }
 
-/// Notes what stands at the path, and which of these have to do with it.
+/// Notes what is at the path, and how the other paths relate to it.
 fn note_beside(tally: &mut Tally, world: &World<'_, '_>, path: &Path, others: &[&Path]) {
     note_kind(tally, world, path);
     for other in others {
@@ -86,7 +86,7 @@ fn note_entries(tally: &mut Tally, entries: &[Entry<'_>]) {
     }
 }
 
-/// Notes where they stand, and what names and depths the case has.
+/// Notes the places of gates and permissions, and the names and depths of the case.
 pub fn note_stations(tally: &mut Tally, world: &World<'_, '_>) -> Result<(), AllocError> {
     let paths = stations(world)?;
     for (i, path) in paths.iter().enumerate() {

@@ -1,8 +1,8 @@
-//! How often the generated cases show what they are to show.
+//! How often the generated cases show the features that they must show.
 
 use std::alloc::{AllocError, Global};
 
-/// What is to be shown, each at least `FLOOR` times.
+/// The features that must be shown, each at least `FLOOR` times.
 const WANTED: &[&str] = &[
     "readers of the source",
     "readers cleared for CLEAR",
@@ -87,7 +87,7 @@ impl Tally {
         self.count(name, u32::from(shows));
     }
 
-    /// What is shown too rarely.
+    /// Returns what is shown too rarely.
     pub fn rare(&self) -> Option<&Count> {
         self.counts.iter().find(|count| count.count < FLOOR)
     }

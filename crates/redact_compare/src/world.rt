@@ -1,4 +1,4 @@
-//! The verdict of each path, judged alone against all its prefixes over the flat outline.
+//! The verdict of each path, judged by itself against all its prefixes over the flat outline.
 
 use crate::entry::Entry;
 use crate::policy_tables::{Written, clearance, is_meant, refusal, rule_of, strictness};
@@ -11,7 +11,7 @@ const PRIVATE: Written<'static> = Written {
     ext: None,
 };
 
-/// The lines of a document, and by what they are judged.
+/// The lines of a document, and the case and the reader by which they are judged.
 #[derive(Clone, Copy)]
 pub struct World<'a, 'r> {
     pub alloc: Global,
@@ -33,7 +33,7 @@ impl<'a, 'r> World<'a, 'r> {
             && entry.path.tokens() == path)
     }
 
-    /// The text of this name directly in the class at the path.
+    /// Returns the text of this name directly in the class at the path.
     fn text_in(&self, path: &[Text], name: &str) -> Option<&'a str> {
         for entry in self.entries {
             if entry.line.kind == Kind::Text
@@ -47,7 +47,7 @@ impl<'a, 'r> World<'a, 'r> {
         None
     }
 
-    /// The label that is written in the class at the path.
+    /// Returns the label that is written in the class at the path.
     pub fn written(&self, path: &[Text]) -> Option<Written<'a>> {
         if !self.is_class(path) {
             return None;
@@ -57,7 +57,7 @@ impl<'a, 'r> World<'a, 'r> {
         Some(Written { word, ext })
     }
 
-    /// That, or the default of the root and of the Incident.
+    /// Returns that label, or the default of the root and of the Incident.
     fn own(&self, path: &[Text]) -> Option<Written<'a>> {
         let written = self.written(path);
         if written.is_some() {
@@ -69,7 +69,7 @@ impl<'a, 'r> World<'a, 'r> {
         None
     }
 
-    /// The own label of the longest prefix that has one.
+    /// Returns the own label of the longest prefix that has one.
     pub fn label(&self, path: &[Text]) -> Written<'a> {
         for cut in 0..=path.len() {
             if let Some(label) = self.own(&path[..path.len() - cut]) {
@@ -79,7 +79,7 @@ impl<'a, 'r> World<'a, 'r> {
         PRIVATE
     }
 
-    /// The first refusal of a gate at this very path.
+    /// Returns the first refusal of a gate at this very path.
     pub fn refused_at(&self, path: &[Text]) -> Option<&'static str> {
         for gate in self.case.gates.as_slice() {
             if gate.path.tokens() == path {
@@ -91,7 +91,7 @@ impl<'a, 'r> World<'a, 'r> {
         None
     }
 
-    /// The refusal of the shortest prefix.
+    /// Returns the refusal of the shortest prefix.
     pub fn refusal(&self, path: &[Text]) -> Option<&'static str> {
         for length in 0..=path.len() {
             if let Some(rule) = self.refused_at(&path[..length]) {
@@ -101,12 +101,12 @@ impl<'a, 'r> World<'a, 'r> {
         None
     }
 
-    /// Whether the permission stands at the path or above it, for this reader.
+    /// Returns whether the permission is at the path or above it, and includes this reader.
     pub fn reaches(&self, permission: &Permission, path: &[Text]) -> bool {
         is_meant(self.standing, permission.grantee) && path.starts_with(permission.path.tokens())
     }
 
-    /// Whether its last moment is past.
+    /// Returns whether its last moment is past.
     pub fn is_over(&self, permission: &Permission) -> bool {
         match permission.until {
             Some(end) => end <= self.standing.now,
@@ -114,7 +114,7 @@ impl<'a, 'r> World<'a, 'r> {
         }
     }
 
-    /// Whether a label is written below the permission, down to the path.
+    /// Returns whether a label is written below the permission, down to the path.
     pub fn is_ended(&self, permission: &Permission, path: &[Text]) -> bool {
         for length in 0..=path.len() {
             if length > permission.path.tokens().len() && self.written(&path[..length]).is_some() {
@@ -136,7 +136,7 @@ impl<'a, 'r> World<'a, 'r> {
         false
     }
 
-    /// How strictly what stands at the path is handled.
+    /// Returns how strictly the class at the path is handled.
     pub fn strictness(&self, path: &[Text]) -> u32 {
         strictness(self.label(path), self.standing.arrangement)
     }
@@ -152,7 +152,7 @@ impl<'a, 'r> World<'a, 'r> {
         self.refusal(path).is_none() && (self.is_cleared(path) || self.is_covered(path))
     }
 
-    /// The rule that hides the class at the path, where it isn't visible.
+    /// Returns the rule that hides the class at the path, if it isn't visible.
     pub fn hiding_rule(&self, path: &[Text]) -> &'static str {
         match self.refusal(path) {
             Some(rule) => rule,

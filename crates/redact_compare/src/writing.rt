@@ -2,7 +2,7 @@
 
 use std::alloc::{AllocError, Global};
 
-/// A text that is written piece by piece. Where a piece found no memory, that is told once, at the end.
+/// A text that is written piece by piece. If a piece found no memory, `done` fails at the end.
 #[derive(Drop)]
 pub struct Writing {
     text: String,
@@ -23,7 +23,7 @@ impl Writing {
         }
     }
 
-    /// A comma, unless an object was just opened.
+    /// Returns a comma, unless an object was just opened.
     pub fn comma(&self) -> &'static str {
         if self.text.as_str().ends_with('{') {
             ""
@@ -36,7 +36,7 @@ impl Writing {
         self.text.len()
     }
 
-    /// The text, if no memory was wanting.
+    /// Returns the text. Fails if there was no memory for a piece.
     pub fn done(self) -> Result<String, AllocError> {
         let Writing { text, is_whole } = self;
         if is_whole { Ok(text) } else { Err(AllocError) }
