@@ -5,14 +5,14 @@ use hub_core::Request;
 use hub_http::request_of;
 use std::alloc::{AllocError, Global};
 
-/// A key and the request that is asked with it.
+/// A key and the request that its caller makes.
 #[derive(Drop)]
 pub struct Asked {
     pub key: Key,
     pub request: Request,
 }
 
-/// The bytes that ask what a line says.
+/// Returns the bytes of the request that a line says.
 fn bytes_of(alloc: Global, line: &str) -> Result<Vec<u8>, AllocError> {
     let (head, body) = line.split_once('|').unwrap_or((line, ""));
     let (key, target) = head.split_once(' ').unwrap_or((head, ""));
@@ -23,7 +23,7 @@ fn bytes_of(alloc: Global, line: &str) -> Result<Vec<u8>, AllocError> {
     Ok(text.into_bytes())
 }
 
-/// What the lines of a block ask; none where one of them is no request.
+/// Returns the requests of the lines of a block, or none if one of them is no request.
 pub fn asked_by(alloc: Global, block: &str) -> Result<Option<Vec<Asked>>, AllocError> {
     let mut asked = Vec::new(alloc);
     for line in block.lines().filter(|line| !line.starts_with('#')) {

@@ -1,4 +1,4 @@
-//! Two worlds that are asked the same.
+//! Two worlds in which the same is asked.
 
 use crate::asking::{Asked, asked_by};
 use crate::world::{MOMENT, World, in_lists, in_tables};
@@ -8,7 +8,7 @@ use hub_http::told_by_both;
 use std::alloc::{AllocError, Global};
 use std::str::from_utf8;
 
-/// The blocks that came so far: the circle, the world that others are compared with, and what is asked.
+/// The blocks so far: the circle, the world with which others are compared, and the questions.
 #[derive(Drop)]
 pub struct Comparison {
     alloc: Global,
@@ -17,7 +17,7 @@ pub struct Comparison {
     asked: Option<Vec<Asked>>,
 }
 
-/// Two worlds, and what is asked of both.
+/// Two worlds, and the questions in both.
 #[derive(Clone, Copy)]
 struct Pair<'a> {
     first: World<'a>,
@@ -25,7 +25,7 @@ struct Pair<'a> {
     asked: &'a [Asked],
 }
 
-/// The bytes behind the head of a reply, as text.
+/// Returns the bytes after the head of a reply, as text.
 fn body_of(reply: &[u8]) -> &str {
     let text = from_utf8(reply).unwrap_or("not UTF-8");
     match text.split_once("\r\n\r\n") {
@@ -34,7 +34,7 @@ fn body_of(reply: &[u8]) -> &str {
     }
 }
 
-/// The body of both replies where they are the same bytes, else that of each.
+/// Returns the body of both replies if they are the same bytes, else that of each.
 fn describe(alloc: Global, one: &[u8], other: &[u8]) -> Result<String, AllocError> {
     let first = body_of(one);
     let second = body_of(other);
@@ -45,7 +45,7 @@ fn describe(alloc: Global, one: &[u8], other: &[u8]) -> Result<String, AllocErro
     }
 }
 
-/// What both hubs tell for each request; none where one of them wasn't made.
+/// Returns the line for each request to both hubs, or none if one of them wasn't made.
 fn told_by_hubs<A: Shelf + Drop, B: Shelf + Drop>(
     alloc: Global,
     first: Option<Hub<A>>,
@@ -69,7 +69,7 @@ impl<'a> Pair<'a> {
         told_by_hubs(alloc, first, in_lists(alloc, self.other)?, self.asked)
     }
 
-    /// Whether the same is told where the first world stands in tables, the other, or both.
+    /// Returns whether the lines are the same if the first world is in tables, the other, or both.
     fn is_told_over_tables(&self, alloc: Global, told: &[String]) -> Result<bool, AllocError> {
         let first = in_tables(alloc, self.first)?;
         let mixed = told_by_hubs(alloc, first, in_lists(alloc, self.other)?, self.asked)?;
@@ -80,7 +80,7 @@ impl<'a> Pair<'a> {
         Ok(is_told(&mixed, told) && is_told(&turned, told) && is_told(&both, told))
     }
 
-    /// What is told for each request, and whether it is told over tables too.
+    /// Returns the line for each request, and whether it is the same over tables.
     fn lines(&self, alloc: Global) -> Result<Vec<String>, AllocError> {
         let Some(mut lines) = self.told_in_memory(alloc)? else {
             return one_line(alloc, "a world wasn't made");
@@ -118,7 +118,7 @@ impl Comparison {
         }
     }
 
-    /// What is printed for a block.
+    /// Returns what is printed for a block.
     pub fn told_of(&mut self, block: &str) -> Result<Vec<String>, AllocError> {
         let alloc = self.alloc;
         if self.circle.is_none() {
@@ -143,7 +143,7 @@ impl Comparison {
         }
     }
 
-    /// What is told in the first world, beside one that these requests make.
+    /// Returns the lines of the first world beside one that these requests make.
     fn lines_beside(&self, own: &str) -> Result<Vec<String>, AllocError> {
         let (Some(circle), Some(asked)) = (&self.circle, &self.asked) else {
             return one_line(self.alloc, "nothing is asked");

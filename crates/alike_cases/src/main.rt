@@ -1,16 +1,16 @@
-//! Compares what a person is told in worlds that differ in what is withheld from it, for the blocks on standard input, which
-//! empty lines set apart.
+//! Compares the replies to a person in worlds that differ in what is withheld from it, for the blocks on standard
+//! input. Empty lines separate the blocks.
 //!
-//! The first block sets up the circle, and its requests come before those of every world; the second is the world that the
-//! others are compared with; the third is what the person asks. Each later block is another world. A line that begins with
-//! `#` is printed as it is.
+//! The first block sets up the circle, and its requests come before those of every world. The second is the world with
+//! which the others are compared. The third has the person's requests. Each later block is another world. A line that
+//! begins with `#` is printed as it is.
 //!
-//! A request is KEY METHOD TARGET, or KEY METHOD TARGET|BODY, and is read as the bytes that ask it over HTTP. The hub begins
-//! with organisation 1 and its administrator, person 1, whose key is `abc`.
+//! A request is KEY METHOD TARGET, or KEY METHOD TARGET|BODY, and is read as the bytes that ask it over HTTP. The hub
+//! begins with organisation 1 and its administrator, person 1, whose key is `abc`.
 //!
-//! For each request the body of the reply is printed where both worlds answer the same bytes, else both bodies; for the
-//! third block of the second world beside itself. Behind them stands whether the same is told where one of the worlds, or
-//! both, stand in tables.
+//! For each request the body of the reply is printed if both worlds answer the same bytes, else both bodies. For the
+//! third block the second world is compared with itself. The last line of a world says whether the replies are the same
+//! if one of the worlds, or both, are in tables.
 #![tactic(auto)]
 
 mod asking;

@@ -1,4 +1,4 @@
-//! Worlds: a hub over the shelf in memory or over tables, behind the requests that make the world.
+//! Worlds: a hub over the shelf in memory or over tables, after the requests that make the world.
 
 use crate::asking::{Asked, asked_by};
 use hub::Hub;
@@ -11,14 +11,14 @@ use trying_hub::{ABC, first_rows};
 /// The moment of all requests, in seconds since 1970.
 pub const MOMENT: i64 = 1_700_000_000;
 
-/// What a world is made by: the requests of the circle, and its own behind them.
+/// The requests that make a world: those of the circle, and its own behind them.
 #[derive(Clone, Copy)]
 pub struct World<'a> {
     pub circle: &'a str,
     pub own: &'a str,
 }
 
-/// Whether each request was answered, and none refused.
+/// Returns whether each request was answered, and none refused.
 fn are_made<Sh: Shelf>(alloc: Global, hub: &mut Hub<Sh>, asked: &[Asked]) -> bool {
     asked.iter().all(|one| {
         let reply = hub.answer(alloc, MOMENT, &one.key, &one.request);
@@ -26,7 +26,7 @@ fn are_made<Sh: Shelf>(alloc: Global, hub: &mut Hub<Sh>, asked: &[Asked]) -> boo
     })
 }
 
-/// The hub over a shelf, empty before, behind the requests of a world; none where one of them is refused.
+/// Returns the hub over a shelf, empty before, after the requests of a world; none if one of them is refused.
 fn populate<Sh: Shelf + Drop>(
     alloc: Global,
     mut shelf: Sh,
@@ -45,12 +45,12 @@ fn populate<Sh: Shelf + Drop>(
     Ok(Some(hub))
 }
 
-/// The world in memory.
+/// Returns the world in memory.
 pub fn in_lists(alloc: Global, world: World<'_>) -> Result<Option<Hub<ListShelf>>, AllocError> {
     populate(alloc, ListShelf::new(alloc), world)
 }
 
-/// The world in tables.
+/// Returns the world in tables.
 pub fn in_tables(
     alloc: Global,
     world: World<'_>,

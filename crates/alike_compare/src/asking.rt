@@ -1,4 +1,4 @@
-//! What a reader asks of a world, and the bytes of the replies.
+//! The questions of a reader in a world, and the bytes of the replies.
 
 use crate::edits::edits_of;
 use crate::fault::Fault;
@@ -11,8 +11,8 @@ use hub_http::reply_bytes;
 use std::alloc::{AllocError, Global};
 use trying_hub::{Fields, key_of, request_of};
 
-/// What tells a reader of incidents, of its groups and of itself, with 0 before it; then what it is refused, of an incident
-/// that isn't its organisation's, with the incident's number before it.
+/// The questions about incidents, the reader's groups and itself, with 0 before them. Then the requests that are
+/// refused about an incident of another organisation, with the incident's number before them.
 const LINES: [(u32, &str); 22] = [
     (0, "View|1"),
     (0, "View|2"),
@@ -38,7 +38,7 @@ const LINES: [(u32, &str); 22] = [
     (1, "Explain|1|1|/Incident/0"),
 ];
 
-/// A request, the line that says it, and the number of the incident of which it is refused, or 0.
+/// A request, the line that says it, and the number of the incident about which it is refused, or 0.
 #[derive(Drop)]
 pub struct Question {
     pub line: &'static str,
@@ -46,7 +46,7 @@ pub struct Question {
     request: Request,
 }
 
-/// All that a reader asks.
+/// Returns all questions of a reader.
 pub fn questions(alloc: Global) -> Result<Vec<Question>, AllocError> {
     let mut all = Vec::new(alloc);
     for (incident, line) in LINES {
@@ -60,7 +60,7 @@ pub fn questions(alloc: Global) -> Result<Vec<Question>, AllocError> {
     Ok(all)
 }
 
-/// Whether the reader asks this: not what it may change, nor what only an administrator is told.
+/// Returns whether the reader asks this: not what it may change, nor what only an administrator may ask.
 fn is_asked(world: &World, reader: Reader<'_>, question: &Question) -> bool {
     let report = world.reports.get(place_of(question.incident));
     let is_own = report.map_or(false, |report| reader.is_source(report));
@@ -68,7 +68,7 @@ fn is_asked(world: &World, reader: Reader<'_>, question: &Question) -> bool {
     !is_own && !(is_explained && reader.own.role == Role::Administrator)
 }
 
-/// The bytes of the replies to the person of this number; none where it doesn't ask.
+/// Returns the bytes of the replies to the person of this number, or none if it doesn't ask.
 pub fn answers(
     alloc: Global,
     world: &World,

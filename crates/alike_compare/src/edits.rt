@@ -47,7 +47,7 @@ fn group(alloc: Global, number: u32, club: &Club) -> Result<Group, Fault> {
     })
 }
 
-/// Organisations, communities, persons and groups.
+/// Adds organisations, communities, persons and groups.
 fn push_named(alloc: Global, edits: &mut Vec<Edit>, circle: &Circle) -> Result<(), Fault> {
     for number in 1..=ORGS {
         let name = name_of(alloc, "org", number)?;
@@ -68,7 +68,7 @@ fn push_named(alloc: Global, edits: &mut Vec<Edit>, circle: &Circle) -> Result<(
     Ok(())
 }
 
-/// What these are to one another.
+/// Adds the rows that relate these to one another.
 fn push_pairs(edits: &mut Vec<Edit>, circle: &Circle) -> Result<(), Fault> {
     for row in circle.clients.iter() {
         edits.push(Edit::Directory(RowEdit::PutClient(*row)))?;
@@ -94,7 +94,7 @@ fn gate_at(incident: u32, path: Path, reach: Reach) -> Edit {
     Edit::PutGate(Gate { incident, gate })
 }
 
-/// The document, and the gates and permissions at its classes.
+/// Adds the document, and the gates and permissions at its classes.
 fn push_classes(
     alloc: Global,
     edits: &mut Vec<Edit>,
@@ -123,7 +123,7 @@ fn push_classes(
     Ok(())
 }
 
-/// The report's document, as it is read from its text.
+/// Returns the report's document, as it is read from its text.
 fn document_of(alloc: Global, report: &Report) -> Result<Document, Fault> {
     let text = text_of(alloc, report)?;
     let Ok(mut documents) = Document::read(alloc, text.as_str().as_bytes()) else {
@@ -166,7 +166,7 @@ fn push_report(
     push_classes(alloc, edits, number, report, &paths)
 }
 
-/// The edits that put every row of the world.
+/// Returns the edits that put every row of the world.
 pub fn edits_of(alloc: Global, world: &World) -> Result<Vec<Edit>, Fault> {
     let mut edits = Vec::new(alloc);
     push_named(alloc, &mut edits, &world.circle)?;

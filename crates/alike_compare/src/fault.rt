@@ -9,7 +9,7 @@ pub enum Fault {
     NoMemory,
     /// This couldn't be made.
     Unmade(&'static str),
-    /// What the two worlds are, and what was told otherwise than it should be.
+    /// The step or the premise that the two worlds differ by, what is wrong, and the replies.
     Found(String),
 }
 

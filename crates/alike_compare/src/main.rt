@@ -1,14 +1,16 @@
-//! `alike_compare CHAINS`: compares what one reader is told in pairs of generated worlds, byte for byte.
+//! `alike_compare CHAINS`: compares the replies to one reader in pairs of generated worlds, byte for byte.
 //!
-//! From each of so many worlds a chain of steps leads on, each to a world that is alike for the reader: other plain lines in a
-//! class that it doesn't see; a wholly hidden class put in, taken out or exchanged; anything in an incident of which it sees
-//! nothing; rows that are for others. A step may leave one premise out, and then the next one begins where it began. Each pair
-//! is asked all that tells a reader of incidents, of its groups and of itself, and some of what it is refused.
+//! A chain of steps begins at each of so many worlds. Each step leads to a world that is alike for the reader. It puts
+//! other plain lines in a class that the reader doesn't see; puts in, takes out or exchanges a wholly hidden class;
+//! changes anything in an incident of which the reader sees nothing; or changes rows that are for others. A step may
+//! leave one premise out, and then the next step begins at the same world. In each pair the reader asks all questions
+//! about incidents, its groups and itself, and makes some requests that are refused.
 //!
-//! Whether a premise holds is told by the step and by a plain judge of each class, over the rows that the world is made of; so
-//! is what the reader is to be told. A pair that is alike and told apart is printed with what was asked and both replies, with
-//! status 1; so is one that had to differ and is told alike, and one that is told apart where nothing that is told differs.
-//! Behind each step stand the premises that were left out of it. Of what `stdout` has, the counts of pairs are what the program
+//! The step decides whether a premise holds, by a plain judge of each class, over the rows of which the world is made.
+//! What the reader must be told is decided in the same way. A pair that is alike and told apart is printed with the
+//! question and both replies, with status 1. So is a pair that had to differ and is told alike, and a pair that is told
+//! apart although nothing differs that the reader is told. Each step is followed by the premises that were left out of
+//! it. The counts of pairs in `stdout` are the program's own output, as nobody can work them out beforehand.
 //! told, as nobody can reckon them beforehand.
 #![tactic(auto)]
 
@@ -33,7 +35,7 @@ use std::{env, io};
 use table::{is_full, lines_of, pairs_of};
 use trying::Tally;
 
-/// What was found.
+/// Returns what was found.
 fn text_of(fault: &Fault) -> &str {
     match fault {
         Fault::NoMemory => "no memory",
@@ -42,7 +44,7 @@ fn text_of(fault: &Fault) -> &str {
     }
 }
 
-/// Compares over so many chains of worlds. Whether nothing is wrong.
+/// Compares over so many chains of worlds. Returns whether nothing is wrong.
 fn compare(rt: &HostRuntime, tally: &mut Tally, chains: u64) -> io::Result<bool> {
     let questions = questions(rt.alloc())?;
     for seed in 0..chains {
@@ -55,7 +57,7 @@ fn compare(rt: &HostRuntime, tally: &mut Tally, chains: u64) -> io::Result<bool>
     Ok(true)
 }
 
-/// Prints the counts. Whether each kind of pair was met.
+/// Prints the counts. Returns whether each kind of pair was met.
 fn tell(rt: &HostRuntime, tally: &Tally) -> io::Result<bool> {
     let pairs = pairs_of(tally);
     println!(rt; "{pairs} pairs of worlds")?;

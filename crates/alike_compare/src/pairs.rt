@@ -1,4 +1,4 @@
-//! Pairs of worlds, asked the same and compared.
+//! Pairs of worlds, in which the same is asked, and whose replies are compared.
 
 use crate::asking::{Question, answers};
 use crate::fault::Fault;
@@ -12,10 +12,10 @@ use std::alloc::{AllocError, Global};
 use std::str::from_utf8;
 use trying::{Dice, Tally};
 
-/// From each generated world so many steps are tried, each from where the last one that holds led.
+/// So many steps are tried from each generated world, each from the world to which the last step that holds led.
 const STEPS: u32 = 24;
 
-/// A world, and what its reader is replied there and is to be told by the rules.
+/// A world, the replies to its reader there, and what the reader must be told by the rules.
 #[derive(Drop)]
 struct Asked {
     world: World,
@@ -23,7 +23,7 @@ struct Asked {
     told: Vec<u32>,
 }
 
-/// Who asks what.
+/// The reader who asks, and its questions.
 #[derive(Clone, Copy)]
 pub struct Asker<'a> {
     pub alloc: Global,
@@ -31,7 +31,7 @@ pub struct Asker<'a> {
     pub questions: &'a [Question],
 }
 
-/// An active person.
+/// Returns an active person.
 fn any_reader(alloc: Global, dice: &mut Dice, world: &World) -> Result<u32, AllocError> {
     let mut active = Vec::new(alloc);
     for (place, member) in world.circle.persons.iter().enumerate() {
@@ -42,7 +42,7 @@ fn any_reader(alloc: Global, dice: &mut Dice, world: &World) -> Result<u32, Allo
     Ok(dice.one_of(&active).copied().unwrap_or(0))
 }
 
-/// Another world; none where what was thrown doesn't fit, or where two premises would be left out.
+/// Returns another world, or none if the dice don't fit, or if two premises would be left out.
 fn any_change(
     alloc: Global,
     dice: &mut Dice,
@@ -78,7 +78,7 @@ impl<'a> Asker<'a> {
         }))
     }
 
-    /// What is wrong with the pair, and the first question whose replies differ.
+    /// Returns a fault: what is wrong with the pair, and the first question whose replies differ.
     fn found(&self, kind: &str, what: &str, one: &Asked, other: &Asked) -> Fault {
         match self.description(kind, what, one, other) {
             Ok(text) => Fault::Found(text),
@@ -105,7 +105,7 @@ impl<'a> Asker<'a> {
         format!(in self.alloc; "{kind}: {what}\nperson {who} asks {line}\n{first}\n{second}")
     }
 
-    /// Whether the person sees something of some incident.
+    /// Returns whether the person sees something of some incident.
     fn is_served(&self, asked: &Asked) -> bool {
         match Reader::of(&asked.world, self.who) {
             Some(reader) => asked
@@ -135,7 +135,7 @@ impl<'a> Asker<'a> {
         tally.note(kind, if is_alike { "told alike" } else { "told apart" })
     }
 
-    /// What is wrong with a pair, where something is.
+    /// Returns what is wrong with a pair, if something is.
     fn fault(
         &self,
         one: &Asked,
@@ -160,7 +160,7 @@ impl<'a> Asker<'a> {
         })
     }
 
-    /// Counts the pair, unless the replies aren't what they have to be.
+    /// Counts the pair. Fails if its replies are wrong.
     fn judge(
         &self,
         tally: &mut Tally,
@@ -177,7 +177,7 @@ impl<'a> Asker<'a> {
         }
     }
 
-    /// A step from a world, if the person is there.
+    /// Returns a step from a world, if the person is there.
     fn change(&self, dice: &mut Dice, from: &Asked) -> Result<Option<Change>, AllocError> {
         match Reader::of(&from.world, self.who) {
             Some(reader) => any_change(self.alloc, dice, &from.world, reader),
@@ -185,7 +185,7 @@ impl<'a> Asker<'a> {
         }
     }
 
-    /// Tries a step from a world, and gives the world to go on from.
+    /// Tries a step from a world. Returns the world at which the next step begins.
     fn step(&self, dice: &mut Dice, tally: &mut Tally, from: Asked) -> Result<Asked, Fault> {
         let Some(
             Change {

@@ -1,4 +1,5 @@
-//! What a reader sees, by the rules: each class is judged alone, with all that is above it. Nothing of the hub is asked.
+//! The classes that a reader sees, by the rules: each class is judged by itself, with all classes above it. No hub is
+//! asked.
 
 use crate::rows::{Circle, Class, Given, MOMENT, Member, Reach, Report, World, place_of};
 use crate::writing::rank_of;
@@ -6,7 +7,7 @@ use circle::directory::Handling;
 use hub_core::Target;
 use policy::Grantee;
 
-/// By what a class is hidden: how strictly it is handled, from 1 on, or the gate that refuses.
+/// The reason for which a class is hidden: how strictly it is handled, from 1 on, or the gate that refuses.
 #[derive(Clone, Copy, PartialEq, Eq)]
 pub enum Why {
     Handled(u32),
@@ -22,7 +23,7 @@ pub struct Reader<'a> {
     pub own: Member,
 }
 
-/// What is known of a class on the way from it up to the root.
+/// What is known about a class on the way from it up to the root.
 #[derive(Clone, Copy)]
 struct Ascent {
     depth: u32,
@@ -42,7 +43,7 @@ fn handling_rank(handling: Handling) -> u32 {
 }
 
 impl<'a> Reader<'a> {
-    /// The person of this number in the world.
+    /// Returns the person of this number in the world.
     pub fn of(world: &'a World, who: u32) -> Option<Reader<'a>> {
         let own = world.circle.persons.get(place_of(who))?;
         Some(Reader {
@@ -56,7 +57,7 @@ impl<'a> Reader<'a> {
         report.source == self.own.org
     }
 
-    /// Whether the person or its organisation is a recipient.
+    /// Returns whether the person or its organisation is a recipient.
     pub fn is_addressed(&self, report: &Report) -> bool {
         report.recipients.contains(&Target::Person(self.who))
             || report.recipients.contains(&Target::Org(self.own.org))
@@ -67,8 +68,8 @@ impl<'a> Reader<'a> {
             && (row.org == report.source || report.recipients.contains(&Target::Org(row.org))))
     }
 
-    /// Whether the person's organisation is in the community that the report names, or in one of the source's where it
-    /// names none. The source needn't be in the one that is named.
+    /// Returns whether the person's organisation is in the community that the report names or, if it names none, in one
+    /// of the source's. The source needn't be in the one that is named.
     fn is_peer(&self, report: &Report) -> bool {
         match report.community {
             Some(community) => self.circle.is_member(community, self.own.org),
@@ -76,7 +77,7 @@ impl<'a> Reader<'a> {
         }
     }
 
-    /// How strictly handled the person may see what is in the report.
+    /// Returns how strictly handled the classes are that the person may see in the report.
     fn clearance(&self, report: &Report) -> u32 {
         if report.recipients.contains(&Target::Person(self.who)) {
             4
@@ -91,7 +92,7 @@ impl<'a> Reader<'a> {
         }
     }
 
-    /// How strictly the source wants handled what is marked `default`.
+    /// Returns how strictly the source wants classes handled that are marked `default`.
     fn arrangement(&self, source: u32) -> u32 {
         let found = self
             .circle
@@ -112,12 +113,12 @@ impl<'a> Reader<'a> {
         }
     }
 
-    /// Whether the permission includes the person and hasn't ended.
+    /// Returns whether the permission includes the person and hasn't ended.
     fn is_granted(&self, given: &Given) -> bool {
         self.is_included(&given.grantee) && given.until.map_or(true, |end| MOMENT < end)
     }
 
-    /// Why the gate refuses the person, which isn't of the source; none where it lets pass.
+    /// Returns why the gate refuses the person, which isn't of the source, or none if it doesn't.
     fn refusal(&self, source: u32, reach: Reach) -> Option<Why> {
         let shares = self.circle.share_community(self.own.org, source);
         let group = reach.group.unwrap_or(0);
@@ -137,7 +138,7 @@ impl<'a> Reader<'a> {
         }
     }
 
-    /// Goes up to a class in front of those so far, unless it stands beside one of them.
+    /// Goes up to a class in front of those so far, if it is above them.
     fn go_up(&self, ascent: &mut Ascent, source: u32, class: &Class) {
         if class.depth >= ascent.depth {
             return;
@@ -169,7 +170,7 @@ impl<'a> Reader<'a> {
         ascent
     }
 
-    /// Why the person doesn't see the class at this place; none where it does.
+    /// Returns why the person doesn't see the class at this place, or none if it does.
     pub fn hidden(&self, report: &Report, place: usize) -> Option<Why> {
         if self.is_source(report) {
             return None;
@@ -185,17 +186,17 @@ impl<'a> Reader<'a> {
         }
     }
 
-    /// The nearest label of the class, 0 where none is written.
+    /// Returns the nearest label of the class, or 0 if none is written.
     pub fn label(&self, report: &Report, place: usize) -> u32 {
         self.ascent(report, place).label
     }
 
-    /// Whether none of the classes at these places is seen.
+    /// Returns whether none of the classes at these places is seen.
     pub fn sees_none(&self, report: &Report, from: usize, to: usize) -> bool {
         (from..to).all(|place| self.hidden(report, place).is_some())
     }
 
-    /// Whether some class of the report is seen.
+    /// Returns whether some class of the report is seen.
     pub fn is_served(&self, report: &Report) -> bool {
         !self.sees_none(report, 0, report.classes.len())
     }

@@ -1,4 +1,4 @@
-//! The step that changes rows of whom a reader isn't part, and the same with rows of which it is.
+//! The step that changes rows that don't concern a reader, and the same with rows that do.
 
 use crate::reader::Reader;
 use crate::rows::{COMMUNITIES, Circle, Class, GROUPS, Given, ORGS, World, place_of};
@@ -11,7 +11,7 @@ use trying::Dice;
 
 pub const ROWS: &str = "permissions, recipients and rows of the directory for others";
 
-/// What is left out: that the row isn't one of these.
+/// The premises that are left out: that the row isn't one of these.
 pub const PERMISSION: &str = "but a permission that includes the reader";
 
 pub const RECIPIENT: &str = "but a recipient that is the reader or an organisation";
@@ -24,10 +24,10 @@ pub const MEMBER: &str = "but a membership of the reader's organisation in a gro
 
 pub const DIRECTORY: &str = "but a row of the directory that is for nobody alone";
 
-/// How many persons there are at most before one is put in.
+/// The greatest number of persons before one is put in.
 const MANY: u32 = 12;
 
-/// Puts the row in, or takes it out where it is there.
+/// Puts the row in, or takes it out if it is there.
 fn turn<T: PartialEq + Drop>(rows: &mut Vec<T>, row: T) -> Result<(), AllocError> {
     let count = rows.len();
     rows.retain(|other| *other != row);
@@ -37,7 +37,7 @@ fn turn<T: PartialEq + Drop>(rows: &mut Vec<T>, row: T) -> Result<(), AllocError
     Ok(())
 }
 
-/// A permission at the class: in one of two with another end, or none, for a grantee that has one there.
+/// Returns a permission at the class. In one of two its grantee has one there, and it has another end or none.
 fn any_given_at(dice: &mut Dice, class: &Class, persons: u32) -> Given {
     let is_exchanged = dice.once_in(2);
     match dice.one_of(&class.grants) {
@@ -49,7 +49,7 @@ fn any_given_at(dice: &mut Dice, class: &Class, persons: u32) -> Given {
     }
 }
 
-/// Puts the permission in, in place of the one of its grantee, or takes it out where it is there with this end.
+/// Puts the permission in, in place of the one of its grantee, or takes it out if it is there with this end.
 fn turn_given(grants: &mut Vec<Given>, given: Given) -> Result<(), AllocError> {
     let is_there = grants.contains(&given);
     grants.retain(|other| other.grantee != given.grantee);
@@ -59,7 +59,7 @@ fn turn_given(grants: &mut Vec<Given>, given: Given) -> Result<(), AllocError> {
     Ok(())
 }
 
-/// A permission at some class of the incident.
+/// Puts in or takes out a permission at some class of the incident.
 fn turn_permission(
     dice: &mut Dice,
     after: &mut World,
@@ -83,7 +83,7 @@ fn turn_permission(
     })
 }
 
-/// A recipient of the incident.
+/// Puts in or takes out a recipient of the incident.
 fn turn_recipient(
     dice: &mut Dice,
     after: &mut World,
@@ -100,7 +100,7 @@ fn turn_recipient(
     })
 }
 
-/// A person more, or another row for one.
+/// Puts in one more person, or another row for one.
 fn other_person(
     dice: &mut Dice,
     circle: &mut Circle,
@@ -155,7 +155,7 @@ fn other_arrangement(
     })
 }
 
-/// A membership in a group, but not of the owner.
+/// Changes a membership in a group, but not the owner's.
 fn other_membership(
     dice: &mut Dice,
     circle: &mut Circle,
@@ -177,7 +177,7 @@ fn other_membership(
     })
 }
 
-/// A row that no step changes.
+/// Puts in or takes out a row that no step changes.
 fn turn_directory(dice: &mut Dice, circle: &mut Circle) -> Result<(), AllocError> {
     let (a, b) = (dice.one_to(ORGS), dice.one_to(ORGS));
     match dice.roll(4) {
@@ -201,7 +201,7 @@ fn turn_directory(dice: &mut Dice, circle: &mut Circle) -> Result<(), AllocError
     }
 }
 
-/// Another row, of the incident at this place or of the directory.
+/// Changes a row of the incident at this place or of the directory.
 pub fn other_rows(
     dice: &mut Dice,
     world: &World,

@@ -1,11 +1,11 @@
-//! The rows of a small world, in numbers: the steps change these, and both what a reader is told by the rules and the edits
-//! of the hub are made of them. Organisations, persons, communities, groups and incidents are numbered from 1.
+//! The rows of a small world, in numbers. The steps change them. Both the edits of the hub and what a reader must be
+//! told by the rules are made of them. Organisations, persons, communities, groups and incidents are numbered from 1.
 
 use circle::directory::{Arrangement, Client, Connection, GroupMember, Membership, Role};
 use hub_core::Target;
 use policy::Grantee;
 
-/// How many organisations, communities and groups there are.
+/// The number of organisations, of communities and of groups.
 pub const ORGS: u32 = 5;
 
 pub const COMMUNITIES: u32 = 3;
@@ -50,33 +50,33 @@ pub struct Circle {
     pub arrangements: Vec<Arrangement>,
 }
 
-/// To whom a permission is given, and when it ends, if it does.
+/// The grantee of a permission, and when it ends, if it does.
 #[derive(Clone, Copy, PartialEq, Eq)]
 pub struct Given {
     pub grantee: Grantee,
     pub until: Option<i64>,
 }
 
-/// A class of a report, with its gate and the permissions at it, of which no grantee has two. It stands behind those that are above it, one
-/// deeper than the one that holds it; 1 is the depth of the Incident.
+/// A class of a report, with its gate and the permissions at it. No grantee has two of these. A class follows those
+/// that are above it, one deeper than the one that holds it; 1 is the depth of the Incident.
 #[derive(Clone, Drop)]
 pub struct Class {
     pub depth: u32,
-    /// Which of the two names of its depth it has.
+    /// Which of the two names of its depth the class has.
     pub kind: u32,
-    /// Its label by number, and 0 for none.
+    /// The class's label by number, or 0 for none.
     pub label: u32,
-    /// Its plain lines by number.
+    /// The class's plain lines by number.
     pub note: u32,
     pub gate: Option<Reach>,
     pub grants: Vec<Given>,
 }
 
-/// An incident. Its classes stand in the order of the report, the Incident first.
+/// An incident. Its classes are in the order of the report, the Incident first.
 #[derive(Clone, Drop)]
 pub struct Report {
     pub source: u32,
-    /// What its IncidentID says; no other has it.
+    /// The number in its IncidentID, which no other has.
     pub ident: u32,
     pub revision: u32,
     /// The community that it names, if it names one.
@@ -95,12 +95,12 @@ pub struct World {
     pub idents: u32,
 }
 
-/// The number of the row at this place.
+/// Returns the number of the row at this place.
 pub fn number_at(place: usize) -> u32 {
     u32::try_from(place).unwrap_or(0).saturating_add(1)
 }
 
-/// The place of the row of this number; behind all places for 0.
+/// Returns the place of the row of this number, which for 0 is behind all places.
 pub fn place_of(number: u32) -> usize {
     match number.checked_sub(1) {
         Some(place) => place as usize,
@@ -108,7 +108,7 @@ pub fn place_of(number: u32) -> usize {
     }
 }
 
-/// The place behind the class at this one and all classes below it.
+/// Returns the place behind the class at this one and all classes below it.
 pub fn end_of(classes: &[Class], place: usize) -> usize {
     let Some(class) = classes.get(place) else {
         return classes.len();
@@ -125,7 +125,7 @@ pub fn end_of(classes: &[Class], place: usize) -> usize {
 }
 
 impl World {
-    /// An IncidentID that none has had.
+    /// Returns an IncidentID that no incident has had.
     pub fn next_ident(&mut self) -> u32 {
         self.idents = self.idents.saturating_add(1);
         self.idents
@@ -143,7 +143,7 @@ impl Circle {
             .any(|member| member.group == group && member.org == org)
     }
 
-    /// Whether the group is there and active.
+    /// Returns whether the group is there and active.
     pub fn is_active(&self, group: u32) -> bool {
         match self.groups.get(place_of(group)) {
             Some(club) => club.active,
@@ -151,12 +151,12 @@ impl Circle {
         }
     }
 
-    /// Whether the two are in one community.
+    /// Returns whether the two are in one community.
     pub fn share_community(&self, one: u32, other: u32) -> bool {
         self.memberships.iter().any(|row| row.org == one && self.is_member(row.community, other))
     }
 
-    /// Whether one is in a community that is connected with one of the other's.
+    /// Returns whether one is in a community that is connected with one of the other's.
     pub fn are_connected(&self, one: u32, other: u32) -> bool {
         self.connections.iter().any(|link| {
             self.is_member(link.low, one) && self.is_member(link.high, other)

@@ -1,5 +1,5 @@
-//! The steps from one world to another that is alike for a reader, as they are defined, and each with one premise left out.
-//! Whether a premise holds is asked of the rows, by the rules, and never of a hub.
+//! The steps from one world to another that is alike for a reader, as they are defined, and each with one premise left
+//! out. The rows and the rules decide whether a premise holds, and never a hub.
 
 use crate::reader::Reader;
 use crate::rows::{Class, ORGS, Report, World, end_of};
@@ -29,10 +29,10 @@ pub const WITHHELD: &str = "but something else is withheld";
 
 pub const SERVED: &str = "but something of the incident is seen";
 
-/// How many classes a report has at most before one is put in.
+/// The greatest number of classes in a report before one is put in.
 const MANY: usize = 12;
 
-/// The world behind a step, and the premise that doesn't hold, if there is one.
+/// The world after a step, and the premise that doesn't hold, if there is one.
 #[derive(Drop)]
 pub struct Change {
     pub world: World,
@@ -40,7 +40,7 @@ pub struct Change {
     pub left_out: Option<&'static str>,
 }
 
-/// The lines of a class that are to be exchanged, and those that take their place.
+/// The places of the classes that are exchanged, and the classes that take their place.
 #[derive(Drop)]
 struct Cut {
     from: usize,
@@ -48,7 +48,7 @@ struct Cut {
     put: Vec<Class>,
 }
 
-/// The place of an incident that isn't of the reader's organisation.
+/// Returns the place of an incident that isn't of the reader's organisation.
 pub fn any_foreign(
     alloc: Global,
     dice: &mut Dice,
@@ -64,7 +64,7 @@ pub fn any_foreign(
     Ok(dice.one_of(&places).copied())
 }
 
-/// The place of a class: of one that is hidden mostly.
+/// Returns the place of a class, mostly of a hidden one.
 fn any_place(
     alloc: Global,
     dice: &mut Dice,
@@ -81,7 +81,7 @@ fn any_place(
     Ok(dice.one_of(&places).copied().unwrap_or(0))
 }
 
-/// Other plain lines for the class; once in four times another label too.
+/// Gives the class other plain lines and, once in four times, another label.
 fn rewrite(dice: &mut Dice, report: &mut Report, place: usize, ident: u32) {
     if let Some(class) = report.classes.get_mut(place) {
         class.note = dice.roll(NOTE_COUNT);
@@ -106,7 +106,7 @@ fn label_at(report: &Report, place: usize) -> u32 {
         .map_or(0, |class| plain_label(class.label))
 }
 
-/// Other plain lines in a class.
+/// Puts other plain lines in a class.
 pub fn other_lines(
     alloc: Global,
     dice: &mut Dice,
@@ -136,7 +136,7 @@ pub fn other_lines(
     }))
 }
 
-/// Whether no class of the same name stands behind this one in the class that holds both.
+/// Returns whether no class of the same name follows this one in the class that holds both.
 fn is_last(classes: &[Class], place: usize, end: usize) -> bool {
     match (classes.get(place), classes.get(end)) {
         (Some(class), Some(next)) => next.depth < class.depth || next.kind != class.kind,
@@ -144,7 +144,7 @@ fn is_last(classes: &[Class], place: usize, end: usize) -> bool {
     }
 }
 
-/// A class that is put in as the last of its name in the class at this place, or at the root.
+/// Returns a cut that puts a class in, as the last of its name in the class at this place, or at the root.
 fn put_in(
     alloc: Global,
     dice: &mut Dice,
@@ -170,7 +170,7 @@ fn put_in(
     }))
 }
 
-/// A class that is put in, taken out or exchanged so that no other one moves; none where one would.
+/// Returns a cut that puts in, takes out or exchanges a class so that no other class moves, or none if one would.
 fn any_cut(
     alloc: Global,
     dice: &mut Dice,
@@ -192,7 +192,7 @@ fn any_cut(
     Ok(Some(Cut { from, to, put }))
 }
 
-/// The classes with some of them exchanged.
+/// Returns the classes with some of them exchanged.
 fn exchange(alloc: Global, classes: &[Class], cut: &Cut) -> Result<Vec<Class>, AllocError> {
     let mut all = Vec::new(alloc);
     let before = classes.iter().take(cut.from);
@@ -203,7 +203,7 @@ fn exchange(alloc: Global, classes: &[Class], cut: &Cut) -> Result<Vec<Class>, A
     Ok(all)
 }
 
-/// Which premise doesn't hold where a class of the report was exchanged.
+/// Returns which premise doesn't hold if a class of the report was exchanged.
 fn left_out_of_cut(
     alloc: Global,
     reader: Reader<'_>,
@@ -226,7 +226,7 @@ fn left_out_of_cut(
     })
 }
 
-/// A class with all below it put in, taken out or exchanged, with the gates and the permissions there.
+/// Puts in, takes out or exchanges a class with all classes below it and with the gates and the permissions there.
 pub fn other_class(
     alloc: Global,
     dice: &mut Dice,
@@ -255,7 +255,7 @@ pub fn other_class(
     }))
 }
 
-/// Another report in place of one, or the same with another community, root gate, recipients and revision.
+/// Returns another report in place of one, or the same with another community, root gate, recipients and revision.
 fn other_report(
     alloc: Global,
     dice: &mut Dice,
@@ -275,7 +275,8 @@ fn other_report(
     Ok(other)
 }
 
-/// An incident put in behind the others, the last one taken out, or one exchanged. The one before, and the one behind.
+/// Puts an incident in behind the others, takes the last one out, or exchanges one. Returns the one before, and the
+/// place of the one after.
 fn exchange_report(
     alloc: Global,
     dice: &mut Dice,
@@ -301,7 +302,7 @@ fn exchange_report(
     Ok((Some(other), Some(at)))
 }
 
-/// Anything in an incident; it may be missing before or behind.
+/// Changes anything in an incident, which may be missing before or after.
 pub fn other_incident(
     alloc: Global,
     dice: &mut Dice,

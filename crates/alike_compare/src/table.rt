@@ -5,7 +5,7 @@ use crate::steps::{CLASS_SEEN, CLASSES, INCIDENTS, LABEL, LINES, SEEN_WITHIN, SE
 use std::alloc::{AllocError, Global};
 use trying::Tally;
 
-/// What pairs of worlds are apart by: each step, and behind it the premises that are left out.
+/// The kinds of pairs: each step, and behind it the premises that are left out.
 const KINDS: [(&str, bool); 15] = [
     (LINES, true),
     (CLASS_SEEN, false),
@@ -32,7 +32,7 @@ const OUTCOMES: [&str; 5] = [
     "told alike",
 ];
 
-/// How many pairs there were.
+/// Returns how many pairs there were.
 pub fn pairs_of(tally: &Tally) -> u32 {
     KINDS.iter().fold(
         0,
@@ -40,7 +40,7 @@ pub fn pairs_of(tally: &Tally) -> u32 {
     )
 }
 
-/// A heading, and a line for each kind of pair.
+/// Returns a heading, and a line for each kind of pair.
 pub fn lines_of(alloc: Global, tally: &Tally) -> Result<Vec<String>, AllocError> {
     let mut lines = Vec::new(alloc);
     lines.push(String::from_str(
@@ -58,7 +58,8 @@ pub fn lines_of(alloc: Global, tally: &Tally) -> Result<Vec<String>, AllocError>
     Ok(lines)
 }
 
-/// Whether pairs of each kind were met with something seen, and such that had to differ wherever a premise was left out.
+/// Returns whether pairs of each kind were met with something seen and, for a premise that was left out, some that had
+/// to differ.
 pub fn is_full(tally: &Tally) -> bool {
     KINDS.iter().all(|(kind, is_step)| {
         tally.met(kind, "something seen") > 0 && (*is_step || tally.met(kind, "had to differ") > 0)

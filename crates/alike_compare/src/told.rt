@@ -1,4 +1,4 @@
-//! What a reader is to be told by the rules, in numbers: where two worlds have other numbers, some answer has to differ.
+//! What a reader must be told by the rules, in numbers. If two worlds have other numbers, some answer must differ.
 
 use crate::reader::{Reader, Why};
 use crate::rows::{GROUPS, Report, World, end_of, number_at};
@@ -6,7 +6,7 @@ use crate::writing::{PRIVATE, plain_label};
 use circle::directory::Role;
 use std::alloc::{AllocError, Global};
 
-/// What stands for a class that is kept: one that is seen, one that only holds others, and one that is wholly hidden.
+/// A kept class: one that is seen, one that only holds others, or one that is wholly hidden.
 #[derive(Clone, Copy, PartialEq, Eq)]
 enum Kept {
     Seen,
@@ -21,16 +21,16 @@ pub struct Withheld {
     why: Why,
 }
 
-/// The classes of a report on the way down, and what was told of them.
+/// The classes of a report on the way down, and what was said of them.
 #[derive(Drop)]
 struct Telling<'a> {
     reader: Reader<'a>,
     report: &'a Report,
     numbers: Vec<u32>,
     withheld: Vec<Withheld>,
-    /// How many classes were kept.
+    /// How many classes are kept.
     kept: u32,
-    /// Of the classes above, from the root's place on, the number and whether it is seen.
+    /// For each class above, from the root's place on, the number and whether it is seen.
     above: Vec<(u32, Kept)>,
 }
 
@@ -60,7 +60,7 @@ impl<'a> Telling<'a> {
         Ok(())
     }
 
-    /// What is told of the lines of a class that is seen.
+    /// Adds the numbers of the lines of a class that is seen.
     fn tell_lines(&mut self, place: usize, over: Kept) -> Result<(), AllocError> {
         let Some(class) = self.report.classes.get(place) else {
             return Ok(());
@@ -82,7 +82,7 @@ impl<'a> Telling<'a> {
         Ok(())
     }
 
-    /// What is told of the class at a place.
+    /// Adds the numbers of the class at a place.
     fn tell(&mut self, place: usize) -> Result<(), AllocError> {
         let Some(class) = self.report.classes.get(place) else {
             return Ok(());
@@ -110,7 +110,7 @@ impl<'a> Telling<'a> {
     }
 }
 
-/// What is told of the classes of a report, and what is withheld.
+/// Returns the numbers of the classes of a report, and what is withheld.
 fn told_of(
     alloc: Global,
     reader: Reader<'_>,
@@ -137,7 +137,7 @@ fn told_of(
     Ok((numbers, withheld))
 }
 
-/// The rules that withhold something of a report, each with its place.
+/// Returns the rules that withhold something of a report, each with its place.
 pub fn withheld_of(
     alloc: Global,
     reader: Reader<'_>,
@@ -147,12 +147,12 @@ pub fn withheld_of(
     Ok(withheld)
 }
 
-/// Whether the same is withheld, in whatever order.
+/// Returns whether the same is withheld, in any order.
 pub fn same_withheld(one: &[Withheld], other: &[Withheld]) -> bool {
     one.len() == other.len() && one.iter().all(|withheld| other.contains(withheld))
 }
 
-/// What the reader is told of the report of this number; nothing where nothing is seen.
+/// Adds the numbers of the report of this number for the reader, and nothing if nothing is seen.
 fn push_report(
     alloc: Global,
     numbers: &mut Vec<u32>,
@@ -176,7 +176,7 @@ fn push_report(
     push_withheld(alloc, numbers, &withheld)
 }
 
-/// What is withheld, in the order of places and rules.
+/// Adds what is withheld, in the order of places and rules.
 fn push_withheld(
     alloc: Global,
     numbers: &mut Vec<u32>,
@@ -200,7 +200,7 @@ fn role_number(role: Role) -> u32 {
     }
 }
 
-/// What the reader is told of a group: nothing, 0, where its organisation isn't a member.
+/// Returns the number of a group for the reader, or 0 if the reader's organisation isn't a member.
 fn membership_number(reader: Reader<'_>, group: u32) -> u32 {
     let mut members = reader.circle.members.iter();
     let own = members.find(|row| row.group == group && row.org == reader.own.org);
@@ -211,7 +211,7 @@ fn membership_number(reader: Reader<'_>, group: u32) -> u32 {
     }
 }
 
-/// What the reader is told of itself and its groups.
+/// Adds the numbers of the reader itself and of its groups.
 fn push_self(numbers: &mut Vec<u32>, reader: Reader<'_>) -> Result<(), AllocError> {
     let own = reader.own;
     for number in [own.org, role_number(own.role), u32::from(own.nominated)] {
@@ -223,7 +223,7 @@ fn push_self(numbers: &mut Vec<u32>, reader: Reader<'_>) -> Result<(), AllocErro
     Ok(())
 }
 
-/// All that the person of this number is told in the world.
+/// Returns all numbers for the person of this number in the world.
 pub fn told_in(alloc: Global, world: &World, who: u32) -> Result<Vec<u32>, AllocError> {
     let mut numbers = Vec::new(alloc);
     let Some(reader) = Reader::of(world, who) else {
@@ -236,7 +236,8 @@ pub fn told_in(alloc: Global, world: &World, who: u32) -> Result<Vec<u32>, Alloc
     Ok(numbers)
 }
 
-/// The labels that are written in classes that the person sees. A search finds these, and none that a view adds.
+/// Returns the labels that are written in classes that the person sees. A search finds these, and none that a view
+/// adds.
 pub fn written_in(alloc: Global, world: &World, who: u32) -> Result<Vec<u32>, AllocError> {
     let mut labels = Vec::new(alloc);
     if let Some(reader) = Reader::of(world, who) {

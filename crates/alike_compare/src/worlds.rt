@@ -11,10 +11,10 @@ use policy::Grantee;
 use std::alloc::{AllocError, Global};
 use trying::Dice;
 
-/// How many persons there are at first.
+/// The number of persons at first.
 pub const PERSONS: u32 = 7;
 
-/// A role by chance.
+/// Returns a role by chance.
 pub fn any_role(dice: &mut Dice) -> Role {
     match dice.roll(4) {
         0 => Role::Administrator,
@@ -60,7 +60,8 @@ fn any_grantee(dice: &mut Dice, persons: u32) -> Grantee {
     }
 }
 
-/// When a permission ends: a second ago, at the moment of the requests or a second later, and in one of two not at all.
+/// Returns when a permission ends: a second ago, at the moment of the requests or a second later; in one of two it
+/// doesn't.
 pub fn any_end(dice: &mut Dice) -> Option<i64> {
     match dice.roll(6) {
         0 => Some(MOMENT.saturating_sub(1)),
@@ -77,7 +78,7 @@ pub fn any_given(dice: &mut Dice, persons: u32) -> Given {
     }
 }
 
-/// A level below this one; of group 1, 2 or 3 where it is 4.
+/// Returns a level below this one; level 4 has group 1, 2 or 3.
 pub fn any_reach(dice: &mut Dice, levels: u32) -> Reach {
     let level = dice.roll(levels);
     let group = if level == 4 {
@@ -91,7 +92,7 @@ pub fn any_reach(dice: &mut Dice, levels: u32) -> Reach {
     }
 }
 
-/// The community that an incident names, none in one of two. Its source isn't always a member.
+/// Returns the community that an incident names, none in one of two. Its source isn't always a member.
 pub fn any_community(dice: &mut Dice) -> Option<u32> {
     if dice.once_in(2) {
         Some(dice.one_to(COMMUNITIES))
@@ -100,7 +101,7 @@ pub fn any_community(dice: &mut Dice) -> Option<u32> {
     }
 }
 
-/// The directory's rows of two numbers, each in about one of three.
+/// Adds the directory's rows of two numbers, each in about one of three.
 fn push_pair(circle: &mut Circle, dice: &mut Dice, a: u32, b: u32) -> Result<(), AllocError> {
     if a != b && dice.once_in(4) {
         circle.clients.push(Client { org: a, client: b })?;
@@ -162,7 +163,7 @@ fn has_grantee(grants: &[Given], given: Given) -> bool {
     grants.iter().any(|other| other.grantee == given.grantee)
 }
 
-/// Permissions, no two of one grantee.
+/// Returns permissions, no two of one grantee.
 fn any_grants(alloc: Global, dice: &mut Dice) -> Result<Vec<Given>, AllocError> {
     let mut grants = Vec::new(alloc);
     let count = if dice.once_in(4) { dice.roll(3) } else { 0 };
@@ -175,7 +176,7 @@ fn any_grants(alloc: Global, dice: &mut Dice) -> Result<Vec<Given>, AllocError> 
     Ok(grants)
 }
 
-/// A label, none in one of two.
+/// Returns a label, none in one of two.
 pub fn any_label(dice: &mut Dice) -> u32 {
     if dice.once_in(2) {
         0
@@ -200,7 +201,7 @@ fn any_class(alloc: Global, dice: &mut Dice, depth: u32, kind: u32) -> Result<Cl
     })
 }
 
-/// Puts a class and, behind it, some below it: up to two of each kind, and below each of these up to one.
+/// Adds a class and, behind it, some below it: up to two of each kind, and below each of these up to one.
 pub fn push_tree(
     alloc: Global,
     dice: &mut Dice,
@@ -225,7 +226,7 @@ pub fn push_tree(
     Ok(())
 }
 
-/// An incident of this source, in one of two public but where a class of it says otherwise.
+/// Returns an incident of this source. One of two is public unless a class of it says otherwise.
 pub fn any_report(
     alloc: Global,
     dice: &mut Dice,
@@ -267,7 +268,7 @@ pub fn any_report(
     })
 }
 
-/// A world, with one to three incidents.
+/// Returns a world with one to three incidents.
 pub fn any_world(alloc: Global, dice: &mut Dice) -> Result<World, AllocError> {
     let mut world = World {
         circle: any_circle(alloc, dice)?,
@@ -283,7 +284,7 @@ pub fn any_world(alloc: Global, dice: &mut Dice) -> Result<World, AllocError> {
     Ok(world)
 }
 
-/// How many persons there are.
+/// Returns how many persons there are.
 pub fn count_of(circle: &Circle) -> u32 {
     number_at(circle.persons.len()).saturating_sub(1)
 }

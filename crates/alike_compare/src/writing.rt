@@ -3,8 +3,8 @@
 use crate::rows::{Class, Report};
 use std::alloc::{AllocError, Global};
 
-/// The members that spell each label, and how strictly what it stands over is handled: from 0, CLEAR, to 4, RED; none where
-/// that is by arrangement. The first says what holds where none is written.
+/// The members that spell each label, and how strictly the classes under it are handled: from 0, CLEAR, to 4, RED, or
+/// none if that is arranged. The first holds if no label is written.
 const LABELS: [(&str, Option<u32>); 15] = [
     ("", Some(4)),
     (",\"restriction\":\"public\"", Some(0)),
@@ -40,7 +40,8 @@ const LABELS: [(&str, Option<u32>); 15] = [
 
 pub const LABEL_COUNT: u32 = 15;
 
-/// The label with an extended text beside it that says nothing, as another value stands before it; and that label alone.
+/// The label with an extended text beside it that says nothing, as another value is before it; and that label by
+/// itself.
 pub const BESIDE: u32 = 14;
 
 pub const ALONE: u32 = 2;
@@ -48,7 +49,7 @@ pub const ALONE: u32 = 2;
 /// The number of the label that everybody may see.
 pub const PUBLIC: u32 = 1;
 
-/// The number of the label where none is written.
+/// The number of the label that holds if none is written.
 pub const PRIVATE: u32 = 9;
 
 /// Plain members of a class.
@@ -75,7 +76,7 @@ const NAMES: [[&str; 2]; 4] = [
 
 pub const DEEPEST: u32 = 4;
 
-/// How strictly what stands under the label is handled, with what is arranged.
+/// Returns how strictly the classes under the label are handled, with what is arranged.
 pub fn rank_of(label: u32, arranged: u32) -> u32 {
     match LABELS.get(label as usize) {
         Some((_, Some(rank))) => *rank,
@@ -83,7 +84,7 @@ pub fn rank_of(label: u32, arranged: u32) -> u32 {
     }
 }
 
-/// The label that is spelled, without what stands beside it.
+/// Returns the label that is spelled, without the text beside it.
 pub fn plain_label(label: u32) -> u32 {
     if label == BESIDE { ALONE } else { label }
 }
@@ -97,7 +98,7 @@ fn name_of(class: &Class) -> &'static str {
     }
 }
 
-/// The beginning of the class, and what an Incident has to have.
+/// Adds the beginning of the class, and the members that an Incident must have.
 fn push_members(
     alloc: Global,
     text: &mut String,
@@ -126,7 +127,7 @@ fn close(text: &mut String, from: u32, to: u32) -> Result<(), AllocError> {
     Ok(())
 }
 
-/// What stands in front of a class: the array that it begins, or goes on, with what is closed before.
+/// Adds what precedes a class: the array that it begins or continues, with what is closed before.
 fn push_front(text: &mut String, before: &[Class], class: &Class) -> Result<(), AllocError> {
     let depth = before.last().map_or(0, |last| last.depth);
     let beside = before.iter().rev().find(|other| other.depth <= class.depth);
@@ -144,7 +145,7 @@ fn push_front(text: &mut String, before: &[Class], class: &Class) -> Result<(), 
     text.push_str("\":[")
 }
 
-/// The report as a JSON text.
+/// Returns the report as a JSON text.
 pub fn text_of(alloc: Global, report: &Report) -> Result<String, AllocError> {
     let classes = report.classes.as_slice();
     let mut text = String::from_str(alloc, "{\"version\":\"2.0\"")?;

@@ -1,4 +1,4 @@
-//! What is asked of a report, and how often.
+//! The call that is measured, and how often it is made.
 
 /// The calls that are measured.
 #[derive(Clone, Copy, PartialEq, Eq)]
@@ -12,7 +12,7 @@ pub enum Call {
 }
 
 impl Call {
-    /// The call of this word.
+    /// Returns the call of this word.
     fn of(word: &str) -> Option<Call> {
         match word {
             "excerpt" => Some(Call::Excerpt),
@@ -32,7 +32,7 @@ pub struct Asked {
 }
 
 impl Asked {
-    /// What these words ask.
+    /// Returns what these words ask for.
     pub fn of(words: &[String]) -> Option<Asked> {
         match words {
             [turns] => Some(Asked {

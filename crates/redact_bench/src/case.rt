@@ -1,4 +1,4 @@
-//! By what a report is judged.
+//! The case by which a report is judged.
 
 use crate::asked::{Asked, Call};
 use iodef_tree::Path;
@@ -8,13 +8,13 @@ use std::alloc::{AllocError, Global};
 /// The number of the reader and of the reader's organisation.
 pub const READER: u32 = 2;
 
-/// The path of an element of the array.
+/// Returns the path of an element of the array.
 fn element(alloc: Global, array: &Path, place: u32) -> Result<Path, AllocError> {
     let place = format!(in alloc; "{place}")?;
     array.member(alloc, place.as_str())
 }
 
-/// Gates for the source alone, at the first elements of the array.
+/// Returns gates that only the source passes, at the first elements of the array.
 fn gates_at(alloc: Global, array: &Path, count: u32) -> Result<Vec<Gate>, AllocError> {
     let mut gates = Vec::new(alloc);
     for place in 0..count {
@@ -28,7 +28,7 @@ fn gates_at(alloc: Global, array: &Path, count: u32) -> Result<Vec<Gate>, AllocE
     Ok(gates)
 }
 
-/// Permissions for the reader, at the elements behind the first ones.
+/// Returns permissions for the reader, at the elements behind the first ones.
 fn permissions_behind(
     alloc: Global,
     array: &Path,
@@ -47,7 +47,7 @@ fn permissions_behind(
     Ok(permissions)
 }
 
-/// The case that is asked: for a text a gate at the root lets everybody pass.
+/// Returns the case that is asked for. For a text a gate at the root lets everybody pass.
 pub fn case_of(alloc: Global, array: &Path, asked: Asked) -> Result<Case, AllocError> {
     let mut gates = gates_at(alloc, array, asked.gates)?;
     if asked.call == Call::Text {

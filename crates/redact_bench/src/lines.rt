@@ -1,4 +1,4 @@
-//! A view of a report by its lines, as they come from a table, of which a gate hides all but a few.
+//! A view of a report by its lines, as they come from a table. A gate hides all except for a few.
 
 use iodef_tree::{Document, Kind, Line, OutlineFault, Path, Text};
 use policy::{Case, Gate, Gates, Permissions, Standing};
@@ -8,7 +8,7 @@ use std::alloc::{AllocError, Global};
 /// The number of the reader and of the reader's organisation.
 const READER: u32 = 2;
 
-/// What each line of the class behind the gate says.
+/// The text of each line of the class behind the gate.
 const SECRET: &str =
     "a line of a log that only the organisation that wrote it may read, and whoever it asks to look at it with it";
 
@@ -22,7 +22,7 @@ pub enum Way {
 }
 
 impl Way {
-    /// The way of this word.
+    /// Returns the way of this word.
     pub fn of(word: &str) -> Option<Way> {
         match word {
             "fed" => Some(Way::Fed),
@@ -58,7 +58,8 @@ fn text(
     })
 }
 
-/// The line of this number: an Incident, the class behind the gate with so many lines, a class with ten, and the Incident's label.
+/// Returns the line of this number: an Incident, the class behind the gate with so many lines, a class with ten, and
+/// the Incident's label.
 fn line_at(alloc: Global, number: u32, hidden: u32) -> Result<Line, AllocError> {
     match number.checked_sub(hidden.saturating_add(2)) {
         None if number == 0 => class(alloc, 1, "Incident"),
@@ -70,12 +71,12 @@ fn line_at(alloc: Global, number: u32, hidden: u32) -> Result<Line, AllocError> 
     }
 }
 
-/// How many lines there are in all.
+/// Returns how many lines there are in all.
 fn count_of(hidden: u32) -> u32 {
     hidden.saturating_add(14)
 }
 
-/// A gate that only the source passes stands at the first of the two classes.
+/// Returns a case with a gate that only the source passes, at the first of the two classes.
 fn case(alloc: Global) -> Result<Case, AllocError> {
     let path = Path::root(alloc).member(alloc, "Incident")?;
     let path = path.member(alloc, "0")?.member(alloc, "EventData")?;
@@ -117,7 +118,8 @@ fn push(lines: &mut Vec<Line>, line: Line) -> Result<(), AllocError> {
     Ok(())
 }
 
-/// How many classes are visible and how many pairs withheld; none where the lines are no document or nothing is visible.
+/// Returns how many classes are visible and how many pairs withheld, or none if the lines are no document or nothing is
+/// visible.
 pub fn serve_by(alloc: Global, way: Way, hidden: u32) -> Result<Option<(u32, usize)>, AllocError> {
     let served = match way {
         Way::Fed => feed(alloc, hidden),

@@ -1,12 +1,16 @@
-//! `redact_bench TURNS`: redacts the report on standard input so many times, for a reader who is cleared for CLEAR alone
-//! under a gate that lets everybody pass. Prints the last excerpt and, on a second line, how many bytes all of them have
-//! together. `redact_bench TURNS CALL GATES PERMISSIONS`: asks the report on the first line `excerpt` or `finds` so many
-//! times for that reader, with no gate at the root, or `source`, an excerpt for a reader of the source. The second line is
-//! the pointer of an array: its first elements have so many gates for the source alone, and those behind them so many
-//! permissions for the reader. Prints how many classes are visible and how many pairs withheld; of a search `1 0` or `0 0`,
-//! whether something is found. A report that isn't accepted, or a second line that is no pointer, has status 1, and other
-//! words have status 2. `redact_bench fed LINES` and `redact_bench kept LINES`: a report with so many lines behind a gate, which is
-//! fed to a pass line by line, or kept and redacted; prints the same two counts.
+//! `redact_bench TURNS`: redacts the report on standard input so many times, for a reader who is cleared only for CLEAR
+//! under a gate that lets everybody pass. Prints the last excerpt and, on a second line, how many bytes all of them
+//! have together.
+//!
+//! `redact_bench TURNS CALL GATES PERMISSIONS`: calls `excerpt` or `finds` so many times for that reader over the
+//! report on the first line, with no gate at the root. CALL may also be `source`, an excerpt for a reader of the
+//! source. The second line is the pointer of an array. Its first elements have so many gates that only the source
+//! passes, and those behind them so many permissions for the reader. Prints how many classes are visible and how many
+//! pairs withheld. For a search it prints `1 0` if something is found, else `0 0`. The exit status is 1 if the report
+//! isn't accepted or the second line is no pointer, and 2 for other words.
+//!
+//! `redact_bench fed LINES` and `redact_bench kept LINES`: a report with so many lines behind a gate, which is fed to a
+//! pass line by line, or kept and redacted. Prints the same two counts.
 #![tactic(auto)]
 
 mod asked;
@@ -30,7 +34,7 @@ fn main(rt: HostRuntime) -> io::Result<ExitCode> {
     }
 }
 
-/// Which lines these words ask for, and how they are taken.
+/// Returns which lines these words ask for, and how they are taken.
 fn lines_of(words: &[String]) -> Option<(Way, u32)> {
     match words {
         [way, hidden] => Some((Way::of(way.as_str())?, hidden.parse::<u32>().ok()?)),

@@ -12,8 +12,8 @@ use policy::{Case, Standing};
 use redact::{excerpt, finds};
 use std::alloc::{AllocError, Global};
 
-/// What the last call answered (the excerpt's text where that is asked, visible classes or hits, withheld pairs), and the
-/// bytes of all texts.
+/// The answer of the last call (the excerpt's text if it is asked for, visible classes or hits, withheld pairs), and
+/// the bytes of all texts.
 #[derive(Drop)]
 pub struct Answered {
     pub text: String,
@@ -82,7 +82,7 @@ fn in_turns(
     requires { first_bad_marking (located document.now) ≡ None }
 {
     let case = case_of(alloc, array, asked)?;
-    // Nothing else holds of the reader, who is cleared for CLEAR by that.
+    // Nothing else holds of the reader, so it is cleared only for CLEAR.
     let mut reader = Standing::stranger(alloc, READER, READER);
     reader.source = asked.call == Call::Source;
     let mut last = nothing(alloc);
@@ -94,7 +94,7 @@ fn in_turns(
     Ok(last)
 }
 
-/// The answer of a document whose markings are accepted.
+/// Returns the answer for a document whose markings are accepted.
 fn of_accepted(
     alloc: Global,
     document: &Document,
@@ -108,7 +108,7 @@ fn of_accepted(
     }
 }
 
-/// The last Incident of the report; `None` where it isn't read.
+/// Returns the last Incident of the report, or `None` if it isn't read.
 fn document_of(alloc: Global, report: &[u8]) -> Result<Option<Document>, AllocError> {
     match Document::read(alloc, report) {
         Ok(mut documents) => Ok(documents.pop()),
@@ -117,7 +117,7 @@ fn document_of(alloc: Global, report: &[u8]) -> Result<Option<Document>, AllocEr
     }
 }
 
-/// The path of the pointer; `None` where it is none.
+/// Returns the path of the pointer, or `None` if it is none.
 fn array_of(alloc: Global, pointer: &[u8]) -> Result<Option<Path>, AllocError> {
     match Path::parse(alloc, std::str::from_utf8(pointer).unwrap_or("?")) {
         Ok(path) => Ok(Some(path)),
@@ -138,7 +138,7 @@ fn of_parts(
     }
 }
 
-/// The answer after so many turns; `None` where the report isn't accepted, or the second line is no pointer.
+/// Returns the answer after so many turns, or `None` if the report isn't accepted or the second line is no pointer.
 pub fn answer_in_turns(
     alloc: Global,
     input: &[u8],
