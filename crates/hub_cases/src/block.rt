@@ -1,4 +1,4 @@
-//! The requests of a block of lines, written out.
+//! The requests of a block of lines, each filled in.
 
 use std::alloc::{AllocError, Global};
 use trying::number_of;
@@ -7,13 +7,13 @@ use trying::number_of;
 #[derive(Drop)]
 pub struct Block {
     alloc: Global,
-    /// One for each request, with its fields.
+    /// One line for each request, with its fields.
     pub lines: Vec<String>,
-    /// Whether each call of the shelf is to fail in turn.
+    /// Whether each call of the shelf must fail in turn.
     pub fails: bool,
-    /// Whether the steps of statements are to be limited, to ever more.
+    /// Whether the steps of statements are limited, to ever more.
     pub limits: bool,
-    /// Whether it is to be told for how many reports the shelf was asked for each page.
+    /// Whether each page is printed with how many reports the shelf was asked about.
     pub counts: bool,
 }
 
@@ -54,7 +54,7 @@ impl Block {
     }
 }
 
-/// The request as it is made the nth time.
+/// Returns the request as it is made the nth time.
 fn filled_in(alloc: Global, request: &str, n: u32) -> Result<String, AllocError> {
     let mut all = String::new(alloc);
     for piece in request.split('<') {

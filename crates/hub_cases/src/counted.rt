@@ -1,4 +1,4 @@
-//! A shelf that counts for how many reports it is asked whether they meet a want.
+//! A shelf that counts how many reports it is asked about, whether they meet a want.
 
 use crate::world::requests_of;
 use circle::directory::Person;
@@ -10,7 +10,7 @@ use redact::{Excerpt, Want};
 use std::alloc::{AllocError, Global};
 use trying_hub::{Fields, first_shelf, key_of};
 
-/// A shelf whose calls are answered by another one.
+/// A shelf that has its calls answered by another one.
 #[derive(Drop)]
 struct Counted<Sh: Shelf> {
     shelf: Sh,
@@ -91,14 +91,14 @@ impl<Sh: Shelf> Shelf for Counted<Sh> {
     }
 }
 
-/// Whether the line asks for a page.
+/// Returns whether the line asks for a page.
 fn is_page(line: &str) -> bool {
     let mut fields = Fields::new(line);
     fields.word();
     matches!(fields.word(), "List" | "Search" | "Addressed")
 }
 
-/// Of each page that these lines ask for, behind those of the world, for how many reports the shelf was asked.
+/// Returns about how many reports the shelf was asked, for each page that these lines ask for after those of the world.
 pub fn counts(alloc: Global, lines: &[&str], world: usize) -> Result<String, AllocError> {
     let mut told = String::from_str(alloc, "reports searched for each page:")?;
     let Some(mut shelf) = first_shelf(alloc, key_of(1))? else {

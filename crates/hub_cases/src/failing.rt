@@ -1,4 +1,4 @@
-//! A shelf of which one call fails.
+//! A shelf one of whose calls fails.
 
 ghost use Rattle.std.specs.Prelude.{◌≡◌, ◌<◌, ◌+◌, IfErr, OnOk};
 ghost use Rattle.hub_core.specs.Shelves.{HasCause, last_count};
@@ -9,17 +9,17 @@ use iodef_tree::Document;
 use policy::{Case, Standing};
 use redact::{Excerpt, Want};
 
-/// A shelf whose calls are answered by another one, but for one of them: behind so many calls, one fails and does nothing.
+/// A shelf that has its calls answered by another one. After so many calls, one fails and does nothing.
 #[derive(Drop)]
 pub struct Failing<Sh: Shelf> {
     pub shelf: Sh,
-    /// How many calls are to be answered before the one that fails.
+    /// How many calls are answered before the one that fails.
     pub calls: u64,
     pub failures: u64,
 }
 
 impl<Sh: Shelf> Failing<Sh> {
-    /// Whether this call is answered. At the last value of the count none is.
+    /// Returns whether this call is answered. At the last value of the count none is.
     fn ask(&mut self) -> Result<(), ShelfFault>
         ensures shelf { self.new.shelf ≡ self.old.shelf }
         ensures cause { HasCause self.old.failures self.new.failures result }
@@ -39,7 +39,7 @@ impl<Sh: Shelf> Failing<Sh> {
         Err(ShelfFault::Failed)
     }
 
-    /// What the other shelf answered; a failure of its is counted.
+    /// Returns what the other shelf answered, and counts its failure.
     fn count_failure<T>(&mut self, outcome: Result<T, ShelfFault>) -> Result<T, ShelfFault>
         requires { self.old.failures < last_count }
         ensures same { result ≡ outcome }

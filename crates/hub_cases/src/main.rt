@@ -1,25 +1,30 @@
-//! Runs the hub over both shelves for the cases on standard input, and prints what each request is answered.
+//! Runs the hub over both shelves for the cases on standard input, and prints the answer to each request.
 //!
 //! A case is a block of lines, one request a line, with an empty line behind it; each case is one list that is run. The
 //! first block sets up the organisations, persons and groups, and its requests come before those of every later block.
-//! The shelf begins with organisation 1 and its administrator, person 1. A line that begins with `#` is printed as it is.
+//! The shelf begins with organisation 1 and its administrator, person 1. A line that begins with `#` is printed as it
+//! is.
 //!
-//! A request is WHO|REQUEST|FIELD|FIELD.. with the fields in the request's order; WHO is `p4` for person 4, or `nobody`, and
-//! `p4 at 1717200000` asks at that moment, in seconds since 1970; the others come a second behind one another.
-//! The key of person N is 32 bytes of N. The level of a Post or a Replace is `1@3` where its incidents name community 3. A group
-//! is `-` for none, and so is a class; gates are LEVEL:GROUP:POINTER with a space between; targets and grantees are `person 4`,
-//! `org 3`, `community 1` or `group 1`.
-//! `150 times` before a request asks it so often; in it `<n>` is the number of the time, and `<a,b>` is a and b in turn.
+//! A request is WHO|REQUEST|FIELD|FIELD.. with the fields in the request's order. WHO is `p4` for person 4, or
+//! `nobody`, and `p4 at 1717200000` asks at that moment, in seconds since 1970. Each other request comes a second after
+//! the one before. The key of person N is 32 bytes of N. The level of a Post or a Replace is `1@3` if its incidents
+//! name community 3. A group is `-` for none, and so is a class. Gates are LEVEL:GROUP:POINTER with a space between
+//! them. Targets and grantees are `person 4`, `org 3`, `community 1` or `group 1`. `150 times` before a request asks it
+//! so often; in it `<n>` is the number of the time, and `<a,b>` is a and b in turn.
 //!
-//! Behind the answers of a block stands whether tables in memory, opened anew behind each request, answer the same. Behind
-//! all blocks stands what becomes of stores that are made, opened and refused, the lines of a report as rows, what is answered
-//! where a row is missing in the middle of a report, and stores of older versions, brought to the newest.
+//! The answers of a block are followed by whether tables in memory, opened again after each request, answer the same.
+//! All blocks are followed by the outcomes of stores that are made, opened and refused; the lines of a report as rows;
+//! the answers if a row is missing in the middle of a report; and stores of older versions, migrated to the newest.
 //!
-//! A block with a line `every call fails` is run once more for each call of the shelf, which then fails that one time: one
-//! request is answered F1, and all others as if that one hadn't been made. One with a line `steps are limited` is run once more
-//! over tables for each limit on the steps of a statement, from one on: a request is answered F1 or as with no limit, behind F1
-//! everybody sees what stood before, and the same request is then answered with no limit. Behind one with a line `searches are
-//! counted` stands for each of its pages for how many reports the shelf was asked whether they meet what is wanted.
+//! A block with a line `every call fails` is run once more for each call of the shelf, which then fails that one time.
+//! One request must be answered F1, and all others as if that one hadn't been made.
+//!
+//! A block with a line `steps are limited` is run once more over tables for each limit on the steps of a statement,
+//! from one on. A request must be answered F1 or as without a limit. After F1 everybody must see the same as before,
+//! and then the same request must be answered without a limit.
+//!
+//! A block with a line `searches are counted` prints for each of its pages how many reports the shelf was asked about,
+//! whether they meet the want.
 #![tactic(auto)]
 
 mod block;

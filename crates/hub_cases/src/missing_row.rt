@@ -1,4 +1,4 @@
-//! A store of which somebody took a row away: in the middle of a report the label of an event, or the gate at its root.
+//! A store from which somebody removed a row: in the middle of a report the label of an event, or the gate at its root.
 
 use crate::block::Block;
 use crate::stored_lines::post_all;
@@ -10,13 +10,13 @@ use hub_store::SqlShelf;
 use sqlite::{Connection, MemStore};
 use std::alloc::{AllocError, Global};
 
-/// Two reports, of which a stranger sees all but the event.
+/// Two reports, of which a stranger sees everything except for the event.
 const POSTS: [&str; 2] = [
     "p2|Post|3|-||{\"Incident\":[{\"Contact\":[],\"EventData\":[{\"Description\":[\"x\"],\"restriction\":\"red\"}],\"GenerationTime\":\"g\",\"IncidentID\":\"7\",\"purpose\":\"reporting\",\"restriction\":\"public\"}],\"version\":\"2.0\"}",
     "p2|Post|3|-||{\"Incident\":[{\"Contact\":[],\"EventData\":[{\"Description\":[\"x\"],\"restriction\":\"red\"}],\"GenerationTime\":\"g\",\"IncidentID\":\"8\",\"purpose\":\"reporting\",\"restriction\":\"public\"}],\"version\":\"2.0\"}",
 ];
 
-/// A row of the first report that somebody takes away, and what is asked behind it.
+/// A row of the first report that somebody removes, and the requests after it.
 #[derive(Clone, Copy)]
 struct Loss {
     name: &'static str,
@@ -58,7 +58,7 @@ const LOSSES: [Loss; 2] = [
     },
 ];
 
-/// The shelf over the tables without that row; none where the statement or the opening is refused.
+/// Returns the shelf over the tables without that row, or none if the statement or the opening is refused.
 fn without_row(
     alloc: Global,
     mut conn: Connection<MemStore>,
@@ -70,7 +70,7 @@ fn without_row(
     }
 }
 
-/// What is printed behind one of the losses.
+/// Returns what is printed for one of the losses.
 fn told_behind(alloc: Global, world: &Block, loss: Loss) -> Result<Vec<String>, AllocError> {
     let mut all = Vec::new(alloc);
     let whole = post_all(alloc, world, &POSTS)?;
@@ -88,7 +88,7 @@ fn told_behind(alloc: Global, world: &Block, loss: Loss) -> Result<Vec<String>, 
     Ok(all)
 }
 
-/// What is printed of all losses.
+/// Returns what is printed for all losses.
 pub fn all(alloc: Global, world: &Block) -> Result<Vec<String>, AllocError> {
     let mut all = Vec::new(alloc);
     for loss in LOSSES {

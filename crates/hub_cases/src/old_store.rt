@@ -1,5 +1,5 @@
-//! Stores of older versions, made by their SQL texts, and brought to the newest version: a report that one organisation may
-//! see a class of, and one with a class for the communities of its source.
+//! Stores of older versions, made by their SQL texts, and migrated to the newest version. They have a report with a
+//! class that one organisation may see, and one with a class for the communities of its source.
 
 use crate::openings::fault_told;
 use crate::tables::open_tables;
@@ -47,7 +47,7 @@ const UNREAD_1: [&str; 2] = [
     "INSERT INTO incident VALUES (1, 2, '\"7\"', 1, '{')",
 ];
 
-/// What version 2 made of the tables of version 1.
+/// The statements by which version 2 changed the tables of version 1.
 const TABLES_2: [&str; 3] = [
     "CREATE TABLE item (incident INTEGER NOT NULL, place INTEGER NOT NULL, depth INTEGER NOT NULL, name TEXT NOT NULL, in_array INTEGER NOT NULL, kind INTEGER NOT NULL, text TEXT NOT NULL, UNIQUE (incident, place)) STRICT",
     "DROP TABLE incident",
@@ -60,7 +60,7 @@ const ROWS_2: [&str; 2] = [
     "INSERT INTO permission VALUES (1, '/Incident/0/EventData/0', 1, 4)",
 ];
 
-/// What version 3 made of the tables of version 2.
+/// The statements by which version 3 changed the tables of version 2.
 const TABLES_3: [&str; 2] = [
     "DROP TABLE permission",
     "CREATE TABLE permission (incident INTEGER NOT NULL, path TEXT NOT NULL, kind INTEGER NOT NULL, target INTEGER NOT NULL, until INTEGER, UNIQUE (incident, path, kind, target)) STRICT",
@@ -79,7 +79,7 @@ const IN_LINES: [&str; 3] = [
     "INSERT INTO item VALUES (2, 1, 1, 'Incident', 1, 0, ''), (2, 2, 2, 'Contact', 1, 0, ''), (2, 3, 3, 'ContactName', 1, 1, 'n'), (2, 4, 3, 'Email', 1, 0, ''), (2, 5, 4, 'EmailTo', 0, 1, 'e'), (2, 6, 4, 'restriction', 0, 1, 'green'), (2, 7, 3, 'restriction', 0, 1, 'red'), (2, 8, 2, 'GenerationTime', 0, 1, 'g'), (2, 9, 2, 'IncidentID', 0, 1, '3'), (2, 10, 2, 'purpose', 0, 1, 'reporting'), (2, 11, 2, 'restriction', 0, 1, 'public'), (2, 12, 1, 'version', 0, 1, '2.0')",
 ];
 
-/// What is asked of a store that is open.
+/// The requests to a store that is open.
 const ASKED: [&str; 4] = [
     "p4 at 0|View|1",
     "p4 at 9223372036854775807|View|1",
@@ -87,7 +87,7 @@ const ASKED: [&str; 4] = [
     "p1|Explain|6|2|/Incident/0/Contact/0/Email/0",
 ];
 
-/// Opened, brought to the newest version, once more, and opened then.
+/// Opens the store, migrates it to the newest version, migrates it again, and opens it.
 const TURNS_1: [(&str, bool); 4] = [
     ("version 1", false),
     ("version 1, migrated", true),
@@ -117,7 +117,7 @@ const UNREAD_TURNS: [(&str, bool); 2] = [
     ("as before", false),
 ];
 
-/// Whether the statements were all run.
+/// Returns whether all statements were run.
 fn are_run(conn: &mut Connection<MemStore>, statements: &[&str]) -> bool {
     for text in statements {
         if conn.execute(text, &[]).is_err() {
@@ -127,8 +127,8 @@ fn are_run(conn: &mut Connection<MemStore>, statements: &[&str]) -> bool {
     true
 }
 
-/// What person 4 sees of the first incident at the first moment and at the last, what person 6 sees of the second and why,
-/// and the shelf.
+/// Returns what person 4 sees of the first incident at the first moment and at the last, what person 6 sees of the
+/// second and why, and the shelf.
 fn look<S: Alter + Drop>(
     alloc: Global,
     shelf: SqlShelf<S>,
@@ -143,7 +143,7 @@ fn look<S: Alter + Drop>(
     Ok((told, hub.into_shelf()))
 }
 
-/// Opens it or brings it to the newest version, tells what is seen then, or the fault, and gives the connection back.
+/// Opens the store or migrates it to the newest version. Returns what is seen then, or the fault, and the connection.
 fn told_by(
     alloc: Global,
     conn: Connection<MemStore>,
@@ -158,7 +158,7 @@ fn told_by(
     }
 }
 
-/// What is printed of a store that is opened or migrated in turn.
+/// Adds what is printed for a store that is opened or migrated in turn.
 fn in_turn(
     alloc: Global,
     conn: Connection<MemStore>,
@@ -174,7 +174,7 @@ fn in_turn(
     Ok(())
 }
 
-/// A store with the tables of version 1 and the rows of every version; none where a statement is refused.
+/// Returns a store with the tables of version 1 and the rows of every version, or none if a statement is refused.
 fn begun(alloc: Global) -> Result<Option<Connection<MemStore>>, AllocError> {
     let mut conn = Connection::open_in_memory(alloc)?;
     if are_run(&mut conn, &TABLES) && are_run(&mut conn, &ROWS) {
@@ -184,7 +184,7 @@ fn begun(alloc: Global) -> Result<Option<Connection<MemStore>>, AllocError> {
     }
 }
 
-/// The store after these statements too; none where one of them is refused.
+/// Returns the store after these statements too, or none if one of them is refused.
 fn behind(
     store: Option<Connection<MemStore>>,
     statements: &[&str],
@@ -197,7 +197,7 @@ fn behind(
     }
 }
 
-/// What is printed of a store, if it was made.
+/// Adds what is printed for a store, if it was made.
 fn print_store(
     alloc: Global,
     made: Option<Connection<MemStore>>,
@@ -210,7 +210,7 @@ fn print_store(
     }
 }
 
-/// What is printed of each version, and of reports that don't read back.
+/// Returns what is printed for each version, and for reports that don't read back.
 pub fn all(alloc: Global) -> Result<Vec<String>, AllocError> {
     let mut all = Vec::new(alloc);
     let first = behind(begun(alloc)?, &ROWS_1);

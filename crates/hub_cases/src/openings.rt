@@ -7,7 +7,7 @@ use sqlite::{Alter, Connection};
 use std::alloc::{AllocError, Global};
 use trying_hub::key_of;
 
-/// A fault by its name.
+/// Returns the name of a fault.
 pub fn fault_told(alloc: Global, fault: OpenFault) -> Result<String, AllocError> {
     match fault {
         OpenFault::NotOurs => String::from_str(alloc, "NotOurs"),
@@ -17,7 +17,7 @@ pub fn fault_told(alloc: Global, fault: OpenFault) -> Result<String, AllocError>
     }
 }
 
-/// What a store in memory is opened as, after these statements.
+/// Returns how opening a store in memory ends, after these statements.
 fn told_of(alloc: Global, statements: &str, migrates: bool) -> Result<String, AllocError> {
     let mut conn = Connection::open_in_memory(alloc)?;
     if let Err(_) = conn.execute_batch(statements) {
@@ -29,7 +29,7 @@ fn told_of(alloc: Global, statements: &str, migrates: bool) -> Result<String, Al
     }
 }
 
-/// What the shelf holds of what it began with.
+/// Returns whether the shelf has the row with which it began.
 fn describe_content<S: Alter>(shelf: &mut SqlShelf<S>) -> &'static str {
     match shelf.person_by_key(&key_of(1)) {
         Ok(Some(_)) => "person 1 is there",
@@ -38,7 +38,7 @@ fn describe_content<S: Alter>(shelf: &mut SqlShelf<S>) -> &'static str {
     }
 }
 
-/// The connection that a refused opening gave back takes new tables.
+/// Returns whether the connection that a refused opening gave back takes new tables.
 fn made_after_refusal(alloc: Global) -> Result<&'static str, AllocError> {
     match open_tables(alloc, Connection::open_in_memory(alloc)?, false) {
         Ok(_) => Ok("opened"),
@@ -49,7 +49,7 @@ fn made_after_refusal(alloc: Global) -> Result<&'static str, AllocError> {
     }
 }
 
-/// Tables are made once; the connection comes back with what it held.
+/// Returns whether tables are made only once, and whether the connection comes back with its rows.
 fn made_twice(alloc: Global) -> Result<&'static str, AllocError> {
     let Some(shelf) = begun(alloc)? else {
         return Ok("not made");
@@ -64,7 +64,7 @@ fn made_twice(alloc: Global) -> Result<&'static str, AllocError> {
     }
 }
 
-/// What was kept is there after a release and an opening.
+/// Returns whether the rows are there after a release and an opening.
 fn opened_again(alloc: Global, migrates: bool) -> Result<&'static str, AllocError> {
     let Some(shelf) = begun(alloc)? else {
         return Ok("not made");
@@ -80,7 +80,7 @@ fn push(alloc: Global, all: &mut Vec<String>, what: &str, told: &str) -> Result<
     Ok(())
 }
 
-/// Statements, and what they make.
+/// Statements, and the store that they make.
 const STORES: [(&str, &str); 13] = [
     ("an empty store", ""),
     (
@@ -133,7 +133,7 @@ const STORES: [(&str, &str); 13] = [
     ),
 ];
 
-/// What is printed of stores that are made and opened.
+/// Returns what is printed for stores that are made and opened.
 pub fn all(alloc: Global) -> Result<Vec<String>, AllocError> {
     let mut all = Vec::new(alloc);
     for (what, statements) in STORES {

@@ -14,7 +14,7 @@ use trying_hub::{first_shelf, key_of};
 /// More calls of the shelf than a case makes.
 const MOST_CALLS: u64 = 10_000;
 
-/// What the requests are answered, but for one that isn't made; none where the memory doesn't suffice.
+/// Returns the answers to the requests except for one that isn't made, or none if the memory doesn't suffice.
 fn replies(
     alloc: Global,
     lines: &[&str],
@@ -30,7 +30,7 @@ fn replies(
     }
 }
 
-/// What the requests are answered where one call of the shelf fails, behind so many others; none where none failed.
+/// Returns the answers to the requests if one call of the shelf fails, after so many others, or none if none failed.
 fn replies_failing(
     alloc: Global,
     lines: &[&str],
@@ -55,13 +55,13 @@ fn replies_failing(
     }
 }
 
-/// Whether all but one are the same.
+/// Returns whether all except for one are the same.
 fn same_but_one(told: &[String], others: &[String], place: usize) -> bool {
     let (before, behind) = told.split_at(place.min(told.len()));
     behind.len() > 0 && others.iter().eq(before.iter().chain(behind.iter().skip(1)))
 }
 
-/// Whether exactly one request is answered F1, and the others as if it hadn't been made.
+/// Returns whether exactly one request is answered F1, and the others as if it hadn't been made.
 fn is_as_if_not_made(alloc: Global, lines: &[&str], told: &[String]) -> Result<bool, AllocError> {
     let Some(place) = told.iter().position(|reply| reply.as_str() == "F1") else {
         return Ok(false);
@@ -93,7 +93,7 @@ fn failed_in_turn(alloc: Global, lines: &[&str]) -> Result<&'static str, AllocEr
     Ok("more calls than expected")
 }
 
-/// Whether the tables answer as the shelf in memory did.
+/// Returns whether the tables answer as the shelf in memory did.
 fn over_tables(alloc: Global, lines: &[&str], told: &[String]) -> Result<&'static str, AllocError> {
     match tables::replies(alloc, lines)? {
         Some(others) if others.iter().eq(told.iter()) => Ok("the same over tables"),
@@ -102,7 +102,7 @@ fn over_tables(alloc: Global, lines: &[&str], told: &[String]) -> Result<&'stati
     }
 }
 
-/// What is printed for a block: the answer to each of its requests, and how the tables answered.
+/// Returns what is printed for a block: the answer to each of its requests, and how the tables answered.
 pub fn answers(alloc: Global, world: &Block, block: &Block) -> Result<Vec<String>, AllocError> {
     let lines = lines_of(alloc, world, block)?;
     let mut answers = Vec::new(alloc);

@@ -13,7 +13,7 @@ use trying_hub::{first_shelf, key_of};
 /// More steps than a statement of a case takes.
 const MOST_STEPS: u64 = 100_000;
 
-/// What everybody looks at behind a request that was given up.
+/// What everybody asks for after a request that was given up.
 const LOOKS: [&str; 8] = [
     "p2|List|0",
     "p2|View|1",
@@ -25,21 +25,21 @@ const LOOKS: [&str; 8] = [
     "p6|View|1",
 ];
 
-/// When who asks what.
+/// A moment, the key of the caller, and the request.
 type Asked = (i64, Key, Request);
 
-/// Tables and a hub in memory that are asked the same, but for what the tables gave up.
+/// Tables and a hub in memory that are asked the same, except for what the tables gave up.
 #[derive(Drop)]
 struct Trial {
     tables: SqlShelf<MemStore>,
     plain: Hub<ListShelf>,
     /// How many requests were given up.
     interruptions: u64,
-    /// How many answers of the tables were other ones.
+    /// How many answers of the tables differed.
     differences: u64,
 }
 
-/// What the tables answer within so many steps a statement; 0 is no limit.
+/// Returns the answer of the tables within so many steps a statement; 0 is no limit.
 fn answer_within(
     alloc: Global,
     mut tables: SqlShelf<MemStore>,
@@ -56,7 +56,7 @@ fn answer_within(
 }
 
 impl Trial {
-    /// With one more answer of the tables, which is to be that of the hub in memory.
+    /// Counts a difference if the answer of the tables isn't that of the hub in memory.
     fn compare(&mut self, alloc: Global, told: &str, asked: &Asked) -> Result<(), AllocError> {
         let (now, key, request) = asked;
         let other = reply(alloc, &self.plain.answer(alloc, *now, key, request))?;
@@ -67,7 +67,7 @@ impl Trial {
     }
 }
 
-/// Asks once; tells whether the tables gave up, which they may where the steps are limited.
+/// Asks once. Returns whether the tables gave up, which they may if the steps are limited.
 fn asked_within(
     alloc: Global,
     trial: Trial,
@@ -95,7 +95,7 @@ fn asked_within(
     Ok((false, trial))
 }
 
-/// Asks with no limit.
+/// Asks without a limit.
 fn asked_freely(alloc: Global, trial: Trial, asked: &[Asked]) -> Result<Trial, AllocError> {
     let mut trial = trial;
     for one in asked {
@@ -104,8 +104,8 @@ fn asked_freely(alloc: Global, trial: Trial, asked: &[Asked]) -> Result<Trial, A
     Ok(trial)
 }
 
-/// Asks each within the limit. Where the tables give up, everybody sees what stood before, and with no limit the same request
-/// is answered.
+/// Asks each within the limit. If the tables give up, everybody must see the same as before, and the same request must
+/// be answered without a limit.
 fn asked_all(
     alloc: Global,
     trial: Trial,
@@ -125,7 +125,7 @@ fn asked_all(
     Ok(trial)
 }
 
-/// What comes of the requests within so many steps a statement; none where the tables aren't made.
+/// Returns the outcome of the requests within so many steps a statement, or none if the tables aren't made.
 fn try_limit(
     alloc: Global,
     steps: u64,

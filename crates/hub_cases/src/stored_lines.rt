@@ -8,7 +8,7 @@ use hub_store::SqlShelf;
 use sqlite::{Connection, MemStore};
 use std::alloc::{AllocError, Global};
 
-/// The tables, once these are posted behind the requests of the world; none where they aren't made.
+/// Returns the tables, once these are posted after the requests of the world, or none if they aren't made.
 pub fn post_all(
     alloc: Global,
     world: &Block,
@@ -29,7 +29,7 @@ pub fn post_all(
     }
 }
 
-/// The names of the lines, in the order of their incidents and places.
+/// Returns the names of the lines, in the order of their incidents and places.
 fn names(alloc: Global, mut conn: Connection<MemStore>) -> Result<String, AllocError> {
     let Ok(rows) = conn.query_all("SELECT name FROM item ORDER BY incident, place", &[]) else {
         return String::from_str(alloc, "the tables failed");
@@ -44,7 +44,7 @@ fn names(alloc: Global, mut conn: Connection<MemStore>) -> Result<String, AllocE
     Ok(all)
 }
 
-/// What is printed of a report of two events.
+/// Returns what is printed for a report of two events.
 pub fn describe(alloc: Global, world: &Block) -> Result<String, AllocError> {
     match post_all(alloc, world, &["p2|Post|3|-||DOC2"])? {
         Some(shelf) => names(alloc, shelf.release()),

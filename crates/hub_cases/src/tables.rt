@@ -9,7 +9,7 @@ use sqlite::{Alter, Connection, MemStore};
 use std::alloc::{AllocError, Global};
 use trying_hub::{first_rows, key_of};
 
-/// New tables over the connection, which comes back where they aren't made.
+/// Makes new tables over the connection. Returns the connection if they aren't made.
 pub fn make_tables<S: Alter + Drop>(
     alloc: Global,
     conn: Connection<S>,
@@ -21,7 +21,7 @@ pub fn make_tables<S: Alter + Drop>(
     }
 }
 
-/// The tables of the connection, opened or brought to the newest version.
+/// Opens the tables of the connection, or migrates them to the newest version.
 pub fn open_tables<S: Alter + Drop>(
     alloc: Global,
     conn: Connection<S>,
@@ -37,7 +37,7 @@ pub fn open_tables<S: Alter + Drop>(
     }
 }
 
-/// New tables in memory with organisation 1 and person 1; none where they weren't made.
+/// Returns new tables in memory with organisation 1 and person 1, or none if they weren't made.
 pub fn begun(alloc: Global) -> Result<Option<SqlShelf<MemStore>>, AllocError> {
     let Ok(mut shelf) = make_tables(alloc, Connection::open_in_memory(alloc)?) else {
         return Ok(None);
@@ -48,8 +48,8 @@ pub fn begun(alloc: Global) -> Result<Option<SqlShelf<MemStore>>, AllocError> {
     }
 }
 
-/// What the requests are answered over tables that are released and opened anew behind each; none where the tables failed
-/// or the memory doesn't suffice.
+/// Returns the answers to the requests over tables that are released and opened again after each. Returns none if the
+/// tables failed or the memory doesn't suffice.
 pub fn replies(alloc: Global, lines: &[&str]) -> Result<Option<Vec<String>>, AllocError> {
     let Some(mut shelf) = begun(alloc)? else {
         return Ok(None);

@@ -1,4 +1,4 @@
-//! What each case begins with.
+//! The requests with which each case begins.
 
 use crate::block::Block;
 use hub::Key;
@@ -7,8 +7,8 @@ use std::alloc::{AllocError, Global};
 use trying::number_of;
 use trying_hub::{Fields, key_of, request_of};
 
-/// The moment of the first request, in seconds since 1970; each comes a second behind the one before, but for those whose
-/// line names another.
+/// The moment of the first request, in seconds since 1970. Each comes a second after the one before, unless its line
+/// names another moment.
 const FIRST_MOMENT: i64 = 1_700_000_000;
 
 fn push_lines<'a>(lines: &mut Vec<&'a str>, block: &'a Block) -> Result<(), AllocError> {
@@ -18,7 +18,7 @@ fn push_lines<'a>(lines: &mut Vec<&'a str>, block: &'a Block) -> Result<(), Allo
     Ok(())
 }
 
-/// The lines of a case: those of the world, and its own behind them.
+/// Returns the lines of a case: those of the world, and its own behind them.
 pub fn lines_of<'a>(
     alloc: Global,
     world: &'a Block,
@@ -30,7 +30,7 @@ pub fn lines_of<'a>(
     Ok(lines)
 }
 
-/// By what the caller is known.
+/// Returns the key by which the caller is known.
 fn caller(word: &str) -> Key {
     match word.split_once('p') {
         Some((_, number)) => Key::Digest(key_of(number_of(number))),
@@ -38,7 +38,7 @@ fn caller(word: &str) -> Key {
     }
 }
 
-/// Who asks, and at which moment if it is named: `p4`, or `p4 at 1717200000`.
+/// Returns the caller's key, and the moment if one is named: `p4`, or `p4 at 1717200000`.
 fn who_and_when(words: &str) -> (Key, Option<i64>) {
     match words.split_once(" at ") {
         Some((who, moment)) => (caller(who), moment.parse::<i64>().ok()),
@@ -46,14 +46,14 @@ fn who_and_when(words: &str) -> (Key, Option<i64>) {
     }
 }
 
-/// Who asks what, by a line, and when, if the line names no moment.
+/// Returns the moment, the key and the request of a line. The moment is `now` if the line names none.
 fn asked_of(alloc: Global, line: &str, now: i64) -> Result<(i64, Key, Request), AllocError> {
     let mut fields = Fields::new(line);
     let (key, moment) = who_and_when(fields.word());
     Ok((moment.unwrap_or(now), key, request_of(alloc, &mut fields)?))
 }
 
-/// The requests of these lines, but for one.
+/// Returns the requests of these lines, except for one.
 pub fn requests_of(
     alloc: Global,
     lines: &[&str],

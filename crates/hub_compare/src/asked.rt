@@ -1,4 +1,4 @@
-//! Generated requests: who asks, when, and what about.
+//! Generated requests, each with its caller, its moment and its incident.
 
 use crate::commands::{any_administration, any_coordination};
 use crate::posting::{any_post, any_replace};
@@ -11,7 +11,7 @@ use hub_core::Request;
 use std::alloc::AllocError;
 use trying::Dice;
 
-/// A request, when it is asked, and by whom.
+/// A request, its moment, and its caller's key.
 #[derive(Drop)]
 pub struct Asked {
     pub now: i64,
@@ -19,7 +19,7 @@ pub struct Asked {
     pub request: Request,
 }
 
-/// Who asks, of which organisation, and about which incident.
+/// The person who asks, its organisation, and the incident of the request.
 #[derive(Clone, Copy)]
 pub struct Asker {
     pub who: u32,
@@ -27,7 +27,7 @@ pub struct Asker {
     pub incident: u32,
 }
 
-/// What a request is for, and so whose it is.
+/// The purpose of a request, and so the persons who may make it.
 #[derive(Clone, Copy)]
 enum Trade {
     Administration,
@@ -51,7 +51,7 @@ fn any_trade(dice: &mut Dice) -> Trade {
     }
 }
 
-/// Whether the person has a role for the trade and, where an incident is changed, is of its source.
+/// Returns whether the person has a role for the trade and, if an incident is changed, is of its source.
 fn suits(person: &Person, trade: Trade, source: Option<u32>) -> bool {
     let may_post = person.role == Role::Coordinator || person.role == Role::Poster;
     match trade {
@@ -65,7 +65,7 @@ fn suits(person: &Person, trade: Trade, source: Option<u32>) -> bool {
     }
 }
 
-/// The number of an incident, one that is there mostly.
+/// Returns the number of an incident, mostly of one that is there.
 fn any_incident(dice: &mut Dice, world: &World) -> u32 {
     let count = count_of(world.incidents.as_slice());
     if dice.once_in(12) {
@@ -74,7 +74,7 @@ fn any_incident(dice: &mut Dice, world: &World) -> u32 {
     dice.one_to(count)
 }
 
-/// A person for the trade, mostly.
+/// Returns a person, mostly one for the trade.
 fn any_asker(dice: &mut Dice, world: &World, trade: Trade) -> Result<Asker, AllocError> {
     let incident = any_incident(dice, world);
     let source = match world.incident(incident) {
@@ -118,7 +118,7 @@ fn any_request(
     })
 }
 
-/// A request of somebody.
+/// Returns a request of some person.
 pub fn any_asked(dice: &mut Dice, world: &World) -> Result<Asked, AllocError> {
     let trade = any_trade(dice);
     let asker = any_asker(dice, world, trade)?;

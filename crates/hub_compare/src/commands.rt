@@ -1,4 +1,4 @@
-//! Generated commands of the directory; what they name is mostly there.
+//! Generated commands of the directory. The rows that they name mostly exist.
 
 use crate::world::{KEYS, Relation, World, count_of, handling_of, key_of};
 use circle::command::CircleCommand;
@@ -7,7 +7,7 @@ use circle::text::Text;
 use std::alloc::{AllocError, Global};
 use trying::Dice;
 
-/// A text of so many bytes.
+/// Returns a text of so many bytes.
 pub fn long(alloc: Global, count: u32) -> Result<Text, AllocError> {
     let mut text = String::new(alloc);
     for _ in 0..count {
@@ -16,7 +16,7 @@ pub fn long(alloc: Global, count: u32) -> Result<Text, AllocError> {
     Ok(Text::new(text))
 }
 
-/// A name for a row of this kind, mostly a good one; in three of eight that of the row of this number.
+/// Returns a name for a row of this kind, mostly a good one; in three of eight that of the row of this number.
 fn any_name(dice: &mut Dice, alloc: Global, kind: &str, row: u32) -> Result<Text, AllocError> {
     match dice.roll(16) {
         0 => Text::of(alloc, ""),
@@ -33,7 +33,7 @@ fn any_name(dice: &mut Dice, alloc: Global, kind: &str, row: u32) -> Result<Text
     }
 }
 
-/// A role by chance.
+/// Returns a role by chance.
 pub fn any_role(dice: &mut Dice) -> Role {
     match dice.roll(8) {
         0 => Role::Administrator,
@@ -43,7 +43,7 @@ pub fn any_role(dice: &mut Dice) -> Role {
     }
 }
 
-/// The numbers of a pair that stands, or others; in one of eight twice the same.
+/// Returns the numbers of a pair that exists, or others; in one of eight twice the same.
 fn any_pair(
     dice: &mut Dice,
     world: &World,
@@ -63,7 +63,7 @@ fn any_pair(
     Ok(if dice.once_in(8) { (b, b) } else { (a, b) })
 }
 
-/// A client, a member of a community or a link of two communities, put or taken out.
+/// Returns a command that adds or removes a client, a member of a community or a link of two communities.
 fn any_tie(dice: &mut Dice, world: &World) -> Result<CircleCommand, AllocError> {
     let kind = dice.roll(6);
     let (relation, counts) = match kind {
@@ -94,7 +94,7 @@ fn any_tie(dice: &mut Dice, world: &World) -> Result<CircleCommand, AllocError> 
     })
 }
 
-/// The person itself, one that is suspended, or any other.
+/// Returns the person itself, one that is suspended, or any other.
 fn any_to_suspend(dice: &mut Dice, world: &World, who: u32) -> Result<u32, AllocError> {
     let mut suspended = Vec::new(world.alloc);
     for account in world.accounts.iter() {
@@ -107,7 +107,7 @@ fn any_to_suspend(dice: &mut Dice, world: &World, who: u32) -> Result<u32, Alloc
     Ok(dice.one_of_or(4, suspended.as_slice(), other))
 }
 
-/// A command of an administrator's, the person of this number.
+/// Returns a command of an administrator, the person of this number.
 pub fn any_administration(
     dice: &mut Dice,
     world: &World,
@@ -134,7 +134,7 @@ pub fn any_administration(
     })
 }
 
-/// An organisation, in one of two one that is in a pair of this relation behind this number.
+/// Returns an organisation, in one of two one that is in a pair of this relation behind this number.
 fn any_org(dice: &mut Dice, world: &World, relation: Relation, a: u32) -> Result<u32, AllocError> {
     let mut partners = Vec::new(world.alloc);
     for pair in world.pairs.iter() {
@@ -146,7 +146,7 @@ fn any_org(dice: &mut Dice, world: &World, relation: Relation, a: u32) -> Result
     Ok(dice.one_of_or(2, partners.as_slice(), other))
 }
 
-/// A group of which the organisation is a member mostly, and more often one that it owns.
+/// Returns a group, mostly one of which the organisation is a member, and more often one that it owns.
 pub fn any_group(dice: &mut Dice, world: &World, own: u32) -> Result<u32, AllocError> {
     let mut joined = Vec::new(world.alloc);
     for pair in world.pairs.iter() {
@@ -163,7 +163,7 @@ pub fn any_group(dice: &mut Dice, world: &World, own: u32) -> Result<u32, AllocE
     })
 }
 
-/// A person, in one of two one of the organisation.
+/// Returns a person, in one of two one of the organisation.
 fn any_person(dice: &mut Dice, world: &World, own: u32) -> Result<u32, AllocError> {
     let mut persons = Vec::new(world.alloc);
     for account in world.accounts.iter() {
@@ -175,7 +175,7 @@ fn any_person(dice: &mut Dice, world: &World, own: u32) -> Result<u32, AllocErro
     Ok(dice.one_of_or(2, persons.as_slice(), other))
 }
 
-/// The group's members changed, or whether it is active.
+/// Returns a command that changes the group's members, or whether it is active.
 fn any_group_change(
     dice: &mut Dice,
     world: &World,
@@ -205,7 +205,7 @@ fn any_releasability(dice: &mut Dice, alloc: Global) -> Result<Text, AllocError>
     }
 }
 
-/// A command of a coordinator's of this organisation.
+/// Returns a command of a coordinator of this organisation.
 pub fn any_coordination(
     dice: &mut Dice,
     world: &World,

@@ -3,7 +3,7 @@
 use std::alloc::{AllocError, Global};
 use trying::Dice;
 
-/// What is wrong with a body.
+/// The flaw of a body.
 #[derive(Clone, Copy, PartialEq, Eq)]
 pub enum Flaw {
     Nothing,
@@ -17,7 +17,7 @@ pub enum Flaw {
     BadMarking,
 }
 
-/// Nothing in six of fourteen.
+/// Returns a flaw; none in six of fourteen.
 pub fn any_flaw(dice: &mut Dice) -> Flaw {
     match dice.roll(14) {
         0 => Flaw::NotJson,
@@ -32,7 +32,7 @@ pub fn any_flaw(dice: &mut Dice) -> Flaw {
     }
 }
 
-/// Members that spell a label, behind others; none mostly.
+/// Returns members that spell a label, behind others; mostly none.
 fn label(dice: &mut Dice) -> &'static str {
     match dice.roll(24) {
         0 | 1 => ",\"restriction\":\"public\"",
@@ -54,7 +54,7 @@ fn label(dice: &mut Dice) -> &'static str {
     }
 }
 
-/// A member whose class spells none.
+/// Returns a member whose class spells no label.
 fn no_label(dice: &mut Dice) -> &'static str {
     match dice.roll(7) {
         0 => ",\"zone\":{\"restriction\":\"secret\"}",
@@ -87,7 +87,7 @@ fn contacts(dice: &mut Dice) -> &'static str {
     }
 }
 
-/// The text so many times.
+/// Returns the text so many times.
 fn repeat(alloc: Global, text: &str, count: u32) -> Result<String, AllocError> {
     let mut all = String::new(alloc);
     for _ in 0..count {
@@ -96,7 +96,7 @@ fn repeat(alloc: Global, text: &str, count: u32) -> Result<String, AllocError> {
     Ok(all)
 }
 
-/// An event with a label perhaps; in one of two with a flow of systems that may have labels too.
+/// Returns an event, in some cases with a label; in one of two with a flow of systems that may have labels too.
 fn event(alloc: Global, dice: &mut Dice) -> Result<String, AllocError> {
     let description = description(dice);
     let own = label(dice);
@@ -111,7 +111,7 @@ fn event(alloc: Global, dice: &mut Dice) -> Result<String, AllocError> {
     )
 }
 
-/// One to three events; in wide documents two dozen empty classes.
+/// Returns one to three events; in wide documents two dozen empty classes.
 fn events(alloc: Global, dice: &mut Dice, wide: bool) -> Result<String, AllocError> {
     if wide {
         let more = repeat(alloc, ",{}", 23)?;
@@ -125,7 +125,7 @@ fn events(alloc: Global, dice: &mut Dice, wide: bool) -> Result<String, AllocErr
     Ok(text)
 }
 
-/// A member with the flaw, behind others.
+/// Returns a member with the flaw, behind others.
 fn with_flaw(alloc: Global, dice: &mut Dice, flaw: Flaw) -> Result<String, AllocError> {
     match flaw {
         Flaw::NotWhole => String::from_str(alloc, ",\"zone\":[{\"n\":[1.5]}]"),
@@ -143,7 +143,7 @@ fn with_flaw(alloc: Global, dice: &mut Dice, flaw: Flaw) -> Result<String, Alloc
     }
 }
 
-/// The member's name, or another one where the member is to be missing.
+/// Returns the member's name, or another one if the member must be missing.
 fn unless(is_missing: bool, name: &'static str) -> &'static str {
     if is_missing { "other" } else { name }
 }
@@ -170,7 +170,8 @@ fn incident(
     )
 }
 
-/// A body of an Incident for each of these IncidentIDs, with the flaw in the last; wide ones have two dozen empty classes.
+/// Returns a body of an Incident for each of these IncidentIDs, with the flaw in the last; wide ones have two dozen
+/// empty classes.
 pub fn any_body(
     alloc: Global,
     dice: &mut Dice,
@@ -204,7 +205,7 @@ pub fn any_body(
     Ok(text)
 }
 
-/// The IncidentID of this number: a text, or a class.
+/// Returns the IncidentID of this number: a text, or a class.
 pub fn ident_text(alloc: Global, number: u32) -> Result<String, AllocError> {
     if number % 2 == 0 {
         format!(in alloc; "{{\"id\":\"{number}\",\"name\":\"src.example\"}}")

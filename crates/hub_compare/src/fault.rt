@@ -32,7 +32,7 @@ impl From<ShelfFault> for Fault {
     }
 }
 
-/// A difference in this, unless they are alike.
+/// Fails with a difference of this name, unless they are the same.
 pub fn agree(alike: bool, name: &'static str) -> Result<(), Fault> {
     if alike {
         Ok(())

@@ -1,13 +1,13 @@
 //! Reports of few lines and much text, asked of a shelf that keeps documents.
 //!
-//! Each has 7 lines. Their names have 8 (`Incident`), 7 (`Contact`), 14 (`GenerationTime`), 10 (`IncidentID`), 7 (`purpose`),
-//! 11 (`restriction`) and 1 (`a`) bytes, and their texts 0, 1, 1, 2, 1, 6 and 259,035. With 128 for each line such a report
-//! weighs 896 + 58 + 259,046 = 260,000.
+//! Each has 7 lines. Their names have 8 (`Incident`), 7 (`Contact`), 14 (`GenerationTime`), 10 (`IncidentID`), 7
+//! (`purpose`), 11 (`restriction`) and 1 (`a`) bytes, and their texts 0, 1, 1, 2, 1, 6 and 259,035. With 128 for each
+//! line such a report weighs 896 + 58 + 259,046 = 260,000.
 //!
-//! Each is asked for twice, and so may be kept at its second question. While an eighth of the bound is left it is: of the first
-//! 13 there are 3,380,000 of 3,500,000, so that the 14th is kept too, of all then 3,640,000. From there on one report is kept
-//! behind 64 questions, which is each 32nd: the 46th, for which there is room, and the 78th, for which another goes. So 15 are
-//! kept in the end: 3,900,000.
+//! Each is asked for twice, and so may be kept at its second question. While an eighth of the bound is left it is kept.
+//! The first 13 weigh 3,380,000 of 3,500,000, so that the 14th is kept too; all then weigh 3,640,000. From then on one
+//! report is kept after 64 questions, which is each 32nd: the 46th, for which there is room, and the 78th, for which
+//! another is dropped. So 15 are kept in the end: 3,900,000.
 
 use crate::fault::{Fault, agree};
 use crate::shelves::new_lists;
@@ -18,18 +18,18 @@ use iodef_tree::Path;
 use kept_documents::KeptDocuments;
 use std::alloc::{AllocError, Global};
 
-/// What the kept documents may weigh: 15 of these reports, and not 16.
+/// The greatest weight of the kept documents: 15 of these reports, and not 16.
 pub const MOST_WEIGHT: usize = 4_000_000;
 
-/// How many reports there are; each has an IncidentID of two digits.
+/// The number of reports; each has an IncidentID of two digits.
 pub const REPORTS: u32 = 80;
 
 const FIRST_ID: u32 = 10;
 
-/// How many bytes the text of the long line has.
+/// The number of bytes in the text of the long line.
 const LONG: u32 = 259_035;
 
-/// A report whose IncidentID is this number.
+/// Returns a report whose IncidentID is this number.
 fn body(alloc: Global, ident: u32) -> Result<String, AllocError> {
     let mut text = format!(in alloc;
         "{{\"Incident\":[{{\"Contact\":0,\"GenerationTime\":0,\"IncidentID\":{ident},\"purpose\":0,\"restriction\":\"public\"}}],\"a\":\""
@@ -41,7 +41,7 @@ fn body(alloc: Global, ident: u32) -> Result<String, AllocError> {
     Ok(text)
 }
 
-/// A person of the source, and the reports, each with a gate at its root.
+/// Returns a person of the source, and the reports, each with a gate at its root.
 fn reports(alloc: Global) -> Result<World, Fault> {
     let mut world = World::new(alloc);
     world.orgs = 1;
@@ -56,7 +56,7 @@ fn reports(alloc: Global) -> Result<World, Fault> {
     Ok(world)
 }
 
-/// The shelf with the reports, none of which is kept.
+/// Returns the shelf with the reports, none of which is kept.
 fn new_shelf(alloc: Global) -> Result<KeptDocuments<ListShelf, MOST_WEIGHT>, Fault> {
     let edits = reports(alloc)?.into_edits()?;
     match KeptDocuments::new(alloc, new_lists(alloc, edits.as_slice())?) {
@@ -65,7 +65,7 @@ fn new_shelf(alloc: Global) -> Result<KeptDocuments<ListShelf, MOST_WEIGHT>, Fau
     }
 }
 
-/// Asks for the report once. The kept documents must not weigh more than they may.
+/// Asks for the report once. Fails if the kept documents weigh more than they may.
 fn ask(shelf: &mut KeptDocuments<ListShelf, MOST_WEIGHT>, incident: u32) -> Result<(), Fault> {
     let (Some(case), Some(standing)) = (shelf.case(incident)?, shelf.standing(1, incident, 0)?)
     else {
@@ -79,7 +79,7 @@ fn ask(shelf: &mut KeptDocuments<ListShelf, MOST_WEIGHT>, incident: u32) -> Resu
     )
 }
 
-/// What the kept documents weigh when each report was asked for twice.
+/// Returns the weight of the kept documents after each report was asked for twice.
 pub fn weight_in_the_end(alloc: Global) -> Result<usize, Fault> {
     let mut shelf = new_shelf(alloc)?;
     for place in 0..REPORTS {

@@ -1,4 +1,4 @@
-//! A world with all rows of most kinds that there may be but one, and what is replied to whoever asks for more.
+//! A world in which most kinds have room for one more row, and the replies to requests for more.
 
 use crate::asked::Asked;
 use crate::documents::{Flaw, any_body, ident_text};
@@ -20,7 +20,7 @@ use policy::Grantee;
 use std::alloc::{AllocError, Global};
 use trying::{Dice, Tally};
 
-/// How often one more of each kind is asked for; the first time it is the last that there may be.
+/// How often one more of each kind is asked for. The first time it is the last that there may be.
 const TIMES: u32 = 3;
 
 /// The administrator, and a coordinator of organisation 1, which owns the groups and posted the incidents.
@@ -28,10 +28,10 @@ const ADMINISTRATOR: u32 = 1;
 
 const COORDINATOR: u32 = 2;
 
-/// How many incidents there are: more than a page has.
+/// The number of incidents, which is more than a page has.
 const INCIDENTS: u32 = 112;
 
-/// A report under the IncidentID of this number, of many classes where `wide`.
+/// Returns a report under the IncidentID of this number, with many classes if `wide`.
 fn body(alloc: Global, number: u32, wide: bool) -> Result<String, AllocError> {
     let mut idents = Vec::new(alloc);
     idents.push(ident_text(alloc, number)?)?;
@@ -44,7 +44,7 @@ fn body(alloc: Global, number: u32, wide: bool) -> Result<String, AllocError> {
     )
 }
 
-/// Incidents at their last revision but one, with a gate at the root.
+/// Adds incidents at their last revision but one, with a gate at the root.
 fn add_incidents(world: &mut World) -> Result<(), Fault> {
     for place in 0..INCIDENTS {
         let number = place.saturating_add(1);
@@ -56,7 +56,7 @@ fn add_incidents(world: &mut World) -> Result<(), Fault> {
     Ok(())
 }
 
-/// At the first incident all gates at classes, recipients and permissions but one.
+/// Gives the first incident all gates at classes, recipients and permissions except for one of each.
 fn fill_first(world: &mut World) -> Result<(), AllocError> {
     let incident = 1;
     let classes = world.classes(incident)?;
@@ -89,7 +89,7 @@ fn nearly_full(alloc: Global) -> Result<World, Fault> {
     Ok(world)
 }
 
-/// An organisation, a community and a group more, each with who may ask for it.
+/// Returns commands for one more organisation, community and group, each with the person who may ask for it.
 fn commands(alloc: Global, time: u32) -> Result<[(u32, CircleCommand); 3], AllocError> {
     let text = format!(in alloc; "new {time}")?;
     let name = text.as_str();
@@ -110,7 +110,8 @@ fn commands(alloc: Global, time: u32) -> Result<[(u32, CircleCommand); 3], Alloc
     ])
 }
 
-/// A gate, a recipient, a permission and a revision more; the second time the incident has the last revision.
+/// Returns requests for one more gate, recipient, permission and revision. The second time the incident has the last
+/// revision.
 fn changes(alloc: Global, time: u32) -> Result<[Request; 4], AllocError> {
     let org = 64u32.saturating_add(time);
     let (incident, revision, place) = (1, 999_999u32, 22u32.saturating_add(time.min(1)));
@@ -152,7 +153,7 @@ fn changes(alloc: Global, time: u32) -> Result<[Request; 4], AllocError> {
     ])
 }
 
-/// One more of each kind.
+/// Returns requests for one more of each kind.
 fn one_more(alloc: Global, time: u32) -> Result<Vec<Asked>, AllocError> {
     let mut list = Vec::new(alloc);
     for (who, command) in commands(alloc, time)? {
@@ -187,13 +188,13 @@ fn agree_on_pages(alloc: Global, shelves: &mut Shelves) -> Result<(), Fault> {
     Ok(())
 }
 
-/// The hubs over a world in which one more of each kind may be.
+/// Returns the hubs over a world with room for one more of each kind.
 fn nearly_full_hubs(alloc: Global) -> Result<Shelves, Fault> {
     let edits = nearly_full(alloc)?.into_edits()?;
     Shelves::new(alloc, edits.as_slice())
 }
 
-/// Compares what all hubs reply to whoever asks for one more.
+/// Compares the replies of all hubs to requests for one more.
 fn agree_on_one_more(
     alloc: Global,
     tally: &mut Tally,
@@ -210,7 +211,7 @@ fn agree_on_one_more(
     Ok(())
 }
 
-/// Compares what all hubs reply to whoever asks for one more: that it is done, and from then on that there is no room.
+/// Compares the replies of all hubs to requests for one more: it is done, and from then on there is no room.
 pub fn agree_at_limits(alloc: Global, tally: &mut Tally) -> Result<(), Fault> {
     let mut shelves = nearly_full_hubs(alloc)?;
     for time in 0..TIMES {

@@ -1,4 +1,4 @@
-//! Lists of requests by several persons, asked of all hubs.
+//! Lists of requests by several persons, which all hubs answer.
 
 use crate::asked::any_asked;
 use crate::fault::Fault;
@@ -8,15 +8,15 @@ use crate::worlds::any_world;
 use std::alloc::Global;
 use trying::{Dice, Tally};
 
-/// How many requests a list has, and behind how many of them the tables are opened anew.
+/// The number of requests in a list, and after how many of them the tables are opened again.
 const REQUESTS: u32 = 60;
 
 const ANEW: usize = 20;
 
-/// In how many lists one is over a world with incidents at the limits.
+/// One in so many lists is over a world with incidents at the limits.
 const CROWDED: u64 = 5;
 
-/// Compares what all hubs reply to the list of this seed, and then all that their shelves have.
+/// Compares the replies of all hubs to the list of this seed, and then the whole content of their shelves.
 pub fn agree_on_list(alloc: Global, tally: &mut Tally, seed: u64) -> Result<(), Fault> {
     let mut dice = Dice::new(seed);
     let world = any_world(alloc, &mut dice, seed % CROWDED == 1)?;

@@ -1,10 +1,15 @@
-//! `hub_compare LISTS`: asks the hub over the shelf in memory, the hub over SQL tables, and the hub over a shelf in memory that
-//! keeps documents so many generated lists of 60 requests, and then for more rows than there may be. The tables are opened anew
-//! within each list and at its end. All replies have to be equal, and so what the shelves have in the end. A difference is told
-//! by its list, with status 1. Then it asks a shelf that keeps documents for long reports of few lines, and prints what the
-//! kept ones weigh in the end; if they ever weigh more than they may, it ends with status 1. Behind each kind of request stands
-//! how often each outcome was met; it is status 1 too where one wasn't met, or another was. Of what `stdout` has, these counts
-//! alone are what the program told, as nobody can reckon them beforehand.
+//! `hub_compare LISTS`: compares the hub over the shelf in memory, the hub over SQL tables, and the hub over a shelf in
+//! memory that keeps documents.
+//!
+//! All three are asked so many generated lists of 60 requests, and then for more rows than there may be. The tables are
+//! opened again within each list and at its end. All replies must be equal, and so must the contents of the shelves in
+//! the end. A difference is printed by its list, with status 1.
+//!
+//! Then a shelf that keeps documents is asked for long reports of few lines. The program prints how much the kept
+//! documents weigh in the end. If they ever weigh more than they may, it ends with status 1.
+//!
+//! Each kind of request is printed with how often each outcome was met. The status is 1 too if one wasn't met, or
+//! another was. In `stdout` only these counts are the program's own output, as nobody can work them out beforehand.
 #![tactic(auto)]
 
 mod asked;
@@ -31,7 +36,7 @@ use std::{env, io};
 use tally::{is_full, lines_of};
 use trying::Tally;
 
-/// What differs, or that memory ran out.
+/// Returns what differs, or that memory ran out.
 fn name_of(fault: &Fault) -> &'static str {
     match fault {
         Fault::NoMemory => "no memory",
@@ -39,7 +44,7 @@ fn name_of(fault: &Fault) -> &'static str {
     }
 }
 
-/// Compares over so many lists. Whether there is no difference.
+/// Compares over so many lists. Returns whether there is no difference.
 fn agree_on_lists(rt: &HostRuntime, tally: &mut Tally, lists: u64) -> io::Result<bool> {
     for seed in 0..lists {
         if let Err(fault) = lists::agree_on_list(rt.alloc(), tally, seed) {
@@ -52,7 +57,7 @@ fn agree_on_lists(rt: &HostRuntime, tally: &mut Tally, lists: u64) -> io::Result
     Ok(true)
 }
 
-/// Compares at the limits. Whether there is no difference.
+/// Compares at the limits. Returns whether there is no difference.
 fn agree_at_limits(rt: &HostRuntime, tally: &mut Tally) -> io::Result<bool> {
     if let Err(fault) = limits::agree_at_limits(rt.alloc(), tally) {
         let name = name_of(&fault);
@@ -63,7 +68,8 @@ fn agree_at_limits(rt: &HostRuntime, tally: &mut Tally) -> io::Result<bool> {
     Ok(true)
 }
 
-/// Prints what the kept documents weigh after long reports of few lines. Whether that was never more than the bound.
+/// Prints the weight of the kept documents after long reports of few lines. Returns whether it was never more than the
+/// bound.
 fn weigh_heavy_reports(rt: &HostRuntime) -> io::Result<bool> {
     match heavy::weight_in_the_end(rt.alloc()) {
         Ok(weight) => {
@@ -82,7 +88,7 @@ fn weigh_heavy_reports(rt: &HostRuntime) -> io::Result<bool> {
     }
 }
 
-/// Prints the counts. Whether each outcome was met, and no other.
+/// Prints the counts. Returns whether each outcome was met, and no other.
 fn tell(rt: &HostRuntime, tally: &Tally) -> io::Result<bool> {
     for line in lines_of(rt.alloc(), tally)?.iter() {
         println!(rt; "{line}")?;

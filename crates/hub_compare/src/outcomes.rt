@@ -1,10 +1,10 @@
-//! What is counted of a request and of its reply.
+//! The kind of a request, and the outcome of its reply, as they are counted.
 
 use hub_core::{Code, Reply, Request};
 use std::alloc::{AllocError, Global};
 use trying_hub::command_name;
 
-/// The kind of a request, a command of the directory under its own name.
+/// Returns the kind of a request; a command of the directory has its own name.
 pub fn request_name(request: &Request) -> &'static str {
     match request {
         Request::Circle(command) => command_name(command),
@@ -25,7 +25,7 @@ pub fn request_name(request: &Request) -> &'static str {
     }
 }
 
-/// The kind of a reply.
+/// Returns the kind of a reply.
 pub fn reply_name(reply: &Reply) -> &'static str {
     match reply {
         Reply::Done => "Done",
@@ -41,13 +41,14 @@ pub fn reply_name(reply: &Reply) -> &'static str {
     }
 }
 
-/// The rule by which an explanation says that a class is shown or hidden: its first line is `verdict SIDE RULE`.
+/// Returns the rule by which an explanation says that a class is shown or hidden. Its first line is `verdict SIDE
+/// RULE`.
 pub fn rule_in(explanation: &str) -> &str {
     let line = explanation.lines().next().unwrap_or("");
     line.split(' ').nth(2).unwrap_or("")
 }
 
-/// Done, or the refusal's code; with a word of its detail where a field or a body is bad.
+/// Returns that it is done, or the refusal's code; with a word of its detail if a field or a body is bad.
 pub fn outcome_of(alloc: Global, reply: &Reply) -> Result<String, AllocError> {
     let Reply::Refused(refusal) = reply else {
         return String::from_str(alloc, "done");

@@ -9,10 +9,10 @@ use hub_core::{Bytes, Distribution, Post, Replace, WantedGate, WantedGates};
 use std::alloc::{AllocError, Global};
 use trying::Dice;
 
-/// How many different IncidentIDs there are.
+/// The number of different IncidentIDs.
 const IDENTS: u32 = 6;
 
-/// A level and a group that fit mostly.
+/// Returns a level and a group that mostly fit.
 pub fn any_level(
     dice: &mut Dice,
     world: &World,
@@ -33,7 +33,7 @@ pub fn any_level(
     })
 }
 
-/// A pointer into a document, mostly to a class that many documents have.
+/// Returns a pointer into a document, mostly to a class that many documents have.
 pub fn any_pointer(dice: &mut Dice) -> &'static str {
     match dice.roll(24) {
         0 => "",
@@ -67,7 +67,7 @@ fn any_gates(dice: &mut Dice, world: &World, own: u32) -> Result<Vec<WantedGate>
     Ok(gates)
 }
 
-/// A gate at each of so many empty classes: as many as there may be, one less or one more.
+/// Returns a gate at each of so many empty classes: as many as there may be, one less or one more.
 fn wide_gates(dice: &mut Dice, alloc: Global) -> Result<Vec<WantedGate>, AllocError> {
     let mut gates = Vec::new(alloc);
     let count = 15u32.saturating_add(dice.roll(3));
@@ -82,7 +82,8 @@ fn wide_gates(dice: &mut Dice, alloc: Global) -> Result<Vec<WantedGate>, AllocEr
     Ok(gates)
 }
 
-/// No community in one of two, or one: in three of four one that the organisation has joined, if it has joined any.
+/// Returns no community in one of two, or one. In three of four it is one that the organisation has joined, if it has
+/// joined any.
 fn any_community(dice: &mut Dice, world: &World, own: u32) -> Result<Option<u32>, AllocError> {
     let mut joined = Vec::new(world.alloc);
     for pair in world.pairs.iter() {
@@ -99,7 +100,7 @@ fn any_community(dice: &mut Dice, world: &World, own: u32) -> Result<Option<u32>
     }))
 }
 
-/// How far a report reaches, and the body of one with these IncidentIDs; one in five has many gates.
+/// Returns the level of a report, and the body of one with these IncidentIDs; one in five has many gates.
 fn any_content(
     dice: &mut Dice,
     world: &World,
@@ -124,7 +125,7 @@ fn any_content(
     Ok((distribution, Bytes::new(body.into_bytes())))
 }
 
-/// A report of one Incident mostly, or of several.
+/// Returns a report, mostly of one Incident, or of several.
 pub fn any_post(dice: &mut Dice, world: &World, own: u32) -> Result<Post, AllocError> {
     let count = match dice.roll(12) {
         0..=8 => 1,
@@ -145,7 +146,7 @@ pub fn any_post(dice: &mut Dice, world: &World, own: u32) -> Result<Post, AllocE
     })
 }
 
-/// The revision that the incident has at first mostly, or the next one.
+/// Returns mostly the revision that the incident has at first, or the next one.
 pub fn any_revision(dice: &mut Dice, world: &World, incident: u32) -> u32 {
     match world.incident(incident) {
         Some(row) => row.naming.revision.saturating_add(dice.roll(4) / 3),
@@ -153,7 +154,7 @@ pub fn any_revision(dice: &mut Dice, world: &World, incident: u32) -> u32 {
     }
 }
 
-/// Another document under the incident's IncidentID mostly, sometimes two.
+/// Returns another document, mostly under the incident's IncidentID, sometimes with two.
 pub fn any_replace(dice: &mut Dice, world: &World, asker: Asker) -> Result<Replace, AllocError> {
     let Asker { own, incident, .. } = asker;
     let mut idents = Vec::new(world.alloc);

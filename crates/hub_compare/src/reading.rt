@@ -32,7 +32,7 @@ fn any_class_name(dice: &mut Dice, alloc: Global) -> Result<Option<Text>, AllocE
     }
 }
 
-/// A list, or a search.
+/// Returns a list, or a search.
 fn any_page(dice: &mut Dice, alloc: Global) -> Result<Request, AllocError> {
     let after = if dice.once_in(3) { dice.roll(4) } else { 0 };
     if dice.once_in(3) {
@@ -45,7 +45,7 @@ fn any_page(dice: &mut Dice, alloc: Global) -> Result<Request, AllocError> {
     }))
 }
 
-/// What anybody may ask: a view mostly.
+/// Returns a request that anybody may make, mostly a view.
 pub fn any_reading(dice: &mut Dice, alloc: Global, incident: u32) -> Result<Request, AllocError> {
     match dice.roll(12) {
         0..=2 => any_page(dice, alloc),
@@ -58,8 +58,8 @@ pub fn any_reading(dice: &mut Dice, alloc: Global, incident: u32) -> Result<Requ
     }
 }
 
-/// A person who is there mostly: one that is suspended, one that is nominated of an organisation that is addressed, one that
-/// is of another organisation than who asks, and not addressed, or any.
+/// Returns a person, mostly one who exists: one that is suspended, one that is nominated of an organisation that is
+/// addressed, one that is of another organisation than the asker and not addressed, or any.
 fn any_reader(dice: &mut Dice, world: &World, asker: Asker) -> Result<u32, AllocError> {
     let Asker { own, incident, .. } = asker;
     let choice = dice.roll(8);
@@ -83,7 +83,7 @@ fn any_reader(dice: &mut Dice, world: &World, asker: Asker) -> Result<u32, Alloc
     Ok(dice.one_of_or(1, meant.as_slice(), other))
 }
 
-/// Why a person sees a class of the incident, or doesn't; often one to whom a permission is given.
+/// Returns a question why a person sees a class of the incident, or doesn't; often about one that has a permission.
 pub fn any_question(dice: &mut Dice, world: &World, asker: Asker) -> Result<Explain, AllocError> {
     let (path, grantee) = any_permission(dice, world, asker)?;
     let person = match grantee {

@@ -1,4 +1,4 @@
-//! What the shelves have, read by each of the shelf's reads.
+//! The contents of the shelves, read by each of the shelf's reads.
 
 use crate::fault::{Fault, agree};
 use crate::replies::{same_document, same_excerpt, same_groups};
@@ -13,7 +13,7 @@ use std::alloc::Global;
 
 type Tables = SqlShelf<MemStore>;
 
-/// How many incidents are read, and up to which person it is asked how each stands to them.
+/// How many incidents are read, and for how many persons their standings.
 const INCIDENTS: usize = 6;
 
 const PERSONS: u32 = 6;
@@ -57,7 +57,7 @@ fn same_standing(one: &Standing, other: &Standing) -> bool {
         && one.now == other.now
 }
 
-/// The person of this key, and its groups.
+/// Compares the person of this key, and its groups.
 fn agree_on_key(lists: &mut ListShelf, tables: &mut Tables, key: &[u8; 32]) -> Result<(), Fault> {
     let found = lists.person_by_key(key)?;
     let other = tables.person_by_key(key)?;
@@ -73,10 +73,10 @@ fn agree_on_key(lists: &mut ListShelf, tables: &mut Tables, key: &[u8; 32]) -> R
     Ok(())
 }
 
-/// The moment at which standings are asked for.
+/// The moment of the standings.
 const NOW: i64 = 1_000;
 
-/// How the person stands to the incident, if it is there.
+/// Compares the person's standing to the incident, if it is there.
 fn agree_on_standing(
     lists: &mut ListShelf,
     tables: &mut Tables,
@@ -94,7 +94,7 @@ fn agree_on_standing(
     agree(alike, "a standing")
 }
 
-/// What the incident is judged by, its document, and how persons stand to it.
+/// Compares the case of the incident, its document, and the standings of persons to it.
 fn agree_on_incident(
     alloc: Global,
     lists: &mut ListShelf,
@@ -115,7 +115,7 @@ fn agree_on_incident(
     Ok(())
 }
 
-/// What a person is served of the incident, if both are there.
+/// Compares the excerpt of the incident for a person, if both are there.
 fn agree_on_excerpt(
     alloc: Global,
     lists: &mut ListShelf,
@@ -138,7 +138,8 @@ fn agree_on_excerpt(
     agree(same_excerpt(alloc, &one, &other)?, "an excerpt")
 }
 
-/// Compares what is served by the shelf in memory and by the one that keeps documents, which by then has some of them.
+/// Compares the excerpts of the shelf in memory with those of the one that keeps documents, which by then has some of
+/// them.
 pub fn agree_on_excerpts(
     alloc: Global,
     lists: &mut ListShelf,
@@ -153,7 +154,7 @@ pub fn agree_on_excerpts(
     Ok(())
 }
 
-/// Compares what both shelves have.
+/// Compares the contents of both shelves.
 pub fn agree_on_reads(
     alloc: Global,
     lists: &mut ListShelf,

@@ -1,4 +1,4 @@
-//! Whether two replies are equal.
+//! Comparisons of two replies.
 
 use hub_core::{JoinedGroup, Reply, View};
 use iodef_tree::{Document, Path};
@@ -6,7 +6,7 @@ use policy::Rule;
 use redact::Excerpt;
 use std::alloc::{AllocError, Global};
 
-/// Whether they have the same compact JSON.
+/// Returns whether they have the same compact JSON.
 pub fn same_document(alloc: Global, one: &Document, other: &Document) -> Result<bool, AllocError> {
     Ok(one.text(alloc)?.as_str() == other.text(alloc)?.as_str())
 }
@@ -30,7 +30,7 @@ fn same_view(alloc: Global, one: &View, other: &View) -> Result<bool, AllocError
     )
 }
 
-/// Whether both are none, or equal in each field; documents by their JSON.
+/// Returns whether both are none, or equal in each field; documents by their JSON.
 pub fn same_excerpt(
     alloc: Global,
     one: &Option<Excerpt>,
@@ -56,12 +56,12 @@ fn same_group(one: &JoinedGroup, other: &JoinedGroup) -> bool {
         && one.extend == other.extend
 }
 
-/// Whether they are the same groups in the same order, each field equal.
+/// Returns whether they are the same groups in the same order, each field equal.
 pub fn same_groups(one: &[JoinedGroup], other: &[JoinedGroup]) -> bool {
     one.len() == other.len() && one.iter().zip(other.iter()).all(|(a, b)| same_group(a, b))
 }
 
-/// Whether they are of one kind and equal in each field; documents by their JSON.
+/// Returns whether they are of one kind and equal in each field; documents by their JSON.
 pub fn same_reply(alloc: Global, one: &Reply, other: &Reply) -> Result<bool, AllocError> {
     match (one, other) {
         (Reply::Done, Reply::Done) => Ok(true),

@@ -1,4 +1,4 @@
-//! Generated changes of whom an incident reaches: gates, recipients and permissions.
+//! Generated changes of an incident's gates, recipients and permissions.
 
 use crate::asked::Asker;
 use crate::commands::any_group;
@@ -17,7 +17,7 @@ fn pointer(alloc: Global, path: &Path) -> Result<Text, AllocError> {
     Ok(Text::new(path.print(alloc)?))
 }
 
-/// The pointer of a class of the incident, if it is there; in one of three of a class that has no gate.
+/// Returns the pointer of a class of the incident, if it is there; in one of three of a class without a gate.
 fn any_class(dice: &mut Dice, world: &World, incident: u32) -> Result<Text, AllocError> {
     let is_bare = dice.once_in(3);
     let mut found = Vec::new(world.alloc);
@@ -32,7 +32,7 @@ fn any_class(dice: &mut Dice, world: &World, incident: u32) -> Result<Text, Allo
     }
 }
 
-/// A pointer to a class of the incident, or another one.
+/// Returns a pointer to a class of the incident, or another one.
 fn any_place(dice: &mut Dice, world: &World, incident: u32) -> Result<Text, AllocError> {
     match dice.roll(12) {
         0 => Text::of(world.alloc, "/a~2"),
@@ -41,7 +41,7 @@ fn any_place(dice: &mut Dice, world: &World, incident: u32) -> Result<Text, Allo
     }
 }
 
-/// A gate at the root or at a class; in one of four one that stands.
+/// Returns a gate at the root or at a class; in one of four one that exists.
 fn any_redistribute(
     dice: &mut Dice,
     world: &World,
@@ -74,7 +74,7 @@ fn any_redistribute(
     })
 }
 
-/// A person or an organisation, in one of three one that is addressed.
+/// Returns a person or an organisation, in one of three one that is addressed.
 fn any_target(dice: &mut Dice, world: &World, incident: u32) -> Result<Target, AllocError> {
     let addressed: Vec<&Recipient> = world
         .recipients
@@ -97,7 +97,7 @@ fn any_grantee(dice: &mut Dice, world: &World, own: u32) -> Result<Grantee, Allo
     })
 }
 
-/// No end in half of the cases, else one of a few.
+/// Returns no end in half of the cases, else one of a few.
 pub fn any_end(dice: &mut Dice) -> Option<i64> {
     match dice.roll(6) {
         0 => Some(0),
@@ -107,7 +107,7 @@ pub fn any_end(dice: &mut Dice) -> Option<i64> {
     }
 }
 
-/// A place and whom it is shown, in one of three those of a permission that stands.
+/// Returns the pointer and the grantee of a permission, in one of three those of one that exists.
 pub fn any_permission(
     dice: &mut Dice,
     world: &World,
@@ -131,7 +131,7 @@ pub fn any_permission(
     })
 }
 
-/// A change of whom the incident reaches.
+/// Returns a change of an incident's gates, recipients or permissions.
 pub fn any_sharing(dice: &mut Dice, world: &World, asker: Asker) -> Result<Request, AllocError> {
     let incident = asker.incident;
     let target = any_target(dice, world, incident)?;

@@ -11,7 +11,7 @@ use kept_documents::KeptDocuments;
 use sqlite::{Connection, MemStore};
 use std::alloc::Global;
 
-/// What the documents that the third shelf keeps may weigh: so little that they take each other's place.
+/// The greatest weight of the documents that the third shelf keeps, so small that one takes the place of another.
 pub const MOST_WEIGHT: usize = 8192;
 
 /// The hub over the shelf in memory, over SQL tables in memory, and over a shelf in memory that keeps documents.
@@ -22,14 +22,14 @@ pub struct Shelves {
     kept: Hub<KeptDocuments<ListShelf, MOST_WEIGHT>>,
 }
 
-/// A shelf in memory with these rows.
+/// Returns a shelf in memory with these rows.
 pub fn new_lists(alloc: Global, edits: &[Edit]) -> Result<ListShelf, Fault> {
     let mut lists = ListShelf::new(alloc);
     lists.apply(edits)?;
     Ok(lists)
 }
 
-/// The same, which keeps documents.
+/// Returns the same, which keeps documents.
 fn new_kept(alloc: Global, edits: &[Edit]) -> Result<KeptDocuments<ListShelf, MOST_WEIGHT>, Fault> {
     match KeptDocuments::new(alloc, new_lists(alloc, edits)?) {
         Ok(kept) => Ok(kept),
@@ -37,7 +37,7 @@ fn new_kept(alloc: Global, edits: &[Edit]) -> Result<KeptDocuments<ListShelf, MO
     }
 }
 
-/// New SQL tables without rows.
+/// Returns new SQL tables without rows.
 fn new_tables(alloc: Global) -> Result<SqlShelf<MemStore>, Fault> {
     let conn = Connection::open_in_memory(alloc)?;
     if !conn.is_autocommit() {
@@ -49,7 +49,7 @@ fn new_tables(alloc: Global) -> Result<SqlShelf<MemStore>, Fault> {
     }
 }
 
-/// The tables, released and opened anew.
+/// Returns the tables, released and opened again.
 fn opened_anew(alloc: Global, shelf: SqlShelf<MemStore>) -> Result<SqlShelf<MemStore>, Fault> {
     agree(shelf.failures() == 0, "how often the tables failed")?;
     let conn = shelf.release();
@@ -63,7 +63,7 @@ fn opened_anew(alloc: Global, shelf: SqlShelf<MemStore>) -> Result<SqlShelf<MemS
 }
 
 impl Shelves {
-    /// The shelves with these rows.
+    /// Makes the shelves with these rows.
     pub fn new(alloc: Global, edits: &[Edit]) -> Result<Shelves, Fault> {
         let mut tables = new_tables(alloc)?;
         tables.apply(edits)?;
@@ -74,7 +74,7 @@ impl Shelves {
         })
     }
 
-    /// What all reply, which has to be equal.
+    /// Returns the reply of all hubs. Fails if theirs differ.
     pub fn reply(&mut self, alloc: Global, asked: &Asked) -> Result<Reply, Fault> {
         let Asked { now, key, request } = asked;
         let reply = self.lists.answer(alloc, *now, key, request);
@@ -88,7 +88,7 @@ impl Shelves {
         Ok(reply)
     }
 
-    /// The same with the tables released and opened anew.
+    /// Returns the same with the tables released and opened again.
     pub fn opened_anew(self, alloc: Global) -> Result<Shelves, Fault> {
         let Shelves {
             lists,
@@ -103,7 +103,7 @@ impl Shelves {
         })
     }
 
-    /// Compares what the shelves have.
+    /// Compares the contents of the shelves.
     pub fn agree_on_content(self, alloc: Global) -> Result<(), Fault> {
         let Shelves {
             lists,

@@ -5,8 +5,8 @@ use hub_core::{Reply, Request};
 use std::alloc::{AllocError, Global};
 use trying::Tally;
 
-/// Each kind of request, with the outcomes that it may have where the caller is known; whether it is; what is replied; and
-/// the rules by which classes are withheld and explained.
+/// The rows of the tally: each kind of request, with the outcomes that it may have if the caller is known; whether the
+/// caller is known; the kinds of replies; and the rules by which classes are withheld and explained.
 const KINDS: [(&str, &str); 36] = [
     ("AddOrg", "done,W1,B1 name,S1,L1"),
     ("AddPerson", "done,W1,B1 name,N2,S1"),
@@ -64,7 +64,7 @@ const KINDS: [(&str, &str); 36] = [
     ),
 ];
 
-/// Notes what was replied to a request.
+/// Notes the reply to a request.
 pub fn note(
     tally: &mut Tally,
     alloc: Global,
@@ -89,7 +89,7 @@ pub fn note(
     Ok(())
 }
 
-/// For each kind a line: its name, and how often each of its outcomes was met.
+/// Returns a line for each kind: its name, and how often each of its outcomes was met.
 pub fn lines_of(alloc: Global, tally: &Tally) -> Result<Vec<String>, AllocError> {
     let mut lines = Vec::new(alloc);
     for (kind, outcomes) in KINDS {
@@ -104,7 +104,7 @@ pub fn lines_of(alloc: Global, tally: &Tally) -> Result<Vec<String>, AllocError>
     Ok(lines)
 }
 
-/// Whether each outcome was met, and no other.
+/// Returns whether each outcome was met, and no other.
 pub fn is_full(tally: &Tally) -> bool {
     for (kind, outcomes) in KINDS {
         for outcome in outcomes.split(',') {

@@ -1,4 +1,4 @@
-//! The rows that a list begins with. Requests are made of them, and all shelves are given them.
+//! The rows with which a list begins. The requests are made from them, and all shelves get them.
 
 use crate::fault::Fault;
 use circle::command::RowEdit;
@@ -14,7 +14,7 @@ use iodef_tree::{Document, Path};
 use policy::Grantee;
 use std::alloc::{AllocError, Global};
 
-/// What two numbers say of each other.
+/// How two numbers relate to each other.
 #[derive(Clone, Copy, PartialEq, Eq)]
 pub enum Relation {
     /// An organisation, and one of its clients.
@@ -23,7 +23,7 @@ pub enum Relation {
     Member,
     /// Two communities, the smaller number first.
     Link,
-    /// A group, and one of its organisations; the value is 1 where it may extend the group.
+    /// A group, and one of its organisations; the value is 1 if it may extend the group.
     GroupMember,
     /// A source, and an organisation; the value is the rank of the handling.
     Arrangement,
@@ -57,7 +57,7 @@ pub struct World {
 /// New keys are made of numbers below this.
 pub const KEYS: u32 = 24;
 
-/// A key for each number.
+/// Returns a key for each number.
 pub fn key_of(number: u32) -> [u8; 32] {
     let [a, b, c, d] = number.to_be_bytes();
     let mut key = [0u8; 32];
@@ -68,7 +68,7 @@ pub fn key_of(number: u32) -> [u8; 32] {
     key
 }
 
-/// The handling of a rank, from CLEAR, 0, on; RED above 3.
+/// Returns the handling of a rank, from CLEAR, 0, on; RED above 3.
 pub fn handling_of(rank: u32) -> Handling {
     match rank {
         0 => Handling::Clear,
@@ -79,7 +79,7 @@ pub fn handling_of(rank: u32) -> Handling {
     }
 }
 
-/// How many there are, as a number of 32 bits.
+/// Returns how many there are, as a number of 32 bits.
 pub fn count_of<T>(rows: &[T]) -> u32 {
     u32::try_from(rows.len()).unwrap_or(u32::MAX)
 }
@@ -92,7 +92,7 @@ fn name_of(alloc: Global, kind: &str, number: u32) -> Result<Name, Fault> {
     }
 }
 
-/// The document of a body of one Incident, and its IncidentID.
+/// Returns the document of a body of one Incident, and its IncidentID.
 fn document_of(alloc: Global, body: &str) -> Result<(Document, Text), Fault> {
     let Ok(mut documents) = Document::read(alloc, body.as_bytes()) else {
         return Err(Fault::Differs("a body that wasn't read"));
@@ -136,7 +136,7 @@ impl Pair {
 }
 
 impl World {
-    /// A world without a row; takes no memory.
+    /// Makes a world without a row. Takes no memory.
     pub fn new(alloc: Global) -> World {
         World {
             alloc,
@@ -152,16 +152,16 @@ impl World {
         }
     }
 
-    // ---- what is there
+    // ---- which rows there are
 
-    /// The incident of this number.
+    /// Returns the incident of this number.
     pub fn incident(&self, number: u32) -> Option<&Incident> {
         self.incidents
             .iter()
             .find(|row| row.naming.number == number)
     }
 
-    /// The paths of the incident's classes; none where it is missing.
+    /// Returns the paths of the incident's classes, or none if it is missing.
     pub fn classes(&self, incident: u32) -> Result<Vec<Path>, AllocError> {
         match self.incident(incident) {
             Some(row) => row.document.classes(self.alloc),
@@ -169,21 +169,21 @@ impl World {
         }
     }
 
-    /// Whether the organisation owns the group.
+    /// Returns whether the organisation owns the group.
     pub fn owns(&self, org: u32, group: u32) -> bool {
         self.groups
             .iter()
             .any(|row| row.number == group && row.owner == org)
     }
 
-    /// Whether a gate stands at this path of the incident.
+    /// Returns whether a gate is at this path of the incident.
     pub fn has_gate(&self, incident: u32, path: &Path) -> bool {
         self.gates
             .iter()
             .any(|row| row.incident == incident && row.gate.path == *path)
     }
 
-    /// Whether the grantee has a permission at this path of the incident.
+    /// Returns whether the grantee has a permission at this path of the incident.
     pub fn has_permission(&self, incident: u32, path: &Path, grantee: Grantee) -> bool {
         self.permissions.iter().any(|row| row.incident == incident
             && row.permission.grantee == grantee
@@ -192,7 +192,7 @@ impl World {
 
     // ---- one row more
 
-    /// A person with the key of its number.
+    /// Adds a person with the key of its number.
     pub fn add_person(
         &mut self,
         org: u32,
@@ -214,7 +214,7 @@ impl World {
         Ok(())
     }
 
-    /// A group with the next number, of releasability TLP:GREEN.
+    /// Adds a group with the next number, of releasability TLP:GREEN.
     pub fn add_group(&mut self, owner: u32, active: bool) -> Result<(), Fault> {
         let number = count_of(self.groups.as_slice()).saturating_add(1);
         let Some(releasability) = Releasability::of(self.alloc, "TLP:GREEN")? else {
@@ -230,7 +230,7 @@ impl World {
         Ok(())
     }
 
-    /// The incident of a body, and its number; none where the source has posted one under the same IncidentID.
+    /// Adds the incident of a body. Returns its number, or none if the source has posted one under the same IncidentID.
     pub fn add_incident(
         &mut self,
         source: u32,
@@ -256,7 +256,7 @@ impl World {
         Ok(Some(number))
     }
 
-    /// A gate without a group.
+    /// Adds a gate without a group.
     pub fn add_gate(&mut self, incident: u32, path: Path, level: u8) -> Result<(), AllocError> {
         let gate = policy::Gate {
             path,
@@ -267,7 +267,7 @@ impl World {
         Ok(())
     }
 
-    /// A permission of the incident.
+    /// Adds a permission of the incident.
     pub fn add_permission(
         &mut self,
         incident: u32,
@@ -312,7 +312,7 @@ impl World {
         Ok(())
     }
 
-    /// The edits that put every row.
+    /// Returns the edits that put every row.
     pub fn into_edits(self) -> Result<Vec<Edit>, Fault> {
         let mut edits = Vec::new(self.alloc);
         self.push_directory(&mut edits)?;

@@ -1,4 +1,4 @@
-//! Generated worlds: some as a small circle has them, some at the limits of its incidents.
+//! Generated worlds: some like a small circle, some at the limits of its incidents.
 
 use crate::commands::any_role;
 use crate::documents::{Flaw, any_body, ident_text};
@@ -12,7 +12,7 @@ use policy::Grantee;
 use std::alloc::{AllocError, Global};
 use trying::Dice;
 
-/// Of the first five persons each is of its own organisation: an administrator, two coordinators and two others.
+/// Adds persons. Each of the first five is of its own organisation: an administrator, two coordinators and two others.
 fn add_persons(world: &mut World, dice: &mut Dice, count: u32) -> Result<(), Fault> {
     for place in 0..count {
         let org = if place < 5 {
@@ -31,7 +31,7 @@ fn add_persons(world: &mut World, dice: &mut Dice, count: u32) -> Result<(), Fau
     Ok(())
 }
 
-/// Whether a pair of these may stand.
+/// Returns whether a pair of these may exist.
 fn may_stand(relation: Relation, a: u32, b: u32) -> bool {
     match relation {
         Relation::Client | Relation::Arrangement => a != b,
@@ -40,7 +40,8 @@ fn may_stand(relation: Relation, a: u32, b: u32) -> bool {
     }
 }
 
-/// About one in three of the pairs of small numbers, of groups and their members one in two, and each group's owner.
+/// Adds about one in three of the pairs of small numbers, of groups and their members one in two, and each group's
+/// owner.
 fn add_pairs(world: &mut World, dice: &mut Dice, relation: Relation) -> Result<(), AllocError> {
     for place in 0..25u32 {
         let a = (place / 5).saturating_add(1);
@@ -82,7 +83,8 @@ fn any_gate(dice: &mut Dice, incident: u32, path: Path) -> Gate {
     }
 }
 
-/// The root's gate, which everybody passes in one of two, and gates at some classes; in a crowded world as many as there may be, or one less.
+/// Adds the root's gate, which everybody passes in one of two, and gates at some classes; in a crowded world as many as
+/// there may be, or one less.
 fn add_gates(
     world: &mut World,
     dice: &mut Dice,
@@ -106,7 +108,8 @@ fn add_gates(
     Ok(())
 }
 
-/// How many recipients or permissions an incident is to have; in a crowded world as many as there may be, or one less.
+/// Returns how many recipients or permissions an incident gets; in a crowded world as many as there may be, or one
+/// less.
 fn any_count(dice: &mut Dice, crowded: bool) -> u32 {
     if crowded {
         64u32.saturating_sub(dice.roll(4) / 3)
@@ -115,7 +118,7 @@ fn any_count(dice: &mut Dice, crowded: bool) -> u32 {
     }
 }
 
-/// How often a row is made at most until there are so many; one that stands isn't put again.
+/// How often at most a row is made until there are so many. One that exists isn't put again.
 const TRIES: u32 = 900;
 
 fn add_recipients(
@@ -170,7 +173,7 @@ fn add_permissions(
     Ok(())
 }
 
-/// The community that an incident names, none in one of two. Its source may have left it.
+/// Returns the community that an incident names, none in one of two. Its source may have left it.
 fn any_community(dice: &mut Dice, world: &World) -> Option<u32> {
     if dice.once_in(2) {
         Some(dice.one_to(world.communities))
@@ -179,7 +182,7 @@ fn any_community(dice: &mut Dice, world: &World) -> Option<u32> {
     }
 }
 
-/// An incident with gates, recipients and permissions, unless its source has posted one under the same IncidentID.
+/// Adds an incident with gates, recipients and permissions, unless its source has posted one under the same IncidentID.
 fn add_incident(world: &mut World, dice: &mut Dice, crowded: bool) -> Result<(), Fault> {
     let mut idents = Vec::new(world.alloc);
     idents.push(ident_text(world.alloc, dice.roll(6))?)?;
@@ -205,7 +208,7 @@ fn add_incident(world: &mut World, dice: &mut Dice, crowded: bool) -> Result<(),
     Ok(())
 }
 
-/// The rows of a small circle, or of one with incidents at the limits.
+/// Returns the rows of a small circle, or of one with incidents at the limits.
 pub fn any_world(alloc: Global, dice: &mut Dice, crowded: bool) -> Result<World, Fault> {
     let mut world = World::new(alloc);
     world.orgs = if crowded { 50 } else { 5 };
