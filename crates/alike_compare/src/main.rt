@@ -11,7 +11,6 @@
 //! question and both replies, with status 1. So is a pair that had to differ and is told alike, and a pair that is told
 //! apart although nothing differs that the reader is told. Each step is followed by the premises that were left out of
 //! it. The counts of pairs in `stdout` are the program's own output, as nobody can work them out beforehand.
-//! told, as nobody can reckon them beforehand.
 #![tactic(auto)]
 
 mod asking;
