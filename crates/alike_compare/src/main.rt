@@ -1,16 +1,25 @@
 //! `alike_compare CHAINS`: compares the replies to one reader in pairs of generated worlds, byte for byte.
 //!
-//! A chain of steps begins at each of so many worlds. Each step leads to a world that is alike for the reader. It puts
-//! other plain lines in a class that the reader doesn't see; puts in, takes out or exchanges a wholly hidden class;
-//! changes anything in an incident of which the reader sees nothing; or changes rows that are for others. A step may
-//! leave one premise out, and then the next step begins at the same world. In each pair the reader asks all questions
-//! about incidents, its groups and itself, and makes some requests that are refused.
+//! A chain of steps begins at each of so many worlds. Each step leads to a world that is alike for the reader:
 //!
-//! The step decides whether a premise holds, by a plain judge of each class, over the rows of which the world is made.
-//! What the reader must be told is decided in the same way. A pair that is alike and told apart is printed with the
-//! question and both replies, with status 1. So is a pair that had to differ and is told alike, and a pair that is told
-//! apart although nothing differs that the reader is told. Each step is followed by the premises that were left out of
-//! it. The counts of pairs in `stdout` are the program's own output, as nobody can work them out beforehand.
+//! - other plain lines in a class that the reader doesn't see;
+//! - a wholly hidden class put in, taken out or exchanged;
+//! - anything in an incident of which the reader sees nothing;
+//! - rows that are for others.
+//!
+//! A step may leave one premise out, and then the next step begins at the same world. In each pair the reader asks all
+//! questions about incidents, its groups and itself, and makes some requests that are refused.
+//!
+//! The step and a plain judge of each class decide whether a premise holds, over the rows of which the world is made.
+//! They also decide what the reader must learn. The program prints a pair with the question and both replies, with
+//! status 1, if
+//!
+//! - it is alike and told apart;
+//! - it had to differ and is told alike;
+//! - it is told apart, and nothing differs that the reader learns.
+//!
+//! Each step is printed with the premises that were left out of it. The counts of pairs in `stdout` are the program's
+//! own output, as nobody can work them out beforehand.
 #![tactic(auto)]
 
 mod asking;

@@ -15,7 +15,7 @@ use trying::{Dice, Tally};
 /// So many steps are tried from each generated world, each from the world to which the last step that holds led.
 const STEPS: u32 = 24;
 
-/// A world, the replies to its reader there, and what the reader must be told by the rules.
+/// A world, the replies to its reader there, and what the reader must learn by the rules.
 #[derive(Drop)]
 struct Asked {
     world: World,

@@ -1,5 +1,5 @@
-//! The rows of a small world, in numbers. The steps change them. Both the edits of the hub and what a reader must be
-//! told by the rules are made of them. Organisations, persons, communities, groups and incidents are numbered from 1.
+//! The rows of a small world, in numbers. The steps change them. The hub's edits and the numbers that a reader must
+//! learn by the rules are made of them. Organisations, persons, communities, groups and incidents are numbered from 1.
 
 use circle::directory::{Arrangement, Client, Connection, GroupMember, Membership, Role};
 use hub_core::Target;

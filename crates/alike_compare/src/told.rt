@@ -1,4 +1,4 @@
-//! What a reader must be told by the rules, in numbers. If two worlds have other numbers, some answer must differ.
+//! What a reader must learn by the rules, in numbers. If two worlds have other numbers, some answer must differ.
 
 use crate::reader::{Reader, Why};
 use crate::rows::{GROUPS, Report, World, end_of, number_at};

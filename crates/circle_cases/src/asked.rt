@@ -81,7 +81,7 @@ fn memberships(alloc: Global, rows: &DirectoryRows, org: u32) -> Result<String, 
     told::rows(alloc, rows.memberships_in_groups(alloc, org)?.as_slice())
 }
 
-/// Returns what an organisation is part of.
+/// Returns the communities, groups, sponsors or memberships of an organisation.
 fn parts_of(
     alloc: Global,
     rows: &DirectoryRows,

@@ -1,6 +1,7 @@
 //! `circle_compare SEEDS`: compares a directory in memory, `judge` and its edits with a plain, slow program that asks
-//! the rows themselves, over so many directories of 200 generated commands each. A difference is printed by its seed,
-//! with status 1. Each kind of command is printed with the outcomes that were met at least 20 times.
+//! the rows themselves. It compares them over so many directories of 200 generated commands each. A difference is
+//! printed by its seed, with status 1. Each kind of command is printed with the outcomes that were met at least 20
+//! times.
 #![tactic(auto)]
 
 mod changes;

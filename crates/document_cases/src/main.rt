@@ -2,8 +2,8 @@
 //! is.
 //!
 //! A case is a verb and what it is about. `<3*0,>` means `0,0,0,` in it. Pointers are written as JSON strings. An
-//! outline is its lines with a semicolon between them, each as DEPTH NAME KIND TEXT: the name of an element has `[]`
-//! behind it, the kind is `class`, `text` (in quotes, as JSON) or `value` (compact JSON).
+//! outline is its lines with a semicolon between them, each as DEPTH NAME KIND TEXT. The name of an element has `[]`
+//! behind it. The kind is `class`, `text` (in quotes, as JSON) or `value` (compact JSON).
 //!
 //! - `read BODY`: how many documents it gives, or the fault with its pointer and the member that is missing.
 //! - `bytes DIGITS`: the same of bytes, each written as two hexadecimal digits.

@@ -22,17 +22,17 @@
 //! growth was refused. The C library of `scripts/refuse-growth`, which is run by hand, understands this and refuses.
 //! The script divides the growths among all processors.
 //!
-//! No heap of the gate refuses a growth. There each case runs once with ample memory, and its line says `no growth
-//! refused`. This shows that no call returns want of memory then, and that the answers are the ones in `stdout`.
+//! No heap of the gate refuses a growth. There each case runs with ample memory, and its line says `no growth refused`.
+//! This shows that no call returns want of memory then, and that the answers are the ones in `stdout`.
 //!
 //! With two numbers the program refuses the growths FIRST, FIRST + STEP and so on. Its last line says how many growths
 //! were refused, in how many runs.
 //!
-//! `scripts/refuse-growth.d/` holds three planted faults: a push whose refusal is ignored, so that an excerpt lacks a
-//! withheld place; a reply that is made after the change, so that a change that was made is answered `F2`; and a reader
-//! that forgets a piece of the request, so that nothing is answered. `scripts/refuse-growth --planted` builds the
-//! program with each and without any, refuses one growth of 1,024 in each case, then one of 16, and fails if a fault
-//! isn't found or the program without a fault shows a difference.
+//! `scripts/refuse-growth.d/` holds three planted faults. A push ignores its refusal, and an excerpt lacks a withheld
+//! place. A reply is made after the change, and a change that was made is answered `F2`. A reader forgets a piece of
+//! the request, and nothing is answered. `scripts/refuse-growth --planted` builds the program with each and without
+//! any. It refuses one growth of 1,024 in each case, then one of 16. It fails if a fault isn't found, or if the program
+//! without a fault shows a difference.
 #![tactic(auto)]
 
 mod cases;

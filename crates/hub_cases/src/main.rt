@@ -12,9 +12,13 @@
 //! them. Targets and grantees are `person 4`, `org 3`, `community 1` or `group 1`. `150 times` before a request asks it
 //! so often; in it `<n>` is the number of the time, and `<a,b>` is a and b in turn.
 //!
-//! The answers of a block are followed by whether tables in memory, opened again after each request, answer the same.
-//! All blocks are followed by the outcomes of stores that are made, opened and refused; the lines of a report as rows;
-//! the answers if a row is missing in the middle of a report; and stores of older versions, migrated to the newest.
+//! After the answers of a block the program prints whether tables in memory, opened again after each request, answer
+//! the same. After all blocks it prints
+//!
+//! - the outcomes of stores that are made, opened and refused;
+//! - the lines of a report as rows;
+//! - the answers if a row is missing in the middle of a report;
+//! - stores of older versions, migrated to the newest.
 //!
 //! A block with a line `every call fails` is run once more for each call of the shelf, which then fails that one time.
 //! One request must be answered F1, and all others as if that one hadn't been made.

@@ -127,8 +127,8 @@ fn are_run(conn: &mut Connection<MemStore>, statements: &[&str]) -> bool {
     true
 }
 
-/// Returns what person 4 sees of the first incident at the first moment and at the last, what person 6 sees of the
-/// second and why, and the shelf.
+/// Returns what person 4 sees of the first incident at the first and the last moment, and what person 6 sees of the
+/// second and why. Also returns the shelf.
 fn look<S: Alter + Drop>(
     alloc: Global,
     shelf: SqlShelf<S>,

@@ -6,8 +6,8 @@
 //!
 //! Each is asked for twice, and so may be kept at its second question. While an eighth of the bound is left it is kept.
 //! The first 13 weigh 3,380,000 of 3,500,000, so that the 14th is kept too; all then weigh 3,640,000. From then on one
-//! report is kept after 64 questions, which is each 32nd: the 46th, for which there is room, and the 78th, for which
-//! another is dropped. So 15 are kept in the end: 3,900,000.
+//! report is kept after 64 questions, which is each 32nd. There is room for the 46th, and another is dropped for the
+//! 78th. So 15 are kept in the end: 3,900,000.
 
 use crate::fault::{Fault, agree};
 use crate::shelves::new_lists;

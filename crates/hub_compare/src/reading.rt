@@ -58,8 +58,8 @@ pub fn any_reading(dice: &mut Dice, alloc: Global, incident: u32) -> Result<Requ
     }
 }
 
-/// Returns a person, mostly one who exists: one that is suspended, one that is nominated of an organisation that is
-/// addressed, one that is of another organisation than the asker and not addressed, or any.
+/// Returns a person, mostly one who exists: a suspended one, a nominated one of an organisation that is addressed, one
+/// of another organisation who isn't addressed, or any.
 fn any_reader(dice: &mut Dice, world: &World, asker: Asker) -> Result<u32, AllocError> {
     let Asker { own, incident, .. } = asker;
     let choice = dice.roll(8);

@@ -5,8 +5,8 @@ use hub_core::{Reply, Request};
 use std::alloc::{AllocError, Global};
 use trying::Tally;
 
-/// The rows of the tally: each kind of request, with the outcomes that it may have if the caller is known; whether the
-/// caller is known; the kinds of replies; and the rules by which classes are withheld and explained.
+/// The rows of the tally. Each kind of request has the outcomes that it may have if the caller is known. The other rows
+/// are whether the caller is known, the kinds of replies, and the rules by which classes are withheld and explained.
 const KINDS: [(&str, &str); 36] = [
     ("AddOrg", "done,W1,B1 name,S1,L1"),
     ("AddPerson", "done,W1,B1 name,N2,S1"),

@@ -17,13 +17,13 @@
 //! (`world.rt`):
 //!
 //! - PERSON REQUEST|FIELD..: a request by the person who has the key of this number, `key-7` in a request. The answer
-//!   is the refusal, or `nothing` to a request that only reads, the numbers of new incidents, the revision, or `done`;
-//!   `nobody` if no person has the key.
+//!   is the refusal, `nothing` to a request that only reads, the numbers of new incidents, the revision, or `done`. It
+//!   is `nobody` if no person has the key.
 //! - `facts` before it: the facts that the shelf finds about it, in the words above.
 //! - `case 1`, `standing 4 1` (a person, an incident; then a moment other than 0), `document 1`, `entries 0 100` (above
-//!   a number, at most so many), `groups 4` and `person 4` (persons by their keys), `failures`: what the shelf returns
-//!   for these. A case or an incident that names community 3 is `in 3`. A person who shares a `community` with the
-//!   source and isn't in the one that is named is a `neighbour`. A person who is only in that one is a `peer`.
+//!   a number, at most so many), `groups 4` and `person 4` (persons by their keys), `failures`: the shelf's answer. A
+//!   case or an incident that names community 3 is `in 3`. A person who shares a `community` with the source and isn't
+//!   in the one that is named is a `neighbour`. A person who is only in that one is a `peer`.
 #![tactic(auto)]
 
 mod facts;

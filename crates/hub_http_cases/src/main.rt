@@ -24,12 +24,12 @@
 //! - `unchanged`: the same; if it changes some reply to the six persons, the answer begins with `changed`;
 //! - `bytes`: the reader gives them one by one, and the answer has the count of reads;
 //! - `prefixes`: each proper prefix, answered by how many of them ended as cut off with nothing written;
-//! - `reads`: one by one, and the k-th read fails, for each k up to the last read that a request takes; answered by how
-//!   many ended so with nothing written;
+//! - `reads`: one by one, and the k-th read fails, for each k up to the last read that a request takes. The answer is
+//!   how many ended so with nothing written;
 //! - `writes`: the writer takes 16 bytes at a time, and its k-th write fails, for each k up to the last write that the
-//!   reply takes; answered by how many ended so;
+//!   reply takes. The answer is how many ended so;
 //! - `writes anew`, with two requests and a bar between them: the same for the second, which the first one takes back
-//!   before each k; answered by the outcome for each k, and by the code with which the second is then refused;
+//!   before each k. The answer is the outcome for each k, and the code with which the second is then refused;
 //! - `disturbed`: the first read is interrupted, and no byte is asked of the line; `unwritten`: the writer takes
 //!   nothing.
 #![tactic(auto)]

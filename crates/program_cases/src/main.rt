@@ -21,10 +21,10 @@
 //! `stopped`. `post|KEY|TARGET|BODY` posts to the store, also several times, a line each; the answer is how many are
 //! done, or else the first reply to one that isn't.
 //!
-//! Files and clocks: `sql|STATEMENTS` runs over the file of the store, which is made if it isn't there; `file|BYTES`
-//! puts these there; `modes|WORD` prints the mode of the file of this name, and of its log. `clock|CLOCK` prints the
-//! present moment, and `ask|CLOCK|INPUT` the reply of the hub in memory to the caller in the input. `ask starved` has
-//! no memory for reading.
+//! Files and clocks: `sql|STATEMENTS` runs over the file of the store, which is made if it isn't there. `file|BYTES`
+//! puts these bytes there. `modes|WORD` prints the mode of the file of this name, and of its log. `clock|CLOCK` prints
+//! the present moment, and `ask|CLOCK|INPUT` the reply of the hub in memory to the caller in the input. `ask starved`
+//! has no memory for reading.
 #![tactic(auto)]
 
 mod calls;

@@ -3,13 +3,13 @@
 //! have together.
 //!
 //! `redact_bench TURNS CALL GATES PERMISSIONS`: calls `excerpt` or `finds` so many times for that reader over the
-//! report on the first line, with no gate at the root. CALL may also be `source`, an excerpt for a reader of the
-//! source. The second line is the pointer of an array. Its first elements have so many gates that only the source
-//! passes, and those behind them so many permissions for the reader. Prints how many classes are visible and how many
-//! pairs withheld. For a search it prints `1 0` if something is found, else `0 0`. The exit status is 1 if the report
-//! isn't accepted or the second line is no pointer, and 2 for other words.
+//! report on the first line. No gate is at the root. CALL may also be `source`, an excerpt for a reader of the source.
+//! The second line is the pointer of an array. Its first elements have so many gates that only the source passes, and
+//! those behind them so many permissions for the reader. Prints how many classes are visible and how many pairs
+//! withheld. For a search it prints `1 0` if something is found, else `0 0`. The exit status is 1 if the report isn't
+//! accepted or the second line is no pointer, and 2 for other words.
 //!
-//! `redact_bench fed LINES` and `redact_bench kept LINES`: a report with so many lines behind a gate, which is fed to a
+//! `redact_bench fed LINES` and `redact_bench kept LINES`: a report with so many lines behind a gate. It is fed to a
 //! pass line by line, or kept and redacted. Prints the same two counts.
 #![tactic(auto)]
 

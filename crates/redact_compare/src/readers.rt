@@ -14,8 +14,8 @@ fn above(path: Path) -> Path {
     Path::new(tokens)
 }
 
-/// Returns the path of a class, of what is above it (an array or a class), of an element beside it, of a member in it,
-/// or of nothing.
+/// Returns any path: of a class, of the array or class above it, of an element beside it, of a member in it, or of
+/// nothing.
 fn any_path(alloc: Global, dice: &mut Dice, classes: &[Path]) -> Result<Path, AllocError> {
     let place = dice.place(classes.len().saturating_add(2));
     let Some(class) = classes.get(place) else {

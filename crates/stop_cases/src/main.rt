@@ -5,9 +5,9 @@
 //! `cases` says what a line may say. A law of `hub_store` says that a store opened again after a stop has one of the
 //! contents that the stop may leave. This program tries it on bytes.
 //!
-//! A case is a list of steps: a store is made, and gets its first rows; requests are answered; a store of an older
-//! version is migrated to the newest. The lists of requests post, give permissions with an end and without, exchange
-//! documents, address incidents and change groups.
+//! A case is a list of steps. A step makes a store, puts its first rows, answers a request, or migrates a store of an
+//! older version to the newest. The requests post, give permissions with an end and without, exchange documents,
+//! address incidents and change groups.
 //!
 //! The program plays a case over two files in memory, the log and the database file. First the log refuses each call
 //! after the first 0, 1, 2 and so on, until a run meets no refusal, the closing of the files included. Then the
@@ -15,20 +15,20 @@
 //! Written pages go to the log four at a time. A log of four pages is carried over before the next change is written.
 //! So the database file too is stopped within a change, if a case has one more.
 //!
-//! After each stop the files are opened as two disks: one that lost all that wasn't synced, as when the power fails,
-//! and one that has all that was written, as when the process dies. Six persons then ask for Views at two moments,
-//! Lists, addressed incidents and groups. Between the two moments a permission of one list ends. The replies must be
-//! those of a hub in memory after all steps that were answered as done or, if one more was begun, after that step too.
+//! After each stop the files are opened as two disks. One lost all that wasn't synced, as when the power fails. The
+//! other has all that was written, as when the process dies. Six persons then ask for Views at two moments, Lists,
+//! addressed incidents and groups. Between the two moments a permission of one list ends. The replies must be those of
+//! a hub in memory after all steps that were answered as done. If one more step was begun, they may be those after that
+//! step too.
 //!
 //! - If making a store wasn't answered as done, the files may be no store of the hub (`NotOurs`). Then making the store
 //!   must succeed.
 //! - If a migration wasn't answered as done, the store may be of the older version (`WrongVersion`), never of a version
 //!   between. Then migrating it must succeed, with the same content. There are stores of versions 1, 2 and 3.
 //!
-//! If nothing is lost that was answered as done, the program prints counts: the steps that are changes (known by
-//! hand), the calls of each file at which it was stopped, the changes within which the database file was stopped, and
-//! the unanswered changes that were found as made. Except for the first, these are the program's own output. It prints
-//! a fault in their place if
+//! If nothing is lost that was answered as done, the program prints how many steps are changes, which is known by hand.
+//! It also prints its own counts: calls of each file at which it was stopped, changes within which the database file
+//! was stopped, and unanswered changes that were found as made. It prints a fault in their place if
 //!
 //! - a stop goes wrong: the first one, and what was found after it;
 //! - a change is never stopped within the log, or the database file is never stopped;

@@ -1,5 +1,5 @@
-//! What test programs share and the product doesn't use: dice for generated cases, a tally of what was met, and the
-//! numbers in a line of a table. Each program that compares or reads a table uses it. So it uses no library of the
+//! The parts that test programs share: dice for generated cases, a tally of outcomes, and the numbers in a line of a
+//! table. The product doesn't use them. Each program that compares or reads a table does, so they use no library of the
 //! repository.
 //!
 //! The rooms: [`Dice`]; [`Tally`]; `lines`: [`written_out`], [`number_of`], [`number_if_any`].
