@@ -59,7 +59,7 @@ fn turn_given(grants: &mut Vec<Given>, given: Given) -> Result<(), AllocError> {
     Ok(())
 }
 
-/// Puts in or takes out a permission at some class of the incident.
+/// Puts in or takes out a permission at some class of the incident. Returns the premise that is left out.
 fn turn_permission(
     dice: &mut Dice,
     after: &mut World,
@@ -83,7 +83,7 @@ fn turn_permission(
     })
 }
 
-/// Puts in or takes out a recipient of the incident.
+/// Puts in or takes out a recipient of the incident. Returns the premise that is left out.
 fn turn_recipient(
     dice: &mut Dice,
     after: &mut World,
@@ -100,7 +100,7 @@ fn turn_recipient(
     })
 }
 
-/// Puts in one more person, or another row for one.
+/// Puts in one more person, or another row for one. Returns the premise that is left out.
 fn other_person(
     dice: &mut Dice,
     circle: &mut Circle,
@@ -155,7 +155,7 @@ fn other_arrangement(
     })
 }
 
-/// Changes a membership in a group, but not the owner's.
+/// Changes a membership in a group, but not the owner's. Returns the premise that is left out.
 fn other_membership(
     dice: &mut Dice,
     circle: &mut Circle,
@@ -201,7 +201,7 @@ fn turn_directory(dice: &mut Dice, circle: &mut Circle) -> Result<(), AllocError
     }
 }
 
-/// Changes a row of the incident at this place or of the directory.
+/// Returns a change of a row, of the incident at this place or of the directory.
 pub fn other_rows(
     dice: &mut Dice,
     world: &World,

@@ -106,7 +106,7 @@ fn label_at(report: &Report, place: usize) -> u32 {
         .map_or(0, |class| plain_label(class.label))
 }
 
-/// Puts other plain lines in a class.
+/// Returns a change that puts other plain lines in a class.
 pub fn other_lines(
     alloc: Global,
     dice: &mut Dice,
@@ -226,7 +226,8 @@ fn left_out_of_cut(
     })
 }
 
-/// Puts in, takes out or exchanges a class with all classes below it and with the gates and the permissions there.
+/// Returns a change that puts in, takes out or exchanges a class, with all classes below it, their gates and
+/// permissions.
 pub fn other_class(
     alloc: Global,
     dice: &mut Dice,
@@ -302,7 +303,7 @@ fn exchange_report(
     Ok((Some(other), Some(at)))
 }
 
-/// Changes anything in an incident, which may be missing before or after.
+/// Returns a change of anything in an incident, which may be missing before or after.
 pub fn other_incident(
     alloc: Global,
     dice: &mut Dice,

@@ -26,7 +26,7 @@ const CODES: [Code; 14] = [
     Code::F2,
 ];
 
-/// Returns whether a name keeps its text, as its copy does, or is refused.
+/// Returns `kept` if a name and its copy keep its text, else `changed` or `refused`.
 fn name(alloc: Global, text: &str) -> Result<&'static str, AllocError> {
     match Name::of(alloc, text)? {
         Some(name) => {
@@ -64,7 +64,7 @@ fn keeps(text: &Text, copy: Text, made_of: &str) -> bool {
     is_same && text.as_str() == made_of && given_back.as_str() == made_of
 }
 
-/// Returns whether two texts are the same, and the first its own copy.
+/// Returns the word for whether two texts are the same, and the first its own copy.
 fn texts(alloc: Global, one: &str, other: &str) -> Result<&'static str, AllocError> {
     let text = Text::of(alloc, one)?;
     let is_kept = keeps(&text, text.clone()?, one);
@@ -117,7 +117,7 @@ fn between(alloc: Global, one: &str, other: &str) -> Result<String, AllocError> 
     Connection::between(number_of(one), number_of(other)).words(alloc)
 }
 
-/// Returns whether the texts are kept or are the same; none for another kind.
+/// Returns the word for whether the texts are kept or are the same; none for another kind.
 fn word(
     alloc: Global,
     kind: &str,

@@ -101,7 +101,7 @@ fn begin_orgs(alloc: Global, pair: &mut Pair) -> Result<bool, AllocError> {
     Ok(true)
 }
 
-/// Adds the first three persons: an administrator and two coordinators.
+/// Adds six persons. The first is an administrator, the next two are coordinators. Returns whether each is allowed.
 fn begin_persons(alloc: Global, dice: &mut Dice, pair: &mut Pair) -> Result<bool, AllocError> {
     for (org, key) in [(1, 1), (2, 2), (3, 3), (4, 4), (5, 5), (2, 6)] {
         let role = match key {
@@ -135,7 +135,7 @@ fn begin_communities(alloc: Global, pair: &mut Pair) -> Result<bool, AllocError>
     Ok(true)
 }
 
-/// Adds a group of organisation 2.
+/// Adds a group of organisation 2. Returns whether it is allowed.
 fn begin_group(alloc: Global, pair: &mut Pair) -> Result<bool, AllocError> {
     let name = Text::of(alloc, "g")?;
     let releasability = Text::new(String::new(alloc));

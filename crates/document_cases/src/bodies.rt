@@ -39,7 +39,7 @@ pub fn read(alloc: Global, body: &[u8]) -> Result<String, AllocError> {
     }
 }
 
-/// Reads the bytes that pairs of hexadecimal digits name, and returns the same.
+/// Returns the same for the bytes that pairs of hexadecimal digits name.
 pub fn read_digits(alloc: Global, digits: &str) -> Result<String, AllocError> {
     match hex::decode(alloc, digits.as_bytes()) {
         Ok(bytes) => read(alloc, bytes.as_slice()),

@@ -5,7 +5,7 @@ use std::alloc::Global;
 /// More bytes than any heap has. The number of the growth to be refused is added to it.
 const ARMS: usize = 0x4000_0000_0000_0000;
 
-/// If a growth was refused since the heap was armed, a heap that understands such sizes returns a block for this one.
+/// If a growth was refused since the heap was armed, a heap that understands such sizes returns a block for this size.
 const ASKS: usize = 0x5000_0000_0000_0000;
 
 /// Has the n-th growth from now on refused, or none for 0. A heap that doesn't understand sizes refuses only this one.

@@ -169,7 +169,7 @@ impl<'a> List<'a> {
         Ok(None)
     }
 
-    /// Runs the list over a hub that has the world.
+    /// Runs the list over a hub that has the world. Returns the outcome.
     fn run_over<Sh: Shelf + Drop>(
         &self,
         alloc: Global,

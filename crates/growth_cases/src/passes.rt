@@ -17,7 +17,8 @@ pub struct Feeding<'a> {
     pub reader: &'a str,
 }
 
-/// Feeds the lines. Returns whether each was taken. After a want of memory each later line must be refused for it too.
+/// Feeds the lines. Returns whether no line was taken after a want of memory. Fails with `NoMemory` if memory was
+/// wanting.
 fn feed_all(pass: &mut RowPass, lines: Vec<Line>) -> Result<bool, OutlineFault> {
     let mut lacks = false;
     for line in lines {

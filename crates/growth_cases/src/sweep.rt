@@ -16,8 +16,8 @@ pub struct Met {
 
 /// A case, which can be run again and again.
 pub trait Trial {
-    /// Runs it with the n-th growth of its call refused, or none for 0. The answer without a refusal is due in each
-    /// run.
+    /// Runs it with the n-th growth of its call refused, or none for 0. Each run must return the answer without a
+    /// refusal.
     fn run(&self, alloc: Global, n: u32) -> Result<Met, AllocError>;
 }
 

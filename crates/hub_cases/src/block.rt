@@ -11,7 +11,7 @@ pub struct Block {
     pub lines: Vec<String>,
     /// Whether each call of the shelf must fail in turn.
     pub fails: bool,
-    /// Whether the steps of statements are limited, to ever more.
+    /// Whether the steps of statements are limited, to more and more.
     pub limits: bool,
     /// Whether each page is printed with how many reports the shelf was asked about.
     pub counts: bool,

@@ -19,7 +19,7 @@ pub struct Failing<Sh: Shelf> {
 }
 
 impl<Sh: Shelf> Failing<Sh> {
-    /// Returns whether this call is answered. At the last value of the count none is.
+    /// Counts down to the call that fails. Fails for that one, and for every call at the last value of the count.
     fn ask(&mut self) -> Result<(), ShelfFault>
         ensures shelf { self.new.shelf ≡ self.old.shelf }
         ensures cause { HasCause self.old.failures self.new.failures result }

@@ -29,7 +29,7 @@ fn told_of(alloc: Global, statements: &str, migrates: bool) -> Result<String, Al
     }
 }
 
-/// Returns whether the shelf has the row with which it began.
+/// Returns the words for whether the shelf has the row with which it began.
 fn describe_content<S: Alter>(shelf: &mut SqlShelf<S>) -> &'static str {
     match shelf.person_by_key(&key_of(1)) {
         Ok(Some(_)) => "person 1 is there",
@@ -38,7 +38,7 @@ fn describe_content<S: Alter>(shelf: &mut SqlShelf<S>) -> &'static str {
     }
 }
 
-/// Returns whether the connection that a refused opening gave back takes new tables.
+/// Makes tables over the connection that a refused opening gave back. Returns the outcome.
 fn made_after_refusal(alloc: Global) -> Result<&'static str, AllocError> {
     match open_tables(alloc, Connection::open_in_memory(alloc)?, false) {
         Ok(_) => Ok("opened"),
@@ -49,7 +49,8 @@ fn made_after_refusal(alloc: Global) -> Result<&'static str, AllocError> {
     }
 }
 
-/// Returns whether tables are made only once, and whether the connection comes back with its rows.
+/// Makes tables again over the connection of a store, which must be refused. Returns whether the store's rows are
+/// there.
 fn made_twice(alloc: Global) -> Result<&'static str, AllocError> {
     let Some(shelf) = begun(alloc)? else {
         return Ok("not made");
@@ -64,7 +65,7 @@ fn made_twice(alloc: Global) -> Result<&'static str, AllocError> {
     }
 }
 
-/// Returns whether the rows are there after a release and an opening.
+/// Opens a store that was released. Returns whether the store's rows are there.
 fn opened_again(alloc: Global, migrates: bool) -> Result<&'static str, AllocError> {
     let Some(shelf) = begun(alloc)? else {
         return Ok("not made");

@@ -72,7 +72,7 @@ fn is_as_if_not_made(alloc: Global, lines: &[&str], told: &[String]) -> Result<b
     }
 }
 
-/// Fails each call of the shelf in turn.
+/// Fails each call of the shelf in turn. Returns the outcome.
 fn failed_in_turn(alloc: Global, lines: &[&str]) -> Result<&'static str, AllocError> {
     for calls in 0..MOST_CALLS {
         match replies_failing(alloc, lines, calls)? {
@@ -93,7 +93,7 @@ fn failed_in_turn(alloc: Global, lines: &[&str]) -> Result<&'static str, AllocEr
     Ok("more calls than expected")
 }
 
-/// Returns whether the tables answer as the shelf in memory did.
+/// Returns the words for whether the tables answer as the shelf in memory did.
 fn over_tables(alloc: Global, lines: &[&str], told: &[String]) -> Result<&'static str, AllocError> {
     match tables::replies(alloc, lines)? {
         Some(others) if others.iter().eq(told.iter()) => Ok("the same over tables"),

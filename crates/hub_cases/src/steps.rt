@@ -95,7 +95,7 @@ fn asked_within(
     Ok((false, trial))
 }
 
-/// Asks without a limit.
+/// Asks without a limit, and returns the trial.
 fn asked_freely(alloc: Global, trial: Trial, asked: &[Asked]) -> Result<Trial, AllocError> {
     let mut trial = trial;
     for one in asked {
@@ -104,8 +104,8 @@ fn asked_freely(alloc: Global, trial: Trial, asked: &[Asked]) -> Result<Trial, A
     Ok(trial)
 }
 
-/// Asks each within the limit. If the tables give up, everybody must see the same as before, and the same request must
-/// be answered without a limit.
+/// Asks each within the limit, and returns the trial. If the tables give up, everybody must see the same as before, and
+/// the same request must be answered without a limit.
 fn asked_all(
     alloc: Global,
     trial: Trial,
@@ -150,6 +150,7 @@ fn try_limit(
 }
 
 /// Limits the steps of a statement to one, two and so on, until no request behind those of the world is given up.
+/// Returns the outcome.
 pub fn limit_steps(
     alloc: Global,
     lines: &[&str],

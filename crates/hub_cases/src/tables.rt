@@ -21,7 +21,7 @@ pub fn make_tables<S: Alter + Drop>(
     }
 }
 
-/// Opens the tables of the connection, or migrates them to the newest version.
+/// Opens the tables of the connection, or migrates them to the newest version. Returns the shelf over them.
 pub fn open_tables<S: Alter + Drop>(
     alloc: Global,
     conn: Connection<S>,

@@ -17,7 +17,7 @@ fn push_pairs(alloc: Global, all: &mut String, view: &View) -> Result<(), AllocE
     Ok(())
 }
 
-/// Writes `view 1 revision 1 of 2 classes 1 DOCUMENT`, and behind it what is withheld.
+/// Returns `view 1 revision 1 of 2 classes 1 DOCUMENT`, and behind it what is withheld.
 fn view(alloc: Global, view: &View) -> Result<String, AllocError> {
     let (number, revision, source, classes) = (
         view.number,
@@ -34,7 +34,7 @@ fn view(alloc: Global, view: &View) -> Result<String, AllocError> {
     Ok(all)
 }
 
-/// Writes `incidents`, and each with its number, its revision and its source.
+/// Returns `incidents`, and each with its number, its revision and its source.
 fn incidents(alloc: Global, entries: &[Entry]) -> Result<String, AllocError> {
     let mut all = String::from_str(alloc, "incidents")?;
     for entry in entries {
@@ -86,7 +86,7 @@ fn caller(alloc: Global, person: &Person) -> Result<String, AllocError> {
     format!(in alloc; "caller {number} {name} of {org} {role} {nominated}")
 }
 
-/// Writes `trace`, and each of its lines.
+/// Returns `trace`, and each of its lines.
 fn trace(alloc: Global, text: &str) -> Result<String, AllocError> {
     let mut all = String::from_str(alloc, "trace")?;
     for line in text.trim_end().split('\n') {

@@ -154,7 +154,7 @@ pub fn any_revision(dice: &mut Dice, world: &World, incident: u32) -> u32 {
     }
 }
 
-/// Returns another document, mostly under the incident's IncidentID, sometimes with two.
+/// Returns another document, mostly under the incident's IncidentID; one in ten has two Incidents.
 pub fn any_replace(dice: &mut Dice, world: &World, asker: Asker) -> Result<Replace, AllocError> {
     let Asker { own, incident, .. } = asker;
     let mut idents = Vec::new(world.alloc);

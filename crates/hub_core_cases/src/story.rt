@@ -40,7 +40,7 @@ fn found<S: Shelf>(
     Ok(describe_facts(alloc, &facts)?)
 }
 
-/// Runs a request of a person: only its facts, or all that follows.
+/// Runs a request of a person. Returns only its facts, or the answer.
 fn request<S: Shelf>(
     alloc: Global,
     shelf: &mut S,

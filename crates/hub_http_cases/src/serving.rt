@@ -126,7 +126,7 @@ fn failing_writes(
 }
 
 /// Serves one request whose reply fails at the k-th write, for each k. Before each k another request takes it back.
-/// After each failure it is asked again, with a writer that takes all bytes.
+/// After each failure it is asked again, with a writer that takes all bytes. Returns the outcomes.
 fn failing_writes_anew(
     alloc: Global,
     hub: &mut Hub<ListShelf>,

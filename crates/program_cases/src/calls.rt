@@ -18,7 +18,7 @@ fn call(rt: &HostRuntime, port: u16, bytes: &[u8]) -> io::Result<Option<TcpStrea
     Ok(Some(caller))
 }
 
-/// Returns the callers of a port, each of which has sent its bytes, except for those that left.
+/// Adds the callers of a port, each of which has sent its bytes, except for those that left.
 pub fn call_all(
     rt: &HostRuntime,
     port: u16,

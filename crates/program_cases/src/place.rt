@@ -35,7 +35,7 @@ impl Place {
         let _ = fs::remove_file(rt, self.log.as_str());
     }
 
-    /// Puts these bytes into the store's file.
+    /// Puts these bytes into the store's file. Returns the line that says so.
     pub fn put(&self, rt: &HostRuntime, field: &str) -> io::Result<String> {
         let bytes = field_of(rt, field)?;
         fs::write(rt, self.path.as_str(), &bytes)?;

@@ -13,7 +13,7 @@ use std::io;
 use std::net::{Ipv4Addr, TcpListener, TcpStream};
 use std::str::from_utf8;
 
-/// Returns the start that all cases make.
+/// Starts the program, as all cases do. Returns its status.
 fn begin(
     rt: &HostRuntime,
     words: io::Result<Args>,
@@ -163,7 +163,7 @@ fn told_done(rt: &HostRuntime, callers: &mut Vec<TcpStream>) -> io::Result<Strin
     Ok(format!(in alloc; "{count} done\n")?)
 }
 
-/// Posts to the store.
+/// Posts to the store. Returns how many posts are done, or the first other reply.
 pub fn post(rt: &HostRuntime, place: &Place, field: &str) -> io::Result<String> {
     let requests = posts_of(rt, field)?;
     let (told, mut callers) = served(rt, place, &requests)?;

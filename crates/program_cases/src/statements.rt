@@ -19,7 +19,7 @@ fn are_run<S: Alter>(conn: &mut Connection<S>, statements: &[u8]) -> bool {
     }
 }
 
-/// Runs the statements of a field over the file.
+/// Runs the statements of a field over the file. Returns the outcome.
 pub fn run(rt: &HostRuntime, place: &Place, field: &str) -> io::Result<String> {
     let statements = field_of(rt, field)?;
     let Some(mut conn) = connect(rt, place) else {

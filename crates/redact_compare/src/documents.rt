@@ -212,7 +212,7 @@ fn put_into_chain(
     }
 }
 
-/// Makes these classes anew, some levels higher.
+/// Makes these classes again, some levels higher.
 fn put_into_levels(
     alloc: Global,
     dice: &mut Dice,

@@ -69,7 +69,7 @@ fn of_taking(alloc: Global, way: Way, hub: &mut Hub<ListShelf>) -> Result<Due, A
     Ok(due)
 }
 
-/// Adds these rows to the hub.
+/// Returns the hub with these rows added.
 fn with_rows(hub: Hub<ListShelf>, rows: &[Edit]) -> Hub<ListShelf> {
     let mut shelf = hub.into_shelf();
     let _ = shelf.apply(rows);

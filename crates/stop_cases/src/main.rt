@@ -1,5 +1,4 @@
-//! Stops a store in memory after each call of its two files, for the cases on standard input, and prints what was
-//! found.
+//! Stops a store in memory after each call of its two files, for the cases on standard input, and prints the outcomes.
 //!
 //! A case is a block of lines, with an empty line behind it. The program prints a line that begins with `#` as it is.
 //! `cases` says what a line may say. A law of `hub_store` says that a store opened again after a stop has one of the

@@ -110,7 +110,7 @@ impl Steps<'_> {
         }
     }
 
-    /// Plays the steps after the taking.
+    /// Plays the steps after the taking. Returns the outcome.
     fn play_over(&self, alloc: Global, shelf: SqlShelf<Stored>) -> Played {
         let (done, shelf) = self.go_over(alloc, shelf);
         let is_begun = done < self.len();
@@ -118,8 +118,8 @@ impl Steps<'_> {
         end_play(done, is_begun, is_closed, files)
     }
 
-    /// Plays the steps over these files, up to the first that isn't answered as done. After the last step it closes the
-    /// files.
+    /// Plays the steps over these files, up to the first that isn't answered as done. Then it closes the files if all
+    /// are done.
     pub fn play(&self, alloc: Global, files: Files<Stopping>) -> Played {
         match shelf_in(alloc, files, self.way) {
             Ok(shelf) => self.play_over(alloc, shelf),

@@ -98,7 +98,7 @@ fn make_tables<S: Alter + Drop>(
     }
 }
 
-/// Opens the tables of the connection, or migrates them to the newest version.
+/// Opens the tables of the connection, or migrates them to the newest version. Returns the shelf over them.
 fn open_tables<S: Alter + Drop>(
     alloc: Global,
     conn: Connection<S>,

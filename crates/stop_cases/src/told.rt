@@ -15,7 +15,7 @@ fn push_withheld(alloc: Global, all: &mut String, view: &View) -> Result<(), All
     Ok(())
 }
 
-/// Writes the numbers, the document, and what is withheld.
+/// Returns the numbers, the document, and what is withheld.
 fn view(alloc: Global, view: &View) -> Result<String, AllocError> {
     let (number, revision, source, classes) = (
         view.number,
@@ -30,7 +30,7 @@ fn view(alloc: Global, view: &View) -> Result<String, AllocError> {
     Ok(all)
 }
 
-/// Writes the numbers of each.
+/// Returns the numbers of each.
 fn incidents(alloc: Global, entries: &[Entry]) -> Result<String, AllocError> {
     let mut all = String::from_str(alloc, "incidents")?;
     for entry in entries {
@@ -51,7 +51,7 @@ fn groups(alloc: Global, groups: &[JoinedGroup]) -> Result<String, AllocError> {
     Ok(all)
 }
 
-/// Writes what a reply says of incidents and groups, and each refusal.
+/// Returns the content of a reply about incidents and groups, and each refusal.
 pub fn reply(alloc: Global, reply: &Reply) -> Result<String, AllocError> {
     match reply {
         Reply::View(found) => view(alloc, found),
