@@ -177,7 +177,7 @@ fn other_membership(
     })
 }
 
-/// Puts in or takes out a row that no step changes.
+/// Changes a row of the directory that no step may change.
 fn turn_directory(dice: &mut Dice, circle: &mut Circle) -> Result<(), AllocError> {
     let (a, b) = (dice.one_to(ORGS), dice.one_to(ORGS));
     match dice.roll(4) {

@@ -146,7 +146,7 @@ fn begin_group(alloc: Global, pair: &mut Pair) -> Result<bool, AllocError> {
     begin_by(alloc, pair, Role::Coordinator, 2, &command)
 }
 
-/// Makes organisation 3 a member of it, which may extend it or not.
+/// Makes organisation 3 a member of it, which may extend it or not. Returns whether that is allowed.
 fn begin_member(alloc: Global, dice: &mut Dice, pair: &mut Pair) -> Result<bool, AllocError> {
     let command = CircleCommand::GroupAdd {
         group: 1,

@@ -40,7 +40,7 @@ fn whole(alloc: Global, hub: &mut Hub<ListShelf>, bytes: &[u8]) -> Result<String
     describe(alloc, served, &out)
 }
 
-/// Returns the same, and whether all replies to the persons are the same after it as before.
+/// Returns the same, with `changed` in front if some reply to the persons differs after it.
 fn unchanged(alloc: Global, hub: &mut Hub<ListShelf>, bytes: &[u8]) -> Result<String, AllocError> {
     let before = content(alloc, hub)?;
     let told = whole(alloc, hub, bytes)?;

@@ -37,7 +37,7 @@ impl<'a> Fields<'a> {
         self.word().parse::<i64>().ok()
     }
 
-    /// Returns whether a flag holds: any word but `0` and `-`.
+    /// Returns whether a flag holds: the next field isn't empty, `0` or `-`.
     pub fn flag(&mut self) -> bool {
         !matches!(self.word(), "" | "0" | "-")
     }
