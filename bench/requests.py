@@ -26,8 +26,7 @@ def peer() -> object:
     spec = importlib.util.spec_from_file_location("peer_bench", HERE / "peer" / "bench.py")
     assert spec is not None and spec.loader is not None
     module = importlib.util.module_from_spec(spec)
-    text = (HERE / "peer" / "bench.py").read_text().replace("\nmain()\n", "\n")
-    exec(compile(text, str(HERE / "peer" / "bench.py"), "exec"), module.__dict__)
+    spec.loader.exec_module(module)
     return module
 
 

@@ -26,7 +26,7 @@ DIGEST = hashlib.sha256(KEY.encode()).hexdigest()
 POSTER = hashlib.sha256(b"poster").hexdigest()
 
 
-def document(number, events, note=40):
+def document(number: int, events: int, note: int = 40) -> bytes:
     """A report of `events` EventData classes with mixed markings, like those that teams exchange."""
     labels = [None, "public", "green", "amber", "red", "need-to-know"]
     data = []
@@ -148,4 +148,5 @@ def main():
         print("%-28s %9.2f %-2s %9.2f %-2s %9.2f" % (name, ours, unit, peer, unit, ratio))
 
 
-main()
+if __name__ == "__main__":
+    main()

@@ -2,11 +2,14 @@
  *
  *     calls               answers each case with a room of every length from 0 to one above the answer's (of long answers, of
  *                         some lengths), looks at what was told and written, and prints what redaction_cases prints
+ *     calls answers       the same with three rooms for each case: one byte less than the answer needs, just that, and one more
  *     calls threads N     answers all cases in N threads at once
  *     calls stack N       answers all cases in a thread with a stack of N bytes
  *     calls null          passes NULL
- *     calls refuse        answers each case while the first, second, .. piece of memory is refused; wanted for it are
- *                         -DREFUSE and -Wl,--wrap=malloc,--wrap=realloc,--wrap=free
+ *     calls refuse        answers each case while the first, second, .. piece of memory is refused, and all behind it; wanted for
+ *                         it are -DREFUSE and -Wl,--wrap=malloc,--wrap=realloc,--wrap=free
+ *     calls growths       answers each case while the first, second, .. growth of the heap alone is refused, and once more behind
+ *                         it; wanted is the heap of scripts/refuse-growth.d/refuse.c, preloaded
  */
 #include "iodef_redact.h"
 
@@ -190,15 +193,25 @@ static Answer answer_of(const Case *c, size_t place) {
     return answer;
 }
 
+static void call_in_room(const Case *c, const Answer *answer, size_t room, size_t place) {
+    size_t length = answer->text.length;
+    uint8_t *out = malloc(room ? room : 1);
+    if (call_in(c, room, length, out, place) != answer->number) fail("another number in another room", place);
+    if (!answer->number && room >= length && memcmp(out, answer->text.start, length)) fail("another answer in another room", place);
+    free(out);
+}
+
 static void call_in_all(const Case *c, const Answer *answer, size_t place) {
     size_t length = answer->text.length;
     for (size_t room = 0; room <= length + 1; room++) {
         if (length > ALL_LENGTHS && room > 2 && room + 2 < length && room % (length / 16)) continue;
-        uint8_t *out = malloc(room ? room : 1);
-        if (call_in(c, room, length, out, place) != answer->number) fail("another number in another room", place);
-        if (!answer->number && room >= length && memcmp(out, answer->text.start, length)) fail("another answer in another room", place);
-        free(out);
+        call_in_room(c, answer, room, place);
     }
+}
+
+static void call_in_three(const Case *c, const Answer *answer, size_t place) {
+    size_t length = answer->text.length;
+    for (size_t room = length ? length - 1 : 0; room <= length + 1; room++) call_in_room(c, answer, room, place);
 }
 
 static void print_faults(void) {
@@ -216,13 +229,13 @@ static void print(const Answer *answer) {
     if (!answer->text.length || answer->text.start[answer->text.length - 1] != '\n') putchar('\n');
 }
 
-static void by_lengths(void) {
+static void by_rooms(void (*in_rooms)(const Case *, const Answer *, size_t)) {
     for (size_t at = 0; at < count; at++) {
         if (cases[at].verb == FAULTS) print_faults();
         if (cases[at].verb == TEXT) puts(cases[at].text);
         if (!asks(&cases[at])) continue;
         Answer answer = answer_of(&cases[at], at + 1);
-        call_in_all(&cases[at], &answer, at + 1);
+        in_rooms(&cases[at], &answer, at + 1);
         print(&answer);
         free(answer.text.start);
     }
@@ -339,12 +352,65 @@ static void by_refusals(void) {
 #endif
 }
 
+/* ---- a growth that is refused, and no other ---- */
+
+enum { ARMS = 0x40, ASKS = 0x50 }; /* the first byte of sizes that no heap has */
+static void *(*volatile take)(size_t) = malloc;
+
+/* The heap refuses this growth from here on, and of 0 none. */
+static void arm(size_t growth) {
+    if (take(((size_t)ARMS << 56) + growth)) fail("the heap gives what no heap has", 0);
+}
+
+/* Whether the heap refused one since it was armed. */
+static int has_refused(void) {
+    void *piece = take((size_t)ASKS << 56);
+    free(piece);
+    return piece != NULL;
+}
+
+static void call_and_compare(const Case *c, const Answer *answer, uint8_t *out, size_t place) {
+    size_t length = answer->text.length;
+    if (call_in(c, length + 1, length, out, place) != answer->number) fail("another number behind a refusal", place);
+    if (!answer->number && memcmp(out, answer->text.start, length)) fail("another answer behind a refusal", place);
+}
+
+static long refusals_of(const Case *c, size_t place) {
+    Answer answer = answer_of(c, place);
+    uint8_t *out = malloc(answer.text.length + 1);
+    size_t growth = 0;
+    for (int is_hit = 1; is_hit;) {
+        arm(++growth);
+        uint32_t number = call_in(c, answer.text.length + 1, answer.text.length, out, place);
+        is_hit = has_refused();
+        arm(0);
+        if (number != (is_hit ? IODEF_REDACT_NO_MEMORY : answer.number)) fail("a growth was refused, and another number told", place);
+        call_and_compare(c, &answer, out, place);
+    }
+    free(out);
+    free(answer.text.start);
+    return (long)growth - 1;
+}
+
+static void by_growths(void) {
+    long refusals = 0, none = 0;
+    for (size_t at = 0; at < count; at++) {
+        if (!asks(&cases[at])) continue;
+        long here = refusals_of(&cases[at], at + 1);
+        refusals += here;
+        none += here == 0;
+    }
+    printf("%ld growths refused, %ld cases without one\n", refusals, none);
+}
+
 int main(int argc, char **argv) {
     const char *how = argc > 1 ? argv[1] : "lengths";
     size_t number = argc > 2 ? strtoul(argv[2], NULL, 10) : 0;
     if (!strcmp(how, "null")) return by_null(), 0;
     read_table();
-    if (!strcmp(how, "lengths")) by_lengths();
+    if (!strcmp(how, "lengths")) by_rooms(call_in_all);
+    else if (!strcmp(how, "answers")) by_rooms(call_in_three);
+    else if (!strcmp(how, "growths")) by_growths();
     else if (!strcmp(how, "threads")) by_threads(number, 0);
     else if (!strcmp(how, "stack")) by_threads(1, number);
     else if (!strcmp(how, "refuse")) by_refusals();
