@@ -1,7 +1,7 @@
 """A circle of a hub that changes at random, and what a view description says of a reader of an incident there.
 
-What a description says is worked out here from the requests that the hub was sent, by the rules of docs/POLICY.md ("Standing,
-case and facts"). Nothing is taken from a hub's answer but the numbers of what is new.
+What a description says is worked out here from the requests that the hub was sent, by the rules of docs/POLICY.md ("Who is
+who"). Nothing is taken from a hub's answer but the numbers of what is new.
 """
 from __future__ import annotations
 
