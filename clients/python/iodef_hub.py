@@ -124,6 +124,16 @@ class Entry:
     source: int
 
 
+class Place(NamedTuple):
+    """An incident of a circle that has several hubs: which hub, from 1 and the oldest first, and the number that the hub gave it."""
+
+    hub: int
+    number: int
+
+    def __str__(self) -> str:
+        return f"{self.hub}/{self.number}"
+
+
 @dataclass(frozen=True)
 class Withheld:
     """A rule that hides something below a place of the excerpt. `RULES` has the rules in words."""
@@ -610,6 +620,54 @@ class Hub:
         self._do("/arrangements/cancel", AGAIN_TAKE, ("org", org))
 
 
+class Hubs:
+    """The hubs of one circle that began a second hub beside the first, the oldest first, for one key.
+
+    Each hub numbers its own incidents, so an incident is a `Place`. Persons, organisations, communities and groups have the same
+    numbers in each. What each hub does is `at(1)`, `at(2)` and so on; a new report is posted at `newest`. The arguments behind
+    `urls` are those of `Hub`.
+    """
+
+    def __init__(
+        self, urls: Sequence[str], key: str, ca: str | None = None, timeout: float = 70, tries: int = 5, pause: float = 1
+    ) -> None:
+        if not urls:
+            raise ValueError("a circle has at least one hub")
+        self.all = tuple(Hub(url, key, ca, timeout, tries, pause) for url in urls)
+
+    @property
+    def newest(self) -> Hub:
+        """The hub at which new reports are posted."""
+        return self.all[-1]
+
+    def at(self, hub: int) -> Hub:
+        """The hub of this place, from 1. Raises ValueError if there is none."""
+        if not 1 <= hub <= len(self.all):
+            raise ValueError(f"there is no hub {hub}: the hubs are 1 to {len(self.all)}")
+        return self.all[hub - 1]
+
+    def view(self, place: Place) -> View:
+        """What the caller may read of an incident, and what is withheld where, by which rule."""
+        return self.at(place.hub).view(place.number)
+
+    def every_addressed(self) -> Iterator[tuple[Place, Entry]]:
+        """Yields each incident that addresses the caller or its organisation, those of the oldest hub first."""
+        return self._each(lambda hub: hub.every_addressed())
+
+    def every_incident(self) -> Iterator[tuple[Place, Entry]]:
+        """Yields each incident that shows the caller a class, those of the oldest hub first."""
+        return self._each(lambda hub: hub.every_incident())
+
+    def every_found(self, needle: str, class_name: str | None = None) -> Iterator[tuple[Place, Entry]]:
+        """Yields each incident in which a class that the caller may read holds a text, those of the oldest hub first."""
+        return self._each(lambda hub: hub.every_found(needle, class_name))
+
+    def _each(self, entries: Callable[[Hub], Iterator[Entry]]) -> Iterator[tuple[Place, Entry]]:
+        for at, hub in enumerate(self.all, 1):
+            for entry in entries(hub):
+                yield Place(at, entry.number), entry
+
+
 def _every(page: Callable[[int], tuple[Entry, ...]], after: int) -> Iterator[Entry]:
     while True:
         found = page(after)
@@ -751,6 +809,15 @@ def number(text: str) -> int:
     return int(text)
 
 
+def place(text: str) -> Place:
+    """An incident's number, or HUB/NUMBER. The hub of a number alone is 0."""
+    hub, slash, rest = text.rpartition("/")
+    found = Place(number(hub) if slash else 0, number(rest))
+    if slash and not found.hub:
+        raise argparse.ArgumentTypeError("hubs are counted from 1, as in 1/17")
+    return found
+
+
 def gate(text: str) -> Gate:
     parts = text.split(":", 2)
     if len(parts) != 3:
@@ -782,15 +849,23 @@ class Unseen(Exception):
 
 
 class Teller:
-    """Writes results: in lines for people, or with --json the hub's own answers, one a line."""
+    """Writes results: in lines for people, or with --json the hub's own answers, one a line.
 
-    def __init__(self, hub: Hub, is_json: bool) -> None:
-        self.hub, self.is_json = hub, is_json
+    If there are several hubs, `at` is which one this is. Then `before` stands before each line, and an answer has a member `hub`.
+    """
+
+    def __init__(self, hub: Hub, is_json: bool, at: int = 0, before: str = "") -> None:
+        self.hub, self.is_json, self.at, self.before = hub, is_json, at, before
+        self.told: list[str] = []
+
+    def answer(self) -> bytes:
+        return b'{"hub":%d,' % self.at + self.hub.heard.lstrip()[1:] if self.at else self.hub.heard
 
     def tell(self, *lines: str) -> None:
         sys.stdout.flush()
-        whole = self.hub.heard + b"\n" if self.is_json else "".join(line + "\n" for line in lines).encode(errors="backslashreplace")
-        sys.stdout.buffer.write(whole)
+        self.told += lines
+        text = "".join(f"{self.before}{line}\n" for line in lines)
+        sys.stdout.buffer.write(self.answer() + b"\n" if self.is_json else text.encode(errors="backslashreplace"))
         sys.stdout.buffer.flush()
 
     def pages(self, page: Callable[[int], tuple[Entry, ...]]) -> None:
@@ -872,11 +947,12 @@ class Watched:
         os.replace(new.name, self.file)
 
 
-def handed_over(command: str, entry: Entry) -> bool:
+def handed_over(command: str, entry: Entry, before: str = "") -> bool:
     """Whether a command that was run with the number and the source of an incident ended well. It gets nothing else: no content,
     no key, an empty standard input."""
     environment = {name: value for name, value in os.environ.items() if name not in ("IODEF_HUB_KEY", "IODEF_HUB_KEY_FILE")}
-    words = [command, str(entry.number), str(entry.source)]
+    incident = f"{before}{entry.number}"
+    words = [command, incident, str(entry.source)]
     try:
         status = subprocess.run(words, stdin=subprocess.DEVNULL, stdout=sys.stderr, env=environment, timeout=COMMAND_SECONDS).returncode
         if status == 0:
@@ -886,20 +962,22 @@ def handed_over(command: str, entry: Entry) -> bool:
         why = f"didn't end within {COMMAND_SECONDS} seconds"
     except OSError as fault:
         why = f"wasn't run: {fault.strerror}"
-    told = f"{command} {why}; incident {entry.number} and those behind it are tried again at the next look"
+    told = f"{command} {why}; incident {incident} and those behind it are tried again at the next look"
     print(f"iodef-hub-ask: {shown(told)}", file=sys.stderr, flush=True)
     return False
 
 
-def look(hub: Hub, given: argparse.Namespace, watched: Watched) -> None:
-    """Tells what is new. If the command fails, the look ends there, so that no incident is told before one that stands ahead of it."""
+def look(hub: Hub, given: argparse.Namespace, watched: Watched, at: int) -> None:
+    """Tells what is new. If the command fails, the look ends there, so that no incident is told before one that stands ahead of it.
+    If there are several hubs, `at` is which one this is, and 0 else."""
+    before, named = (f"{at}/", {"hub": at}) if at else ("", {})
     for entry in hub.every_incident(0 if given.all else watched.last):
         if not watched.is_news(entry):
             continue
         if not watched.is_first:
-            if given.exec is not None and not handed_over(given.exec, entry):
+            if given.exec is not None and not handed_over(given.exec, entry, before):
                 return
-            print(json.dumps(asdict(entry), separators=(",", ":")) if given.json else entry_line(entry), flush=True)
+            print(json.dumps({**named, **asdict(entry)}, separators=(",", ":")) if given.json else before + entry_line(entry), flush=True)
         watched.note(entry)
         if not watched.is_first:
             watched.keep()
@@ -908,19 +986,35 @@ def look(hub: Hub, given: argparse.Namespace, watched: Watched) -> None:
         watched.keep()
 
 
-def do_watch(hub: Hub, given: argparse.Namespace, teller: Teller) -> None:
+def watched_of(given: argparse.Namespace, count: int) -> list[Watched]:
+    """What was told of each hub. The state of the first is in the file of --state, that of the second in FILE.2, and so on. If the
+    first one's is there, the circle was watched before it had a further hub, so all that stands at that hub is new."""
+    if count > 1 and given.start is not None:
+        raise Usage("--from is a number of one hub: name that hub alone by --url")
+    was_watched = given.state is not None and os.path.exists(given.state)
+    watched = [Watched(given.state, given.start, given.all)]
+    for at in range(2, count + 1):
+        file = None if given.state is None else f"{given.state}.{at}"
+        watched.append(Watched(file, 0 if was_watched else None, given.all))
+    return watched
+
+
+def do_watch(hubs: Hubs, given: argparse.Namespace) -> None:
     """New incidents by number; with --all also new revisions and what becomes visible, which costs a whole list each time."""
     if given.exec is not None and shutil.which(given.exec) is None:
         raise Usage(f"--exec {given.exec}: there is no such program")
-    watched = Watched(given.state, given.start, given.all)
+    has_several = len(hubs.all) > 1
+    each = list(zip(range(1, len(hubs.all) + 1), hubs.all, watched_of(given, len(hubs.all))))
     rounds = 0
     while True:
-        try:
-            look(hub, given, watched)
-        except (Unreachable, Refused) as fault:
-            if isinstance(fault, Refused) and fault.status not in (429, 502, 503, 504):
-                raise
-            print(f"iodef-hub-ask: {shown(str(fault))}; goes on", file=sys.stderr, flush=True)
+        for at, hub, watched in each:
+            try:
+                look(hub, given, watched, at if has_several else 0)
+            except (Unreachable, Refused) as fault:
+                if isinstance(fault, Refused) and fault.status not in (429, 502, 503, 504):
+                    raise
+                which = f"hub {at}: " if has_several else ""
+                print(f"iodef-hub-ask: {which}{shown(str(fault))}; goes on", file=sys.stderr, flush=True)
         rounds += 1
         if rounds == given.rounds:
             return
@@ -1059,6 +1153,7 @@ def do_add_person(hub: Hub, given: argparse.Namespace, teller: Teller) -> None:
         if given.key_file is not None:
             os.unlink(given.key_file)
         raise
+    given.digest = digest_of(key)  # a further hub of the circle is told the same key
     teller.tell(str(made), *([f"key, shown this once: {key}"] if given.key_file is None else []))
     if given.json and given.key_file is None:
         print(f"key, shown this once: {key}", file=sys.stderr)
@@ -1146,14 +1241,27 @@ def listed(page: Callable[[Hub, argparse.Namespace, int], tuple[Entry, ...]]) ->
     return lambda hub, given, teller: teller.pages(lambda after: page(hub, given, after))
 
 
-NUMBERS = {"number", "level", "target", "person", "org", "client", "community", "other", "group_number"}
+KINDS: dict[str, Callable[[str], Any]] = {
+    "number": place,
+    **dict.fromkeys(("level", "target", "person", "org", "client", "community", "other", "group_number"), number),
+}
 CHOICES = {"grantee": GRANTEES, "recipient": RECIPIENTS, "role": ROLES, "handling": HANDLINGS, "state": ("on", "off")}
 HELPS = {
     "level": "0 your organisation, 1 organisations that share a community with it, 2 those of connected communities too, 3 everybody in the"
     " hub, also organisations in no community, 4 the group of --group",
+    "number": "the incident's number; if there are several hubs HUB/NUMBER, as 2/17",
     "path": "the JSON pointer of a class in the Incident's document, as /Incident/0/EventData/1",
     "file": "the file, or - for standard input",
 }
+
+
+DEFAULT_URL = "http://127.0.0.1:8080"
+
+# What the commands do if there are several hubs. Those of an incident ask its hub, and all that aren't here ask each hub in turn.
+AT_INCIDENT = {"show", "indicators", "why", "replace", "redistribute", "address", "unaddress", "grant", "withdraw"}
+AT_NEWEST = {"post", "post-all"}
+LISTS = {"list", "addressed", "find"}
+NUMBERING = {"add-org", "add-person", "add-community", "new-group"}
 
 
 class Words:
@@ -1164,7 +1272,9 @@ class Words:
             prog="iodef-hub-ask", description="Asks an iodef-hub. The key stands in IODEF_HUB_KEY, or in a file that IODEF_HUB_KEY_FILE names.",
         )
         add = self.parser.add_argument
-        add("--url", default=os.environ.get("IODEF_HUB_URL", "http://127.0.0.1:8080"), help="else IODEF_HUB_URL, else %(default)s")
+        add("--url", action="append", metavar="URL",
+            help=f"the hub's address; else IODEF_HUB_URL, else {DEFAULT_URL}. Given more than once, or several in IODEF_HUB_URL with spaces"
+            " between, they are the hubs of one circle, the oldest first")
         add("--ca", default=os.environ.get("IODEF_HUB_CA") or None, help="certificates to trust in place of the system's; else IODEF_HUB_CA")
         add("--json", action="store_true", help="the hub's own answers, one a line")
         add("--tries", type=number, default=5, help="how often a request is sent at most (%(default)s)")
@@ -1188,7 +1298,7 @@ class Words:
             elif each in CHOICES:
                 made.add_argument(each, choices=CHOICES[each])
             else:
-                made.add_argument(each, type=number if each in NUMBERS else str, metavar=each.upper(), help=HELPS.get(each))
+                made.add_argument(each, type=KINDS.get(each, str), metavar=each.upper(), help=HELPS.get(each))
         self.known[name] = run
         return made
 
@@ -1204,15 +1314,15 @@ class Words:
                            help="also what stands neither below Indicator nor in a source, as the addresses of victims: look at the role")
         self.add("find", listed(lambda hub, given, after: hub.search(given.needle, given.class_name, after)),
                  "the incidents in which you may read a text, in a class of this name if one is given", "needle", "class_name?")
-        watch = self.add("watch", do_watch, "tells new incidents as they come")
+        watch = self.add("watch", lambda hub, given, teller: None, "tells new incidents as they come")
         watch.add_argument("--every", type=float, default=60, help="seconds between two looks (%(default)s)")
-        watch.add_argument("--from", dest="start", type=number, metavar="NUMBER", help="incidents above this number are new (0)")
+        watch.add_argument("--from", dest="start", type=number, metavar="NUMBER", help="incidents above this number are new (0); of one hub alone")
         watch.add_argument("--all", action="store_true", help="also new revisions, and what becomes visible: a whole list each time")
         watch.add_argument("--rounds", type=number, default=0, help="how often to look; 0 is for ever")
         watch.add_argument("--exec", metavar="COMMAND", help="runs COMMAND NUMBER SOURCE for each, without a shell, and never with content or"
                            " the key; if it fails, that incident and those behind it are tried again at the next look")
         watch.add_argument("--state", metavar="FILE", help="keeps in FILE what was told; if it isn't there and --from isn't given, what stands at"
-                           " the hub now isn't new")
+                           " the hub now isn't new; of a second hub in FILE.2, and so on")
 
     def add_reports(self) -> None:
         post = self.add("post", told(lambda hub, given: [str(each) for each in hub.post(
@@ -1322,6 +1432,82 @@ def told_of(fault: Exception) -> str:
     return shown(str(fault)) + (": write a whole number of at most 64 bits, as 1000 in place of 1000.0, or a text" if is_number else "")
 
 
+def status_of(fault: Exception) -> int:
+    """The exit status of a fault."""
+    return 1 if isinstance(fault, (Refused, Unseen)) else 4 if isinstance(fault, MayBeTaken) else 3 if isinstance(fault, HubError) else 2
+
+
+def urls_of(given: argparse.Namespace, environment: Mapping[str, str]) -> list[str]:
+    return given.url or environment.get("IODEF_HUB_URL", "").split() or [DEFAULT_URL]
+
+
+def run_one(words: Words, given: argparse.Namespace, hub: Hub, teller: Teller) -> None:
+    """Runs a command at one hub."""
+    try:
+        words.known[given.command](hub, given, teller)
+    except Refused:
+        if given.json:
+            teller.tell()
+        raise
+
+
+def run_at_incident(words: Words, given: argparse.Namespace, hubs: Hubs) -> None:
+    """Runs a command at the hub that its incident's number names."""
+    if not given.number.hub and len(hubs.all) > 1:
+        raise Usage(f"which hub's incident {given.number.number} is meant? There are {len(hubs.all)}: say HUB/NUMBER, as 2/{given.number.number}")
+    at = given.number.hub or 1
+    hub = hubs.at(at)
+    given.number = given.number.number
+    run_one(words, given, hub, Teller(hub, given.json, at if len(hubs.all) > 1 else 0))
+
+
+def run_at_newest(words: Words, given: argparse.Namespace, hubs: Hubs) -> None:
+    """Posts at the newest hub. It can't know what an older one has, so a replacement wants its hub named."""
+    at = len(hubs.all)
+    if given.command == "post-all" and given.replace and at > 1:
+        raise Usage("post-all --replace wants one hub: an older hub's report would be posted a second time; name its hub alone by --url")
+    teller = Teller(hubs.newest, given.json, at, f"{at}/") if at > 1 else Teller(hubs.newest, given.json)
+    run_one(words, given, hubs.newest, teller)
+
+
+def run_at_each(words: Words, given: argparse.Namespace, hubs: Hubs) -> int:
+    """Runs a command at each hub in turn, and returns the first status that isn't 0. One hub's fault doesn't keep the others from
+    being asked; but where numbers are given a fault ends it, as they have to be the same in all, unless a hub has it already."""
+    numbers: dict[int, str] = {}
+    status = 0
+    for at, hub in enumerate(hubs.all, 1):
+        teller = Teller(hub, given.json, at, f"{at}/" if given.command in LISTS else f"hub {at}: ")
+        try:
+            run_one(words, given, hub, teller)
+            numbers[at] = "".join(teller.told[:1])
+        except HubError as fault:
+            print(f"iodef-hub-ask: hub {at}: {told_of(fault)}", file=sys.stderr)
+            status = status or status_of(fault)
+            if given.command in NUMBERING and fault.code != "S1":
+                if numbers and given.command == "add-person":
+                    print(f"iodef-hub-ask: for the hubs that lack it run this again with --digest {given.digest}", file=sys.stderr)
+                return status
+    if given.command in NUMBERING and len(set(numbers.values())) > 1:
+        print("iodef-hub-ask: the hubs gave different numbers, so what is said by number isn't the same in each", file=sys.stderr)
+        status = status or 1
+    return status
+
+
+def run(words: Words, given: argparse.Namespace, hubs: Hubs) -> int:
+    """Runs a command at the hubs that it is for, and returns the status."""
+    if given.command == "watch":
+        do_watch(hubs, given)
+    elif given.command in AT_INCIDENT:
+        run_at_incident(words, given, hubs)
+    elif given.command in AT_NEWEST:
+        run_at_newest(words, given, hubs)
+    elif len(hubs.all) > 1:
+        return run_at_each(words, given, hubs)
+    else:
+        run_one(words, given, hubs.newest, Teller(hubs.newest, given.json))
+    return 0
+
+
 def main() -> int:
     """0 done, 1 refused, 2 usage, 3 not reached or no hub, 4 a change that may have been taken."""
     words = Words()
@@ -1330,22 +1516,15 @@ def main() -> int:
         if offline := words.offline.get(given.command):
             offline(given)
             return 0
-        hub = Hub(given.url, key_of(os.environ), given.ca, given.timeout, given.tries)
-        try:
-            words.known[given.command](hub, given, Teller(hub, given.json))
-        except Refused:
-            if given.json:
-                Teller(hub, True).tell()
-            raise
+        return run(words, given, Hubs(urls_of(given, os.environ), key_of(os.environ), given.ca, given.timeout, given.tries))
     except BrokenPipeError:
         os.dup2(os.open(os.devnull, os.O_WRONLY), sys.stdout.fileno())
         return 0
     except (HubError, Usage, Unseen, ValueError, OSError) as fault:
         print(f"iodef-hub-ask: {told_of(fault)}", file=sys.stderr)
-        return 1 if isinstance(fault, (Refused, Unseen)) else 4 if isinstance(fault, MayBeTaken) else 3 if isinstance(fault, HubError) else 2
+        return status_of(fault)
     except KeyboardInterrupt:
         return 130
-    return 0
 
 
 if __name__ == "__main__":
