@@ -43,6 +43,7 @@ class Origin:
         self.page = page
         self.hub_port = hub_port
         self.names: bytes | None = None
+        self.second_port: int | None = None  # of a second hub, below /2/
         self.listed: list[int] | None = None  # the numbers of a list that it answers in the hub's place
         self.at_once = self.most_at_once = 0  # how many excerpts are asked for now, and were at most
         self.instead: dict[str, Answer] = {}
@@ -77,7 +78,7 @@ class Origin:
                 self.send_response(status)
                 self.send_header("Content-Type", kind)
                 self.send_header("Content-Length", str(len(content)))
-                if self.path.startswith("/ui/"):
+                if self.path.removeprefix("/2").startswith("/ui/"):
                     self.send_header("Content-Security-Policy", policy_of(origin.page.read_text()))
                     self.send_header("X-Content-Type-Options", "nosniff")
                 self.end_headers()
@@ -95,6 +96,9 @@ class Origin:
         path = urllib.parse.urlsplit(target).path
         self.asked.append((method, target))
         self.bodies.append(body)
+        port = self.hub_port
+        if self.second_port is not None and path.startswith("/2/"):
+            path, target, port = path.removeprefix("/2"), target.removeprefix("/2"), self.second_port
         if path == "/ui/":
             return 200, "text/html; charset=utf-8", self.page.read_bytes()
         if path == "/ui/names.json":
@@ -106,10 +110,10 @@ class Origin:
         if path == "/incidents" and method == "GET" and self.listed is not None:
             return self.answer_of_list(target)
         if not re.fullmatch(r"/incidents/\d+", path) or method != "GET":
-            return self.answer_of_hub(method, target, key, body)
+            return self.answer_of_hub(method, target, key, body, port)
         self.count_asked(1)
         try:
-            return self.answer_of_hub(method, target, key, body)
+            return self.answer_of_hub(method, target, key, body, port)
         finally:
             self.count_asked(-1)
 
@@ -124,9 +128,9 @@ class Origin:
         entries = [{"number": number, "revision": 1, "source": 2} for number in found]
         return 200, "application/json", json.dumps({"incidents": entries}).encode()
 
-    def answer_of_hub(self, method: str, target: str, key: str | None, body: bytes) -> Answer:
+    def answer_of_hub(self, method: str, target: str, key: str | None, body: bytes, port: int) -> Answer:
         with self.one_at_a_time:
-            connection = http.client.HTTPConnection("127.0.0.1", self.hub_port, timeout=600)
+            connection = http.client.HTTPConnection("127.0.0.1", port, timeout=600)
             try:
                 headers = {} if key is None else {"Authorization": key}
                 connection.request(method, target, body if method != "GET" else None, headers)
