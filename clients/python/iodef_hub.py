@@ -851,7 +851,7 @@ class Unseen(Exception):
 class Teller:
     """Writes results: in lines for people, or with --json the hub's own answers, one a line.
 
-    If there are several hubs, `at` is which one this is. Then `before` stands before each line, and an answer has a member `hub`.
+    If several hubs are asked, `at` is which one this is. Then `before` stands before each line, and an answer has a member `hub`.
     """
 
     def __init__(self, hub: Hub, is_json: bool, at: int = 0, before: str = "") -> None:
@@ -1455,10 +1455,9 @@ def run_at_incident(words: Words, given: argparse.Namespace, hubs: Hubs) -> None
     """Runs a command at the hub that its incident's number names."""
     if not given.number.hub and len(hubs.all) > 1:
         raise Usage(f"which hub's incident {given.number.number} is meant? There are {len(hubs.all)}: say HUB/NUMBER, as 2/{given.number.number}")
-    at = given.number.hub or 1
-    hub = hubs.at(at)
+    hub = hubs.at(given.number.hub or 1)
     given.number = given.number.number
-    run_one(words, given, hub, Teller(hub, given.json, at if len(hubs.all) > 1 else 0))
+    run_one(words, given, hub, Teller(hub, given.json))
 
 
 def run_at_newest(words: Words, given: argparse.Namespace, hubs: Hubs) -> None:

@@ -176,6 +176,8 @@ def by_incident(two: Two) -> None:
     classes = lambda place: two.library(4, place).view(1).classes
     shown = [json.loads(bank("show", number)[1])["Incident"][0]["IncidentID"]["id"] for number in ("1/1", "1/2", "2/1")]
     check("show of each", shown, ["first", "second", "third"])
+    json_of = lambda urls, number: two.asker(0, KEYS[2], "--json", IODEF_HUB_URL=urls)("show", number)
+    check("with --json it is the hub's own answer, which iodef-hub-misp reads", json_of(" ".join(two.urls), "1/1"), json_of(two.urls[0], "1"))
     check("a number alone is refused", (bank("show", "1"), bank.errors),
           ((2, ""), "iodef-hub-ask: which hub's incident 1 is meant? There are 2: say HUB/NUMBER, as 2/1\n"))
     check("a hub that isn't there", (bank("show", "3/1"), bank.errors), ((2, ""), "iodef-hub-ask: there is no hub 3: the hubs are 1 to 2\n"))

@@ -70,6 +70,7 @@ def choosing(trial: Trial) -> None:
     trial.check_has("its list is the second hub's", browser.text("#found"), "csirt.example.com of the second", "Incident 2/1")
     trial.go("#incidents/1")
     trial.check_has("a report is called by hub and number", browser.text("#head"), "Incident 2/1: csirt.example.com of the second")
+    trial.picture("hubs")
     before = len(trial.origin.asked)
     choose(trial, 1)
     trial.check("the other hub is chosen with the same key", stands(trial) == ["/ui/", "0", False], stands(trial))
