@@ -10,10 +10,10 @@ in a second one; two pairs of communities are connected. Of the reports (4 KB, 2
 30 % for everybody, 5 % for connected communities, 5 % for a group of six organisations, 5 % for the source alone. In a day:
 
     kind           how many                    why so many
-    look           288 an organisation         a unit of iodef-hub-watch of each, at its 300 s: a list above the last number told
+    look           288 an organisation         a unit of iodef-hub-watch of each, at its 300 s: a list above the last number it knows
     import         new reports that it sees,   a program takes each into the organisation's own tools
                    for every second one
-    visit          one of four persons         the news tells the others that there is nothing for them; a visit asks as web/index.html
+    visit          one of four persons         the others have nothing new to read; a visit asks as web/index.html
                                                does: the page, /me, /me/groups, the pages of the list up to the newest thousand, the
                                                20 rows in sight, and three reports that are opened
     addressed      every second visit          the list of what is addressed to the person
@@ -28,7 +28,7 @@ in a second one; two pairs of communities are connected. Of the reports (4 KB, 2
 
 Each request begins at a moment that is drawn before the run, whether or not earlier ones have ended, and its time counts from that
 moment to its last byte; so a hub that falls behind is seen. Looks are in step with a period, all else is drawn evenly over the day.
-Each is a connection of its own with a TLS handshake, from the address of its organisation (127.20.0.0/16), as a team stands behind
+Each is a connection of its own with a TLS handshake, from the address of its organisation (127.20.0.0/16), as a team shares
 one address. nginx runs with the files of deploy/nginx and HAProxy with deploy/haproxy/haproxy.cfg; ports and folders alone differ,
 and HAProxy writes no log. The hub has no limit of memory.
 
@@ -37,7 +37,7 @@ If bench/peer is built, the same requests, but for those that the peer doesn't k
 same proxies and after the hub. The table has `below 2 s` if of each kind 95 of 100 were answered within 2 seconds, and refusals by their code.
 
 It ends with `N passed, M failed`: it checks that nothing was answered but 200 and the proxies' 429 and 503, and that each post
-that was answered stands in the store. Wanted: Python 3.11, nginx, HAProxy, openssl, and four processors that do nothing else.
+that was answered is served to its source. Wanted: Python 3.11, nginx, HAProxy, openssl, and four processors that do nothing else.
 """
 
 import argparse
@@ -210,7 +210,7 @@ def make_peer_store(program: str, store: pathlib.Path, world: World) -> None:
 
 @dataclasses.dataclass(frozen=True)
 class Request:
-    """What is asked at a moment of the run, in seconds. A look asks above the last number that its organisation was told."""
+    """What is asked at a moment of the run, in seconds. A look asks above the last number that its organisation knows."""
 
     moment: float
     kind: str
@@ -513,7 +513,7 @@ class Callers:
             self.note(request, told)
 
     def note(self, request: Request, told: bytes) -> None:
-        """What an organisation was told as the newest, and which posts were answered."""
+        """Keeps the newest number that an organisation knows, and which posts were answered."""
         if request.kind == "look" and (entries := json.loads(told)["incidents"]):
             org = self.world.org_of(request.person)
             self.told[org] = max(self.told[org], entries[-1]["number"])
@@ -672,7 +672,7 @@ def print_runs(reports: int, runs: dict[str, Run]) -> None:
         print(f"| {' | '.join(cells)} |")
     for whose, run in runs.items():
         late = share_of([it.late for it in run.outcomes], 0.99)
-        data = f"{run.data:.0f} MB of data" if run.data else "data that can't be told"
+        data = f"{run.data:.0f} MB of data" if run.data else "unknown data"
         print(f"\nThe {whose}: {run.share:.0%} of a processor, {data}; HAProxy {run.queue:.0f} MB; "
               f"99 of 100 requests began within {late * 1e3:.0f} ms of their moment; "
               f"{'below 2 s: yes' if is_within(run) else 'below 2 s: no'}.", flush=True)
@@ -709,16 +709,16 @@ def numbers(text: str) -> list[int]:
 def main() -> None:
     words = argparse.ArgumentParser(description=__doc__, formatter_class=argparse.RawDescriptionHelpFormatter, allow_abbrev=False)
     words.add_argument("--program", metavar="FILE", required=True)
-    words.add_argument("--peer", metavar="FILE", default=built_peer(), help="the plain peer; where it is built %(default)s, else none")
+    words.add_argument("--peer", metavar="FILE", default=built_peer(), help="the plain peer; else that of bench/peer, if it is built")
     words.add_argument("--nginx", metavar="FILE", default="/usr/sbin/nginx")
     words.add_argument("--haproxy", metavar="FILE", default="/usr/sbin/haproxy")
     words.add_argument("--reports", type=numbers, default=numbers("1000,5000,20000"))
     words.add_argument("--minutes", type=float, default=10)
-    words.add_argument("--peer-minutes", type=float, help="as --minutes where it isn't given")
+    words.add_argument("--peer-minutes", type=float, help="as --minutes if it isn't given")
     words.add_argument("--organisations", type=int, default=200)
     words.add_argument("--pressed", type=float, default=144)
     words.add_argument("--port", type=int, default=24210, help="the first of five ports; %(default)s")
-    words.add_argument("--folder", help="where the stores are made and removed")
+    words.add_argument("--folder", help="the folder in which the stores are made and removed")
     said = words.parse_args()
     for each in (said.program, said.peer, said.nginx, said.haproxy):
         if each and not many.is_program(each):

@@ -106,7 +106,7 @@ def middle(costs: list[Cost]) -> Cost:
 
 
 def processor_seconds(pid: int) -> float:
-    """What a process of one thread has taken of a processor, by nanoseconds where the kernel counts them."""
+    """What a process of one thread has taken of a processor, by nanoseconds if the kernel counts them."""
     try:
         return int(pathlib.Path(f"/proc/{pid}/schedstat").read_text().split()[0]) / 1e9
     except (OSError, ValueError, IndexError):
@@ -124,7 +124,7 @@ def is_program(name: str) -> bool:
 
 
 def data_megabytes(pid: int) -> float:
-    """The data of a process (VmData), which is what a limit of data counts; 0 where it can't be told, as with an address sanitizer."""
+    """The data of a process (VmData), which is what a limit of data counts; 0 if it isn't known, as with an address sanitizer."""
     try:
         found = re.search(r"^VmData:\s+(\d+) kB$", pathlib.Path(f"/proc/{pid}/status").read_text(), re.M)
     except OSError:

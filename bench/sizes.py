@@ -1,5 +1,5 @@
 #!/usr/bin/env python3
-"""What a hub and the operator's commands cost by the number of reports in the store, and where hubs of 1, 2 and 4 GB end.
+"""What a hub and the operator's commands cost by the number of reports in the store, and at how many hubs of 1, 2 and 4 GB end.
 
 usage: bench/sizes.py --program FILE [--reports N,N,..] [--kilobytes 4,13] [--longest SECONDS] [--memory GB] [--port N]
                       [--no-limits] [--folder FOLDER]
@@ -9,7 +9,8 @@ For each size and length of a report it measures, as a row of a table:
 - the store's file; the opening, by the processor and by the clock; the data of the process behind it (VmData), which is what the
   unit's limit of data counts;
 - a list's page of 100 reports, by a reader of another organisation; a search that finds nothing, by the source, which reads each
-  report; a View for the first time and again, when the document is kept; a post. Each is the middle of several, by the processor;
+  report; a View for the first time and again, when the document is kept; a post. Each is the middle of several, by the processor,
+  and a post by the clock, too;
 - the operator's commands as they are in deploy/bin, by the clock: iodef-hub-backup while the hub serves, with and without the
   lines of reports; iodef-hub-drill of the hub and a copy, with one key; iodef-hub-restore; iodef-hub-migrate from version 3. The
   last two run in a mount namespace of their own, over a folder in the place of /var/lib/private, with a systemctl that starts and
@@ -18,13 +19,13 @@ For each size and length of a report it measures, as a row of a table:
 A step that would take longer than --longest, by what it took at the size before, isn't measured, nor is a size whose memory
 exceeds --memory or what the machine has left. Such figures are reckoned from the two sizes before, and are marked by `~`.
 
-The last column says how a row grows: `the same` if the largest size is below one and a half of the smallest; `linear` if a report more
-costs the same at the largest sizes as at the smallest, within a quarter; else by what factor it costs more. Of a page, a View and a
-post, which shouldn't grow, it has the factor of the whole.
+The last column says how a row grows: `the same` if the figure of the largest size is below one and a half of that of the smallest;
+`linear` if a report more costs the same at the largest sizes as at the smallest, within a quarter; else by what factor it costs
+more. Of a page, a View and a post, which shouldn't grow, it has the factor of the whole.
 
 The table of limits has the number of reports at which deploy/lib/limit-memory refuses to start the hub, by its own reckoning, and
 the one at which the limit of data itself ends an opening, by the slope of the memory. For MemoryMax=1G both are tried, 3 % below and
-3 % above. With an address sanitizer memory can't be told, so these are left out.
+3 % above. With an address sanitizer the memory isn't known, so these are left out.
 
 It checks each store, copy, restored and migrated store by what is served of it, and ends with `N passed, M failed`. Wanted: Python
 3.11, sqlite3, GNU tools. 1,000 and 10,000 reports of 4 KB take about a minute; disk: four times the largest store.
@@ -64,14 +65,14 @@ BESIDE, REQUESTS, PROGRAM, ROW = 64, 128, 16, 220
 GIGABYTES = (1, 2, 4)
 
 FILE, OPENED, OPENED_CLOCK, DATA = "the store's file", "opening, of a processor", "opening, by the clock", "data behind the opening (VmData)"
-LIST, SEARCH, FIRST, AGAIN, POST = "a list's page of 100", "a search that finds nothing", "a View, the first time", "a View again", "a post"
+LIST, SEARCH, FIRST, AGAIN, POST, POST_CLOCK = "a list's page of 100", "a search that finds nothing", "a View, the first time", "a View again", "a post", "a post, by the clock"
 COPY, DAILY, DRILL = "hot copy", "hot copy with the lines of reports", "drill of the hub and a copy, one key"
 RESTORE, AWAY = "restore", "of which the hub is away"
 MIGRATE, MIGRATE_CLOCK, MIGRATE_DATA = "`iodef-hub migrate` from version 3, of a processor", "the same, by the clock", "its data (VmData)"
 BRING = "`iodef-hub-migrate`, the hub away all the time"
-UNITS = {FILE: "MB", DATA: "MB", MIGRATE_DATA: "MB", LIST: "ms", FIRST: "ms", AGAIN: "ms", POST: "ms"}
-STEADY = (LIST, FIRST, AGAIN, POST)
-ROWS = (FILE, OPENED, OPENED_CLOCK, DATA, LIST, SEARCH, FIRST, AGAIN, POST, COPY, DAILY, DRILL, RESTORE, AWAY, MIGRATE, MIGRATE_CLOCK, MIGRATE_DATA, BRING)
+UNITS = {FILE: "MB", DATA: "MB", MIGRATE_DATA: "MB", LIST: "ms", FIRST: "ms", AGAIN: "ms", POST: "ms", POST_CLOCK: "ms"}
+STEADY = (LIST, FIRST, AGAIN, POST, POST_CLOCK)
+ROWS = (FILE, OPENED, OPENED_CLOCK, DATA, LIST, SEARCH, FIRST, AGAIN, POST, POST_CLOCK, COPY, DAILY, DRILL, RESTORE, AWAY, MIGRATE, MIGRATE_CLOCK, MIGRATE_DATA, BRING)
 
 OLDER = """
     CREATE TEMP TABLE kept AS SELECT number, source, ident, revision FROM incident ORDER BY number;
@@ -81,7 +82,7 @@ OLDER = """
     UPDATE hub SET version = 3;
 """
 SYSTEMCTL = """#!/bin/sh
-# stop or start, in the place of systemd: one hub, whose number stands in the file `pid`.
+# stop or start, in the place of systemd: one hub, with its number in the file `pid`.
 set -eu
 cd "$SIZES"
 case $1 in
@@ -146,7 +147,7 @@ def remove(*stores: pathlib.Path) -> None:
 
 
 class Watch(threading.Thread):
-    """Looks at the data of a process until it is told to stop."""
+    """Looks at the data of a process until `stop` is called."""
 
     def __init__(self, pid: int) -> None:
         super().__init__(daemon=True)
@@ -168,7 +169,7 @@ def children() -> float:
 
 
 class Circle:
-    """A circle's folder where the operator's commands look for it, in a mount namespace of its own."""
+    """A circle's folder at the path that the operator's commands use, in a mount namespace of its own."""
 
     def __init__(self, program: str, folder: pathlib.Path, port: int) -> None:
         self.program, self.folder, self.port = program, folder, port
@@ -184,7 +185,7 @@ class Circle:
         return os.geteuid() == 0 and pathlib.Path("/var/lib/private").is_dir() and self.run("true") is not None
 
     def run(self, *words: str) -> many.Cost | None:
-        """Runs a command of deploy/bin, or the systemctl; nothing where it fails."""
+        """Runs a command of deploy/bin, or the systemctl; None if it fails."""
         bound = 'mount --bind "$0" /var/lib/private && exec "$@"'
         environment = {
             **os.environ,
@@ -287,7 +288,8 @@ def searching(stand: Stand) -> Values:
 
 def posting(stand: Stand) -> Values:
     bodies = [report(f"posted-{stand.size}-{at}", stand.kilobytes) for at in range(POSTS)]
-    return {POST: thousandths([stand.served.cost(POSTER, "POST", "/incidents?level=3", body) for body in bodies])}
+    posts = [stand.served.cost(POSTER, "POST", "/incidents?level=3", body) for body in bodies]
+    return {POST: thousandths(posts), POST_CLOCK: many.middle(posts).clock * 1e3}
 
 
 def thousandths(costs: list[many.Cost]) -> float:
@@ -397,7 +399,7 @@ STEPS = (
     Step(opening, (FILE, OPENED, OPENED_CLOCK, DATA), wants_hub=False),
     Step(asking, (LIST, FIRST, AGAIN)),
     Step(searching, (SEARCH,)),
-    Step(posting, (POST,)),
+    Step(posting, (POST, POST_CLOCK)),
     Step(copying, (COPY,)),
     Step(copying_daily, (DAILY,)),
     Step(drilling, (DRILL,), hubs=2),
@@ -517,7 +519,7 @@ class Sizes:
         remove(stand.copy)
 
 
-# ---- where hubs end
+# ---- the sizes at which hubs end
 
 
 @dataclasses.dataclass(frozen=True)
@@ -650,7 +652,7 @@ def run(said: argparse.Namespace, folder: pathlib.Path, checks: many.Checks) -> 
         print_table(kilobytes, sizes.rows[kilobytes].lines, said.reports, tables[kilobytes])
     is_told = all(slope(table[DATA]) for table in tables.values())
     if said.no_limits or not is_told:
-        print(f"sizes.py: no table of limits: {'--no-limits' if said.no_limits else 'memory can not be told, or there is one size alone'}", file=sys.stderr)
+        print(f"sizes.py: no table of limits: {'--no-limits' if said.no_limits else 'the memory is unknown, or there is one size alone'}", file=sys.stderr)
         return
     limits = Limits(said, folder, checks)
     found: dict[int, dict[int, Ends]] = {}
@@ -681,7 +683,7 @@ def main() -> None:
     words.add_argument("--memory", type=float, default=16, help="gigabytes that a hub may take; %(default)s")
     words.add_argument("--port", type=int, default=many.free_port())
     words.add_argument("--no-limits", action="store_true", help="without the table of limits")
-    words.add_argument("--folder", help="where the stores are made and removed")
+    words.add_argument("--folder", help="the folder in which the stores are made and removed")
     said = words.parse_args()
     if not many.is_program(said.program):
         words.error(f"{said.program} is no program")
