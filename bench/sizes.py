@@ -17,7 +17,8 @@ For each size and length of a report it measures, as a row of a table:
   stops the hub: this wants root, and leaves the machine as it is. `iodef-hub migrate` is measured alone, too.
 
 A step that would take longer than --longest, by what it took at the size before, isn't measured, nor is a size whose memory
-exceeds --memory or what the machine has left. Such figures are reckoned from the two sizes before, and are marked by `~`.
+exceeds --memory or what the machine has left. Such figures are reckoned from the two sizes before, and are marked by `~`; those of
+a page, a View and a post are of the size before.
 
 The last column says how a row grows: `the same` if the figure of the largest size is below one and a half of that of the smallest;
 `linear` if a report more costs the same at the largest sizes as at the smallest, within a quarter; else by what factor it costs
@@ -393,6 +394,7 @@ class Step:
     rows: tuple[str, ...]
     wants_hub: bool = True
     hubs: int = 1     # that serve such a store at once
+    is_needed: bool = False     # by the next steps, however long it takes
 
 
 STEPS = (
@@ -400,7 +402,7 @@ STEPS = (
     Step(asking, (LIST, FIRST, AGAIN)),
     Step(searching, (SEARCH,)),
     Step(posting, (POST, POST_CLOCK)),
-    Step(copying, (COPY,)),
+    Step(copying, (COPY,), is_needed=True),
     Step(copying_daily, (DAILY,)),
     Step(drilling, (DRILL,), hubs=2),
     Step(restoring, (RESTORE, AWAY), wants_hub=False),
@@ -412,15 +414,17 @@ STEPS = (
 # ---- what is reckoned
 
 
-def reckoned(row: dict[int, Figure], size: int) -> Figure | None:
-    """On the line through the two largest sizes that were measured, or in proportion to the one."""
+def reckoned(name: str, row: dict[int, Figure], size: int) -> Figure | None:
+    """On the line through the two largest sizes that were measured, or in proportion to the one; of a steady row the last figure."""
     known = sorted((at, figure.value) for at, figure in row.items() if not figure.is_reckoned and at < size)
     if not known:
         return None
+    high, more = known[-1]
+    if name in STEADY:
+        return Figure(more, True)
     if len(known) == 1:
-        return Figure(known[0][1] * size / known[0][0], True)
-    (low, less), (high, more) = known[-2:]
-    return Figure(max(more + (more - less) / (high - low) * (size - high), 0), True)
+        return Figure(more * size / high, True)
+    return Figure(more + max(rise(known[-2], known[-1]), 0) * (size - high), True)
 
 
 def slope(row: dict[int, Figure]) -> float | None:
@@ -493,14 +497,14 @@ class Sizes:
     def measure_size(self, stand: Stand, size: int, table: Table, took: dict[Step, tuple[int, float]]) -> None:
         stand.size = size
         most = min(self.said.memory * 1024, memory_left() - 1024)
-        expected = reckoned(table[DATA], size)
+        expected = reckoned(DATA, table[DATA], size)
         fits = True
         for step in STEPS:
             before, spent = took.get(step, (size, 0.0))
             if not step.wants_hub:
                 stand.close()
             has_room = expected is None or expected.value * step.hubs < most
-            if fits and has_room and spent * size / before <= self.said.longest:
+            if fits and has_room and (step.is_needed or spent * size / before <= self.said.longest):
                 begun = time.perf_counter()
                 try:
                     for name, value in step.does(stand).items():
@@ -513,7 +517,7 @@ class Sizes:
             else:
                 fits = fits and step.does is not opening
                 for name in step.rows:
-                    if figure := reckoned(table[name], size):
+                    if figure := reckoned(name, table[name], size):
                         table[name][size] = figure
             self.done += 1
         remove(stand.copy)
