@@ -26,11 +26,12 @@ in a second one; two pairs of communities are connected. Of the reports (4 KB, 2
     person         five for 200 organisations  people come and go
     health         one a minute                the operator's monitor
 
-Each request begins at a moment that is drawn before the run, whether or not earlier ones have ended, and its time counts from that
-moment to its last byte; so a hub that falls behind is seen. Looks are in step with a period, all else is drawn evenly over the day.
-Each is a connection of its own with a TLS handshake, from the address of its organisation (127.20.0.0/16), as a team shares
-one address. nginx runs with the files of deploy/nginx and HAProxy with deploy/haproxy/haproxy.cfg; ports and folders alone differ,
-and HAProxy writes no log. The hub has no limit of memory.
+Each request has a moment that is drawn before the run. It begins then, whether or not earlier ones have ended, and its time counts
+from that moment to its last byte; so a hub that falls behind is seen. The requests of one visit begin one after another, as a page
+does, a tenth of a second apart or later; their times count from their moments all the same. Looks have a period, all else is drawn
+evenly over the day. Each request is a connection of its own with a TLS handshake, from the address of its organisation
+(127.20.0.0/16), as a team shares one address. nginx runs with the files of deploy/nginx and HAProxy with deploy/haproxy/haproxy.cfg;
+ports and folders alone differ, and HAProxy writes no log. The hub has no limit of memory.
 
 Of a run of M minutes the requests are those of M/10 of the day, at the same rate. With --pressed N the day is N times as fast (144).
 If bench/peer is built, the same requests, but for those that the peer doesn't know, are asked of it for --peer-minutes, behind the
@@ -218,6 +219,7 @@ class Request:
     method: str
     target: str
     body: bytes = b""
+    visit: int = 0     # the visit that it is part of, if any
 
 
 def page_lists(seen: list[int]) -> list[int]:
@@ -268,6 +270,7 @@ class Day:
         self.drawn = random.Random(f"{len(world.orgs)} {world.reports} {seconds} {pressed}")
         self.requests: list[Request] = []
         self.changed: set[int] = set()
+        self.visits = 0
         self.own: dict[int, list[int]] = collections.defaultdict(list)
         for number in range(len(LABELS) + 1, world.reports + 1):
             self.own[world.source[number]].append(number)
@@ -298,10 +301,10 @@ class Day:
         for _ in range(self.count(day)):
             adds(self.drawn.choice(self.world.orgs))
 
-    def ask(self, kind: str, person: int, target: str, method: str = "GET", body: bytes = b"", moment: float | None = None) -> None:
+    def ask(self, kind: str, person: int, target: str, method: str = "GET", body: bytes = b"", moment: float | None = None, visit: int = 0) -> None:
         at = self.drawn.uniform(0, self.seconds) if moment is None else moment
         if at < self.seconds:
-            self.requests.append(Request(at, kind, person, method, target, body))
+            self.requests.append(Request(at, kind, person, method, target, body, visit))
 
     def reader(self, org: int) -> int:
         return self.world.person(org, self.drawn.randrange(2, EACH))
@@ -325,13 +328,14 @@ class Day:
         org = self.drawn.choice(self.world.orgs)
         person, seen = self.reader(org), self.world.visible(org)
         moment = self.drawn.uniform(0, self.seconds)
+        self.visits += 1
         asked = [("page", "/ui/"), ("me", "/me"), ("me", "/me/groups")]
         asked += [("list", f"/incidents?after={after}" if after else "/incidents") for after in page_lists(seen)]
         asked += [("view", f"/incidents/{number}") for number in seen[: -ROWS_IN_SIGHT - 1 : -1]]
         for at, (kind, target) in enumerate(asked):
-            self.ask(kind, person, target, moment=moment + at * BETWEEN)
+            self.ask(kind, person, target, moment=moment + at * BETWEEN, visit=self.visits)
         for _ in range(OPENED):
-            self.ask("view", person, f"/incidents/{self.drawn.choice(seen[-MOST_OF_LIST:])}", moment=moment + self.drawn.uniform(5, 15))
+            self.ask("view", person, f"/incidents/{self.drawn.choice(seen[-MOST_OF_LIST:])}", moment=moment + self.drawn.uniform(5, 15), visit=self.visits)
 
     def search(self, org: int) -> None:
         needle = f"198.51.100.{self.drawn.randrange(256)}" if self.drawn.random() < 0.75 else f"192.0.2.{self.drawn.randrange(20)}"
@@ -494,14 +498,21 @@ class Callers:
     async def all(self, requests: list[Request]) -> None:
         begun = time.perf_counter() + 0.5
         asked = []
+        last: dict[int, asyncio.Task[None]] = {}
         for request in requests:
             wait = begun + request.moment - time.perf_counter()
             await asyncio.sleep(max(wait, 0))
-            asked.append(asyncio.create_task(self.one(request, begun + request.moment)))
+            task = asyncio.create_task(self.one(request, begun + request.moment, last.get(request.visit)))
+            if request.visit:
+                last[request.visit] = task
+            asked.append(task)
         await asyncio.gather(*asked)
 
-    async def one(self, request: Request, moment: float) -> None:
+    async def one(self, request: Request, moment: float, behind: "asyncio.Task[None] | None") -> None:
+        """Asks a request, behind the one before it of its visit."""
         late = time.perf_counter() - moment
+        if behind is not None:
+            await asyncio.wait([behind])
         try:
             answer = await asyncio.wait_for(self.asked(request), LONGEST)
             status, told = int(answer[9:12]), answer.partition(b"\r\n\r\n")[2]
@@ -674,7 +685,7 @@ def print_runs(reports: int, runs: dict[str, Run]) -> None:
         late = share_of([it.late for it in run.outcomes], 0.99)
         data = f"{run.data:.0f} MB of data" if run.data else "unknown data"
         print(f"\nThe {whose}: {run.share:.0%} of a processor, {data}; HAProxy {run.queue:.0f} MB; "
-              f"99 of 100 requests began within {late * 1e3:.0f} ms of their moment; "
+              f"99 of 100 requests were begun within {late * 1e3:.0f} ms of their moment; "
               f"{'below 2 s: yes' if is_within(run) else 'below 2 s: no'}.", flush=True)
 
 
