@@ -191,6 +191,22 @@ def ask(port: int, key: str, method: str, target: str, body: bytes = b"") -> tup
     return answer.status, told
 
 
+# ---- other commands
+
+
+def finished(words: list[str], environment: dict[str, str] | None = None) -> subprocess.CompletedProcess[str]:
+    """What a command came to. If the script is ended meanwhile, the command ends with all that it started."""
+    pipe = subprocess.PIPE
+    run = subprocess.Popen(words, stdin=subprocess.DEVNULL, stdout=pipe, stderr=pipe, text=True, env=environment, start_new_session=True)
+    try:
+        said, fault = run.communicate()
+    except BaseException:
+        os.killpg(run.pid, signal.SIGTERM)
+        run.wait()
+        raise
+    return subprocess.CompletedProcess(words, run.returncode, said, fault)
+
+
 # ---- what a table is of
 
 

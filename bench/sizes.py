@@ -198,7 +198,7 @@ class Circle:
         }
         worked, begun = children(), time.perf_counter()
         command = ["unshare", "--mount", "sh", "-c", bound, str(self.folder / "private"), *words]
-        run = subprocess.run(command, env=environment, stdout=subprocess.DEVNULL, stderr=subprocess.PIPE, text=True)
+        run = many.finished(command, environment)
         if run.returncode:
             print(f"{' '.join(words)}: status {run.returncode}: {run.stderr[-300:]}", file=sys.stderr)
             return None
@@ -304,7 +304,7 @@ class CommandFailed(Exception):
 def command(name: str, *words: str) -> float:
     """Seconds by the clock of a command of deploy/bin that has to end well."""
     begun = time.perf_counter()
-    run = subprocess.run([str(many.DEPLOY / "bin" / name), *words], capture_output=True, text=True)
+    run = many.finished([str(many.DEPLOY / "bin" / name), *words])
     if run.returncode:
         raise CommandFailed(f"{name}: status {run.returncode}: {run.stderr[-300:]}{run.stdout[-300:]}")
     return time.perf_counter() - begun
