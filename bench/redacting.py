@@ -6,7 +6,7 @@ usage: bench/redacting.py [--library FOLDER] [--peer FILE] [--seconds N] [--inst
 
 FOLDER is what scripts/build-redact-library made, out/ where it isn't given; FILE is target/release/peer beside peer/, which
 peer/README.md tells how to build. A time is that of a processor (user and system) of the fastest of five runs, each of about N
-seconds (0.5), without the start of the process. --instructions counts instructions by callgrind in place of that: they are the
+seconds (0.5), without the start of the process; it is to be trusted on a machine that has nothing else to do. --instructions counts instructions by callgrind in place of that: they are the
 same for the same programs and reports, whatever else the machine does. It takes two minutes; with --instructions about as long.
 Wanted: Python 3.11, gcc, and valgrind for --instructions.
 """
@@ -91,11 +91,13 @@ def seconds(words: Sequence[str], report: bytes) -> float:
 
 
 def seconds_of_call(caller: Caller, report: bytes, about: float) -> float:
+    """What a call more takes: so many calls that the start of the process counts for little."""
+    start = min(seconds(caller.start(1), report) for _ in range(RUNS))
     turns = 100
-    while (spent := seconds(caller.start(turns), report) - seconds(caller.start(1), report)) < about / 4:
+    while (spent := seconds(caller.start(turns), report) - start) < max(about / 4, start):
         turns *= 4
-    turns = max(turns, round(turns * about / spent))
-    return min(seconds(caller.start(turns), report) - seconds(caller.start(1), report) for _ in range(RUNS)) / (turns - 1)
+    turns = round(turns * max(about, 2 * start) / spent)
+    return (min(seconds(caller.start(turns), report) for _ in range(RUNS)) - start) / (turns - 1)
 
 
 def instructions(words: Sequence[str], report: bytes, folder: pathlib.Path) -> int:

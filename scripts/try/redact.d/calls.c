@@ -134,7 +134,7 @@ static void read_table(void) {
     while ((length = getline(&line, &room, stdin)) >= 0) {
         if (length && line[length - 1] == '\n') line[length - 1] = 0;
         if (!*line) continue;
-        cases = realloc(cases, (count + 1) * sizeof *cases);
+        if (!(count & (count - 1))) cases = realloc(cases, (count ? 2 * count : 1) * sizeof *cases);
         cases[count++] = case_of(line, &report);
     }
     free(line);
