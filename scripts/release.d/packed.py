@@ -1,4 +1,4 @@
-"""The packages of a release: the Debian package as deploy/deb/build-deb makes it, and a tarball with the same files and more."""
+"""The packages of a release: the Debian packages as deploy/deb/build-deb makes them, and a tarball with the same files and more."""
 from __future__ import annotations
 
 import gzip
@@ -11,11 +11,33 @@ import shutil
 import subprocess
 import sys
 import tarfile
+import tempfile
 from collections.abc import Iterable
+from dataclasses import dataclass
 
 from tree import Refused, Tree
 
-Files = dict[str, bytes]
+
+@dataclass(frozen=True)
+class Link:
+    """A symbolic link, to a file beside it."""
+
+    to: str
+
+
+@dataclass(frozen=True)
+class Given:
+    """What a release is made of besides the commit: the proved programs, and the folder of the library."""
+
+    program: pathlib.Path
+    redact: pathlib.Path | None = None
+    library: pathlib.Path | None = None
+
+    def packages(self) -> list[str]:
+        return ["iodef-hub", *["iodef-redact"] * bool(self.redact), *["libiodef-redact"] * bool(self.library)]
+
+
+Files = dict[str, bytes | Link]
 # Where a file of the package comes from, by the beginning of its path. What isn't named here is generated.
 FROM = [
     (r"usr/bin/iodef-hub-ask", "clients/python/iodef_hub.py"),
@@ -24,6 +46,7 @@ FROM = [
     (r"(?:usr/)?lib/systemd/system/(.*)", r"deploy/systemd/\1"),
     (r"usr/share/iodef-hub/nginx/(?!iodef-hub-csp\.conf)(.*)", r"deploy/nginx/\1"),
     (r"usr/share/iodef-hub/page/(.*)", r"web/\1"),
+    # Of a commit without make-docs, which makes them since.
     (r"usr/share/doc/iodef-hub/([\w-]+\.md|openapi\.yaml)", r"docs/\1"),
     (r"usr/share/doc/iodef-hub/examples/reports/(.*)", r"docs/examples/\1"),
     (r"usr/share/doc/iodef-hub/examples/(site\.conf)", r"deploy/nginx/\1"),
@@ -32,44 +55,62 @@ FROM = [
     (r"usr/share/doc/iodef-hub/examples/(alerts\.yml)", r"deploy/monitoring/\1"),
     (r"usr/share/doc/iodef-hub/examples/(mail-news)", r"clients/python/examples/\1"),
     (r"usr/share/man/man1/(iodef-hub-ask\.1)\.gz", r"clients/python/\1"),
+    (r"usr/include/(iodef_redact\.h)", r"clients/c/\1"),
+    (r"usr/lib/[\w-]+/pkgconfig/(iodef_redact\.pc)", r"clients/c/\1"),
+    (r"usr/lib/python3/dist-packages/(iodef_redact\.py)", r"clients/python/\1"),
 ]
-PROGRAMS = r"usr/s?bin/.*|usr/lib/iodef-hub/.*"
-# What debhelper adds to the package; the tarball has the licence and CHANGELOG.md in their place.
-ADDED = r"usr/share/(doc/iodef-hub/(copyright|changelog\.gz)|lintian/overrides/iodef-hub)"
-# Folders of which a package has all files.
+# The programs and libraries that are proved: no commit has them.
+PROVED = r"usr/bin/iodef-(?:hub|redact)|usr/lib/[\w-]+/libiodef_redact\.(?:a|so[.\d]*)"
+PROGRAMS = rf"usr/s?bin/.*|usr/lib/iodef-hub/.*|{PROVED}"
+# The names by which the shared library is linked and loaded.
+LINKS = r"usr/lib/[\w-]+/libiodef_redact\.so(?:\.1)?"
+# What debhelper adds to a package; the tarball has the licence and CHANGELOG.md in their place.
+ADDED = r"usr/share/(doc/[\w-]+/(copyright|changelog\.gz)|lintian/overrides/[\w-]+)"
+# Folders of which the hub's package has all files.
 WHOLE = ("deploy/bin", "deploy/lib", "deploy/systemd")
 # What the tarball has besides.
 BESIDE = ("clients", "LICENSE", "CHANGELOG.md", "SECURITY.md")
 
 
-def built(tree: Tree, program: pathlib.Path, version: str, room: pathlib.Path, maintainer: str = "") -> pathlib.Path:
-    """The Debian package, made in the room, which is new."""
+def built(tree: Tree, made_of: Given, version: str, room: pathlib.Path, maintainer: str = "") -> list[pathlib.Path]:
+    """The Debian packages, made in the room, which is new; the hub's is the first."""
     room.mkdir()
     given = {name: it for name, it in os.environ.items() if not re.match(r"DEB_|DPKG_|IODEF_|SOURCE_DATE_", name)}
     given |= {"SOURCE_DATE_EPOCH": str(tree.seconds), "LC_ALL": "C.UTF-8", "TZ": "UTC"}
+    given |= {"IODEF_REDACT_PROGRAM": str(made_of.redact or ""), "IODEF_REDACT_LIBRARY": str(made_of.library or "")}
     if found := re.fullmatch(r"(.*) <(.*)>", maintainer):
         given |= {"DEBFULLNAME": found[1], "DEBEMAIL": found[2]}
-    words = [str(tree.folder / "deploy/deb/build-deb"), str(program), str(room), version]
+    words = [str(tree.folder / "deploy/deb/build-deb"), str(made_of.program), str(room), version]
     ran = subprocess.run(words, capture_output=True, text=True, env=given, umask=0o022)
-    packages = list(room.glob("*.deb"))
-    if ran.returncode or len(packages) != 1:
-        raise Refused(f"the package isn't built: {(ran.stderr or ran.stdout).strip()[-600:]}")
+    packages = [it for name in made_of.packages() for it in room.glob(f"{name}_*.deb")]
+    if ran.returncode or len(packages) != len(made_of.packages()) or len(packages) != len(list(room.iterdir())):
+        raise Refused(f"the packages aren't built: {(ran.stderr or ran.stdout).strip()[-600:]}")
     if "~trial" in packages[0].name:
-        raise Refused(f"{program} has an address sanitizer: it is for trials alone")
-    return packages[0]
+        raise Refused(f"a program has an address sanitizer: it is for trials alone: {ran.stderr.strip()[-300:]}")
+    return packages
 
 
 def files_of(tar: bytes) -> Files:
-    """The files of a tar, in which nothing else stands but folders, and nothing that others may write or that gives rights."""
+    """The files of a tar, and its links to files beside them. It has nothing else but folders, and nothing that others may
+    write or that gives rights."""
     with tarfile.open(fileobj=io.BytesIO(tar)) as opened:
-        found = {}
+        found: Files = {}
         for member in opened:
+            name = member.name.removeprefix("./")
+            if member.issym() and re.fullmatch(r"[\w-][\w.-]*", member.linkname):
+                found[name] = Link(member.linkname)
+                continue
             data = opened.extractfile(member) if member.isfile() else None
             if (data is None and not member.isdir()) or member.mode & 0o7022:
                 raise Refused(f"{member.name} is no plain file, or has the mode {member.mode:o}")
             if data:
-                found[member.name.removeprefix("./")] = data.read()
+                found[name] = data.read()
         return found
+
+
+def contents(files: Files) -> dict[str, bytes]:
+    """The files without the links."""
+    return {name: it for name, it in files.items() if not isinstance(it, Link)}
 
 
 def files_of_deb(package: pathlib.Path) -> Files:
@@ -81,19 +122,25 @@ def files_of_tarball(file: pathlib.Path) -> Files:
     return {name.partition("/")[2]: it for name, it in files_of(gzip.decompress(file.read_bytes())).items()}
 
 
-def tarball(tree: Tree, package: pathlib.Path, file: pathlib.Path) -> None:
-    """Writes a tarball with the files of the package and what stands beside it, in the order of their names."""
-    found = {name: it for name, it in files_of_deb(package).items() if not re.fullmatch(ADDED, name)}
+def tarball(tree: Tree, packages: Iterable[pathlib.Path], file: pathlib.Path) -> None:
+    """Writes a tarball with the files of the packages and what stands beside them, in the order of their names."""
+    found = {name: it for one in packages for name, it in files_of_deb(one).items() if not re.fullmatch(ADDED, name)}
     for top in BESIDE:
         path = tree.folder / top
         for one in sorted(path.rglob("*")) if path.is_dir() else [path]:
             if one.is_file():
                 found[str(one.relative_to(tree.folder))] = one.read_bytes()
+    found |= documents(tree, "tarball")
     raw = io.BytesIO()
     with tarfile.open(fileobj=raw, mode="w", format=tarfile.USTAR_FORMAT) as packed:
         for name, content in sorted(found.items()):
             member = tarfile.TarInfo(f"{file.name.removesuffix('.tar.gz')}/{name}")
-            member.size, member.mtime = len(content), tree.seconds
+            member.mtime = tree.seconds
+            if isinstance(content, Link):
+                member.type, member.linkname, member.mode = tarfile.SYMTYPE, content.to, 0o777
+                packed.addfile(member)
+                continue
+            member.size = len(content)
             member.mode = 0o755 if content.startswith((b"#!", b"\x7fELF")) else 0o644
             packed.addfile(member, io.BytesIO(content))
     with file.open("wb") as out, gzip.GzipFile(filename="", mode="wb", fileobj=out, mtime=0) as small:
@@ -101,8 +148,25 @@ def tarball(tree: Tree, package: pathlib.Path, file: pathlib.Path) -> None:
 
 
 def programs(files: Files) -> dict[str, str]:
-    """The digest of each program among the files of a package."""
-    return {name: hashlib.sha256(it).hexdigest() for name, it in sorted(files.items()) if re.fullmatch(PROGRAMS, name)}
+    """The digest of each program and library among the files of a package."""
+    plain = sorted(contents(files).items())
+    return {name: hashlib.sha256(it).hexdigest() for name, it in plain if re.fullmatch(PROGRAMS, name)}
+
+
+def proved(programs: dict[str, str]) -> dict[str, str]:
+    """Those that are proved, of the programs of a package."""
+    return {name: it for name, it in programs.items() if re.fullmatch(PROVED, name)}
+
+
+def documents(tree: Tree, what: str) -> dict[str, bytes]:
+    """The documents of a package or of the tarball, as the commit's make-docs makes them; of a commit without one, none."""
+    tool = tree.folder / "deploy/deb/make-docs"
+    if not tool.is_file():
+        return {}
+    with tempfile.TemporaryDirectory() as name:
+        subprocess.run([sys.executable, tool, what, name], check=True)
+        room = pathlib.Path(name)
+        return {str(it.relative_to(room)): it.read_bytes() for it in room.rglob("*") if it.is_file()}
 
 
 def generated(tree: Tree, name: str) -> bytes | None:
@@ -110,7 +174,8 @@ def generated(tree: Tree, name: str) -> bytes | None:
     if name.endswith("nginx/iodef-hub-csp.conf"):
         words = ["deploy/nginx/make-csp", "web/index.html"]
     elif found := re.fullmatch(r"usr/share/man/man(\d)/(.*)\.\d\.gz", name):
-        words = ["deploy/deb/make-man", "docs/COMMAND-LINE.md" if found[1] == "1" else f"deploy/bin/{found[2]}", found[2], found[1]]
+        page = "docs/REDACT.md" if found[2] == "iodef-redact" else "docs/COMMAND-LINE.md"
+        words = ["deploy/deb/make-man", page if found[1] == "1" else f"deploy/bin/{found[2]}", found[2], found[1]]
     else:
         return None
     given = {**os.environ, "SOURCE_DATE_EPOCH": str(tree.seconds)}
@@ -125,32 +190,57 @@ def source_of(name: str) -> str | None:
     return next((found.expand(path) for pattern, path in FROM if (found := re.fullmatch(pattern, name))), None)
 
 
-def of_tree(tree: Tree, name: str) -> bytes | None:
-    """What a file of a package has to be, by the tree."""
-    source = source_of(name)
-    if source is None:
-        return generated(tree, name)
-    file = tree.folder / source
-    return file.read_bytes() if file.is_file() else None
+class Due:
+    """What the files of a package have to be, by the commit."""
+
+    def __init__(self, tree: Tree) -> None:
+        self.tree = tree
+        self.documents = documents(tree, "tarball")
+        for name in tree.packages():
+            made = documents(tree, name)
+            self.documents |= {f"usr/share/doc/{name}/{path}": it for path, it in made.items()}
+
+    def of(self, name: str) -> bytes | None:
+        if name in self.documents:
+            return self.documents[name]
+        source = source_of(name)
+        if source is None:
+            return generated(self.tree, name)
+        file = self.tree.folder / source
+        return file.read_bytes() if file.is_file() else None
+
+    def documents_of(self, what: str) -> set[str]:
+        """The documents of a package, or those that the tarball has besides."""
+        below = f"usr/share/doc/{what}/"
+        return {it for it in self.documents if (not it.startswith("usr/") if what == "tarball" else it.startswith(below))}
 
 
-def faults_of_files(tree: Tree, files: Files, program: str, tops: Iterable[str]) -> list[str]:
-    """What in a package isn't the tree's, but for the program, whose digest is given; and which files of these folders it lacks."""
-    faults = []
-    for name, content in sorted(files.items()):
+def fault_of_link(name: str, link: Link, files: Files) -> str | None:
+    is_due = re.fullmatch(LINKS, name) and link.to.startswith(f"{pathlib.PurePath(name).name}.")
+    is_there = str(pathlib.PurePath(name).with_name(link.to)) in files
+    return None if is_due and is_there else f"{name} leads to {link.to}"
+
+
+def faults_of_files(due: Due, files: Files, told: dict[str, str], tops: Iterable[str], whats: Iterable[str]) -> list[str]:
+    """What in a package isn't the commit's, but for what is proved, whose digests are told; and which files of these folders and
+    documents it lacks."""
+    faults = [fault for name, it in sorted(files.items()) if isinstance(it, Link) and (fault := fault_of_link(name, it, files))]
+    for name, content in sorted(contents(files).items()):
         plain = gzip.decompress(content) if name.endswith(".gz") else content
-        if name == "usr/bin/iodef-hub":
-            if hashlib.sha256(content).hexdigest() != program:
-                faults.append(f"{name} isn't the program that PROVENANCE.json names")
-        elif not re.fullmatch(ADDED, name) and plain != of_tree(tree, name):
+        if re.fullmatch(PROVED, name):
+            if hashlib.sha256(content).hexdigest() != told.get(name):
+                faults.append(f"{name} isn't the one that PROVENANCE.json names")
+        elif not re.fullmatch(ADDED, name) and plain != due.of(name):
             faults.append(f"{name} isn't the commit's")
     there = {source_of(name) for name in files}
-    due = {str(it.relative_to(tree.folder)) for top in tops for it in (tree.folder / top).rglob("*") if it.is_file()}
-    return faults + [f"it lacks {name}" for name in sorted(due - there)]
+    folder = due.tree.folder
+    lacking = {str(it.relative_to(folder)) for top in tops for it in (folder / top).rglob("*") if it.is_file()} - there
+    lacking |= {it for what in whats for it in due.documents_of(what)} - set(files)
+    return faults + [f"it lacks {name}" for name in sorted(str(it) for it in lacking)]
 
 
 def faults_between(one: Files, other: Files, what: str) -> list[str]:
-    """Where the files of the package and those of the tarball differ."""
+    """Where the files of the packages and those of the tarball differ."""
     one = {name: it for name, it in one.items() if not re.fullmatch(ADDED, name)}
     other = {name: it for name, it in other.items() if not name.startswith(BESIDE)}
     return [f"{name} {what}" for name in sorted({*one, *other}) if one.get(name) != other.get(name)]

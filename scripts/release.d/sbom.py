@@ -1,4 +1,4 @@
-"""The parts of a release as CycloneDX 1.5: the program, its crates, those of the kit, and what each stands on.
+"""The parts of a release as CycloneDX 1.5: its programs and libraries, their crates, those of the kit, and what each stands on.
 
 No schema of CycloneDX lies beside it: `faults_of_shape` asks by hand for the part of the schema that is used here.
 """
@@ -9,8 +9,11 @@ import re
 import uuid
 from typing import Any
 
-from tree import PROGRAM, Refused, Tree, sha256
+from tree import PACKAGES, Refused, Tree
 
+HUB = "usr/bin/iodef-hub"
+# The packages of the programs and libraries besides the hub's, by the beginnings of their names.
+OF_PACKAGE = {"iodef-redact": "iodef-redact", "libiodef_redact.": "libiodef-redact"}
 Json = dict[str, Any]
 # A licence by words of its text, by the identifiers of SPDX.
 LICENCES = {
@@ -67,13 +70,29 @@ def own(tree: Tree, version: str) -> list[Json]:
             "licenses": [{"license": {"id": "Apache-2.0"}}],
             "properties": [{"name": "sha256 of its files", "value": tree.digest((tree.folder / "crates" / name).rglob("*"))["sha256"]}],
         }
-        for name in tree.of_program()
+        for name in tree.of_packages()
     ]
+
+
+def hashes(digest: str) -> list[Json]:
+    return [{"alg": "SHA-256", "content": digest}]
+
+
+def beside(programs: dict[str, str], version: str) -> list[Json]:
+    """The proved programs and libraries besides the hub's program, by the digests of all."""
+    found = []
+    for path, digest in sorted(programs.items()):
+        if path != HUB:
+            name = pathlib.PurePath(path).name
+            kind = "library" if name.startswith("lib") else "application"
+            part: Json = {"type": kind, "bom-ref": name, "group": "iodef-hub", "name": name, "version": version, "hashes": hashes(digest)}
+            found.append({**part, "licenses": [{"license": {"id": "Apache-2.0"}}]})
+    return found
 
 
 def of_kit(tree: Tree, kit: Kit) -> list[Json]:
     """The kit's crates that they stand on."""
-    left = {"std"}.union(*(tree.crates()[it] for it in tree.of_program())) - set(tree.crates())
+    left = {"std"}.union(*(tree.crates()[it] for it in tree.of_packages())) - set(tree.crates())
     names = set[str]()
     while left:
         names |= left
@@ -89,11 +108,14 @@ def of_kit(tree: Tree, kit: Kit) -> list[Json]:
     return found
 
 
-def dependencies(tree: Tree) -> list[Json]:
-    """What the program stands on, and what each of the repository's crates names."""
+def dependencies(tree: Tree, programs: dict[str, str]) -> list[Json]:
+    """What the programs and libraries stand on, and what each of the repository's crates names."""
     crates = tree.crates()
-    found = [{"ref": "iodef-hub", "dependsOn": [f"crates/{PROGRAM}"]}]
-    for name in tree.of_program():
+    found = [{"ref": "iodef-hub", "dependsOn": [f"crates/{PACKAGES['iodef-hub']}"]}]
+    for part in beside(programs, ""):
+        package = next(it for begin, it in OF_PACKAGE.items() if part["name"].startswith(begin))
+        found.append({"ref": part["bom-ref"], "dependsOn": [f"crates/{PACKAGES[package]}"]})
+    for name in tree.of_packages():
         uses = [f"crates/{it}" if it in crates else f"kit/{it}" for it in ["std", *crates[name]]]
         found.append({"ref": f"crates/{name}", "dependsOn": sorted(uses)})
     return found
@@ -103,14 +125,15 @@ def of_kit_dependencies(components: list[Json], kit: Kit) -> list[Json]:
     return [{"ref": it["bom-ref"], "dependsOn": [f"kit/{name}" for name in kit.below(it["name"])]} for it in components]
 
 
-def made(tree: Tree, kit: Kit, version: str, program: pathlib.Path) -> Json:
-    digest, parts = sha256(program), of_kit(tree, kit)
+def made(tree: Tree, kit: Kit, version: str, programs: dict[str, str]) -> Json:
+    """Of the proved programs and libraries, by their paths in the packages."""
+    digests, parts = " ".join(it for _, it in sorted(programs.items())), of_kit(tree, kit)
     tool = {"type": "application", "name": "Rattle kit", "version": kit.line}
     more = [{"name": name, "value": digest} for name, digest in kit.made_of]
     return {
         "bomFormat": "CycloneDX",
         "specVersion": "1.5",
-        "serialNumber": f"urn:uuid:{uuid.uuid5(uuid.NAMESPACE_OID, f'iodef-hub {version} {tree.commit} {digest}')}",
+        "serialNumber": f"urn:uuid:{uuid.uuid5(uuid.NAMESPACE_OID, f'iodef-hub {version} {tree.commit} {digests}')}",
         "version": 1,
         "metadata": {
             "timestamp": tree.moment(),
@@ -120,12 +143,12 @@ def made(tree: Tree, kit: Kit, version: str, program: pathlib.Path) -> Json:
                 "bom-ref": "iodef-hub",
                 "name": "iodef-hub",
                 "version": version,
-                "hashes": [{"alg": "SHA-256", "content": digest}],
+                "hashes": hashes(programs[HUB]),
                 "licenses": [{"license": {"id": "Apache-2.0"}}],
             },
         },
-        "components": own(tree, version) + parts,
-        "dependencies": dependencies(tree) + of_kit_dependencies(parts, kit),
+        "components": beside(programs, version) + own(tree, version) + parts,
+        "dependencies": dependencies(tree, programs) + of_kit_dependencies(parts, kit),
     }
 
 
@@ -167,12 +190,13 @@ def faults_of_shape(sbom: Json) -> list[str]:
     return faults
 
 
-def faults_of_tree(sbom: Json, tree: Tree, version: str) -> list[str]:
-    """Where it differs from what can be told without the kit: the repository's crates, and what they stand on."""
-    components, named = sbom.get("components", []), dependencies(tree)
+def faults_of_tree(sbom: Json, tree: Tree, version: str, programs: dict[str, str]) -> list[str]:
+    """Where it differs from what can be told without the kit: the programs and libraries, the repository's crates, and what they
+    stand on."""
+    components, named = sbom.get("components", []), dependencies(tree, programs)
     found = {it["bom-ref"]: it for it in components if it.get("group") == "iodef-hub"}
-    due = {it["bom-ref"]: it for it in own(tree, version)}
-    faults = [f"{name} differs from the commit's" for name in sorted({*found, *due}) if found.get(name) != due.get(name)]
+    due = {it["bom-ref"]: it for it in beside(programs, version) + own(tree, version)}
+    faults = [f"{name} differs from the commit's and from what PROVENANCE.json names" for name in sorted({*found, *due}) if found.get(name) != due.get(name)]
     if [it for it in sbom.get("dependencies", []) if not it["ref"].startswith("kit/")] != named:
         faults.append("what stands on what differs from crates.txt")
     lacking = {name for it in named for name in it["dependsOn"]} - {it["bom-ref"] for it in components}

@@ -11,7 +11,8 @@ from collections.abc import Iterable
 from typing import Any
 
 TOP = pathlib.Path(__file__).resolve().parent.parent.parent
-PROGRAM = "hub_cli"
+# The packages of a release, each with the crate of its program or library.
+PACKAGES = {"iodef-hub": "hub_cli", "iodef-redact": "iodef_redact", "libiodef-redact": "redact_c"}
 # The file that lists the digests of all others, and its signature.
 SUMS, SIGNATURE = "SHA256SUMS", "SHA256SUMS.asc"
 SBOM, PROVENANCE = "sbom.cdx.json", "PROVENANCE.json"
@@ -72,11 +73,16 @@ class Tree:
 
     def crates(self) -> dict[str, list[str]]:
         """Each crate with the libraries that it uses, of the repository and of the kit."""
-        return {name: uses.split() for name, uses in re.findall(r"^(\w+):(.*)$", self.text("crates.txt"), re.M)}
+        return {name: uses.split() for name, uses in re.findall(r"^(\w+)(?: staticlib)?:(.*)$", self.text("crates.txt"), re.M)}
 
-    def of_program(self) -> list[str]:
-        """The crates that the program stands on, and its own."""
-        crates, found, left = self.crates(), set[str](), [PROGRAM]
+    def packages(self) -> list[str]:
+        """The packages that the commit's build-deb makes."""
+        named = re.findall(r"^Package: (\S+)$", self.text("deploy/deb/build-deb"), re.M)
+        return [it for it in PACKAGES if it in named]
+
+    def of_packages(self) -> list[str]:
+        """The crates of the packages' programs and library, and those that they stand on."""
+        crates, found, left = self.crates(), set[str](), [PACKAGES[it] for it in self.packages()]
         while left:
             name = left.pop()
             if name in crates and name not in found:
