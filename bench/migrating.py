@@ -45,8 +45,8 @@ def compact(value: object) -> str:
     return json.dumps(value, separators=(",", ":"), sort_keys=True)
 
 
-def make(store: pathlib.Path, size: int) -> None:
-    """A store of version 1 with an administrator, a poster and so many reports of the poster's organisation."""
+def make(store: pathlib.Path, size: int, events: int = 74) -> None:
+    """A store of version 1 with an administrator, a poster and so many reports of the poster's organisation, of so many events."""
     rows = sqlite3.connect(store)
     rows.executescript(TABLES)
     rows.execute("INSERT INTO hub VALUES (1)")
@@ -55,7 +55,7 @@ def make(store: pathlib.Path, size: int) -> None:
         key = hashlib.sha256(f"key-{number}".encode()).digest()
         rows.execute("INSERT INTO person VALUES (?, ?, ?, ?, ?, 1, 0)", (number, number, f"p{number}", role, key))
     for number in range(1, size + 1):
-        rows.execute("INSERT INTO incident VALUES (?, 2, ?, 1, ?)", (number, compact(identity(number)), compact(document(identity(number), 74))))
+        rows.execute("INSERT INTO incident VALUES (?, 2, ?, 1, ?)", (number, compact(identity(number)), compact(document(identity(number), events))))
         rows.execute("INSERT INTO gate VALUES (?, '', 3, NULL)", (number,))
     rows.commit()
     rows.close()
