@@ -77,7 +77,7 @@ http {
 
 
 def run(*words: str | pathlib.Path, given: str | None = None, wanted: int | None = 0) -> subprocess.CompletedProcess[str]:
-    ran = subprocess.run(words, input=given, capture_output=True, text=True, timeout=300)
+    ran = subprocess.run(words, input=given, capture_output=True, text=True, timeout=1800)
     if wanted is not None and ran.returncode != wanted:
         raise RuntimeError(f"{' '.join(map(str, words))}: status {ran.returncode}: {ran.stderr}{ran.stdout}")
     return ran
