@@ -968,7 +968,7 @@ def handed_over(command: str, entry: Entry, before: str = "") -> bool:
 
 
 def look(hub: Hub, given: argparse.Namespace, watched: Watched, at: int) -> None:
-    """Tells what is new. If the command fails, the look ends there, so that no incident is told before one that stands ahead of it.
+    """Tells what is new. If the command fails, the look ends there, so that incidents are reported in order.
     If there are several hubs, `at` is which one this is, and 0 else."""
     before, named = (f"{at}/", {"hub": at}) if at else ("", {})
     for entry in hub.every_incident(0 if given.all else watched.last):
@@ -1153,7 +1153,7 @@ def do_add_person(hub: Hub, given: argparse.Namespace, teller: Teller) -> None:
         if given.key_file is not None:
             os.unlink(given.key_file)
         raise
-    given.digest = digest_of(key)  # a further hub of the circle is told the same key
+    given.digest = digest_of(key)  # a further hub of the circle gets the same key
     teller.tell(str(made), *([f"key, shown this once: {key}"] if given.key_file is None else []))
     if given.json and given.key_file is None:
         print(f"key, shown this once: {key}", file=sys.stderr)
