@@ -48,7 +48,7 @@ use Rattle.hub_store.specs.inner.Partly.{without_gates}
 use Rattle.hub_store.specs.Means.{holdings, Holds, HoldsBetween}
 use Rattle.hub_store.specs.Holdings.{Holding, IsHeld}
 use Rattle.hub_store.specs.Parts.{held}
-use Rattle.hub_store.specs.Layout.{tables_4}
+use Rattle.hub_store.specs.Layout.{newest_tables}
 use Rattle.hub_store.specs.Items.{Item, items_in, items_of, item_row, line_shown, kind_number}
 use Rattle.hub_store.proofs.Compare.{begins, and_true, equal_numbers, equal_texts, cast_int, cast_null, cast_flag}
 use Rattle.hub_store.proofs.Forms.{is_param}
@@ -87,7 +87,7 @@ permission_test key x =
 
 -- what the tables hold between two statements
 abbrev held_rows : List Row → List Row → core.State → List Holding
-held_rows items incidents s = map held (tables_4 items incidents s)
+held_rows items incidents s = map held (newest_tables items incidents s)
 
 -- ---- edits
 

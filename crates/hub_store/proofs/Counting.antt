@@ -46,9 +46,6 @@ less m n h = grind (arith, nat_tests)
 below : (m n : ℕ) → m < n → value_cmp (Int (pos m)) (Int (pos n)) ≡ Less
 below m n h = value_cmp-Int (pos m) (pos n) ∙ int_below m n (less m n h)
 
-before_all : (n : ℕ) (r : Row) (rows : List Row) → n < n + length (r ∷ rows)
-before_all n r rows = omega arith
-
 put_last : (n k : ℕ) (rows : List Row) (new : Row) → AreNumbered n rows → k ≡ n + length rows → rowid new ≡ Int (pos k) → put_row new rows ≡ rows ++ new ∷ []
 put_last n k [] new counts at is = refl
 put_last n k (r ∷ rows) new counts at is =

@@ -10,8 +10,7 @@ use Rattle.iodef_tree.specs.declared.line.Line.{Line}
 use Rattle.hub_state.specs.Documents.{Lines}
 use Rattle.hub_state.specs.State.{State}
 use Rattle.hub_store.specs.Items.{Item, items_from, item_row, placed_lines, kind_number}
-use Rattle.hub_store.specs.Rows.{permission_row}
-use Rattle.hub_store.specs.Layout.{newest, in_every_version, item_part, permission_part_3, incident_part_4}
+use Rattle.hub_store.specs.Layout.{newest, in_every_version, item_part, behind_items}
 use Rattle.hub_store.proofs.Compare.{cast_int, cast_null, cast_flag}
 use Rattle.hub_store.proofs.Held.{bare}
 use Rattle.hub_store.proofs.PartRows.{Stands}
@@ -61,5 +60,5 @@ cast_items rows [] = refl
 cast_items rows (x ∷ xs) = ap₂ (λ r rs. r ∷ rs) (cast_item rows x) (cast_items rows xs)
 
 -- the place of the table of lines among those of the newest version
-pub stands_between : (s : State) (items incidents : List Row) → Stands (in_every_version newest s) (item_part items) (permission_part_3 (map permission_row s.permissions) ∷ incident_part_4 incidents ∷ []) item_place
+pub stands_between : (s : State) (items incidents : List Row) → Stands (in_every_version newest s) (item_part items) (behind_items s incidents) item_place
 stands_between s items incidents = record { listed = refl; uncounted = refl; timeless = refl; alone = λ tree olds news. refl; apart = refl; same = λ rows. refl }

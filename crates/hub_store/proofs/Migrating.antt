@@ -7,7 +7,6 @@ use Rattle.sqlite_value.specs.declared.value.Value.TheVariants.{Null, Int, Text}
 use Rattle.sqlite_value.specs.Order.{Row}
 use Rattle.sqlite_sql.specs.Term.{lit, col}
 use Rattle.sqlite_tied.specs.Compute.{everything}
-use Rattle.sqlite_catalog.specs.Change.{created, without_table}
 use Rattle.sqlite.specs.Listing.{understood}
 use Rattle.sqlite.specs.State as sql
 use Rattle.sqlite.specs.State.{Executes, ExecutesInside}
@@ -19,7 +18,7 @@ use Rattle.hub_state.specs.declared.state.Naming.{Naming}
 use Rattle.iodef_tree.specs.declared.line.Line.{Line}
 use Rattle.hub_store.specs.Items.{Item, placed_lines, item_row, line_shown, kind_number}
 use Rattle.hub_store.specs.Rows.{naming_row_2}
-use Rattle.hub_store.specs.Tables.{schema_by, beside_item, without_incident, up_to_permission, hub_table, incident_table, item_table, incident_table_2}
+use Rattle.hub_store.specs.Tables.{schema_by, beside_item, without_incident, hub_table, incident_table, item_table, incident_table_2}
 use Rattle.hub_store.specs.Parts.{schema_of, HoldsParts}
 use Rattle.hub_store.specs.Layout.{in_versions_1_and_2, incident_part, item_part, incident_part_2, parts_1, with_items, without_incidents, tables_2}
 use Rattle.hub_store.specs.inner.Beside.{AreNumbered, HoldsBeside, CanStand}
@@ -35,14 +34,6 @@ use Rattle.hub_store.proofs.LineRows.{cast_items}
 use Rattle.hub_store.proofs.LineCauses.{lines_count, lines_fail, terms_accepted, lines_bound}
 use Rattle.hub_store.proofs.Standing.{stand_permuted}
 use Rattle.hub_store.proofs.Texts.{put_line, put_naming_2, line_terms}
-
--- the schema that the statements of version 1 make is that of its parts
-first_version : (s : State) → created up_to_permission incident_table ≡ schema_of (parts_1 s)
-first_version s = refl
-
--- so is the schema after the three statements
-second_version : (s : State) (items incidents : List Row) → created (without_table (created (schema_by 1) item_table) 18) incident_table_2 ≡ schema_of (tables_2 2 items incidents s)
-second_version s items incidents = refl
 
 abbrev pub create_item : List ℕ
 create_item = codes "CREATE TABLE item (incident INTEGER NOT NULL, place INTEGER NOT NULL, depth INTEGER NOT NULL, name TEXT NOT NULL, in_array INTEGER NOT NULL, kind INTEGER NOT NULL, text TEXT NOT NULL, UNIQUE (incident, place)) STRICT"

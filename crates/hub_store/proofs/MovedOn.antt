@@ -71,9 +71,6 @@ only_1 v some low = grind (arith, nat_tests)
 pub above_none : (v : ℕ) → IsTrue (is_older v) → 0 < v
 above_none v older = grind (arith, nat_tests)
 
-pub at_most_newest : (v : ℕ) → IsTrue (is_older v) → v ≤ newest
-at_most_newest v older = grind (arith, nat_tests)
-
 -- ---- version 2
 
 pub held_as_2 : (db : Database) (s : core.State) → FitAs 2 s → HoldsParts (parts_2 s) db → HoldsAs 2 db s

@@ -103,9 +103,6 @@ past m n h = grind (arith, nat_tests)
 not_past : (m n : ℕ) → nat_lt m n ≡ false → n ≤ m
 not_past m n h = grind (arith, nat_tests)
 
-not_over : (m n : ℕ) → m < n → n ≤ m → ⊥
-not_over m n h k = omega (arith, h, k)
-
 -- none is up to a number that is below all
 pub none_up_to : (m k : ℕ) (is : List Incident) → m ≤ k → CountsFrom incident_number k is → filter (λ (i : Incident). nat_le i.naming.number m) is ≡ []
 none_up_to m k is low counts = filter_none _ is (all_weaker (λ (i : Incident). k < i.naming.number) (λ (i : Incident). nat_le i.naming.number m ≡ false) (λ i h. beyond m i.naming.number (omega (arith, low, h))) is (numbers_above incident_number k is counts))

@@ -22,9 +22,6 @@ hub_place = place_named (codes "hub")
 abbrev pub hubs : Table
 hubs = table_at hub_place
 
-abbrev pub hub_tree : ℕ
-hub_tree = hubs.tree
-
 abbrev pub org_place : ℕ
 org_place = place_named (codes "org")
 

@@ -9,8 +9,7 @@ use Rattle.sqlite.specs.State.{State}
 use Rattle.iodef_tree.specs.declared.line.Line.{Line}
 use Rattle.hub_state.specs.Documents.{Lines}
 use Rattle.hub_store.specs.Items.{items_from, item_row}
-use Rattle.hub_store.specs.Rows.{permission_row}
-use Rattle.hub_store.specs.Layout.{newest, in_every_version, in_versions_1_and_2, incident_part, item_part, incident_part_4, permission_part_3}
+use Rattle.hub_store.specs.Layout.{newest, in_every_version, in_versions_1_and_2, incident_part, item_part, behind_items}
 use Rattle.hub_store.specs.inner.Beside.{CanStand}
 use Rattle.hub_store.specs.Keeps.{Goes}
 use Rattle.hub_store.specs.inner.Makes.{Makes}
@@ -101,7 +100,7 @@ puts_none a n place =
       goes = goes;
       edited = λ s incidents items more same. record {
         goes = goes;
-        made = λ _ _ between. record { known = between.known; whole = between.whole; means = exchanged_rows _ (in_every_version newest s) (item_part items) (permission_part_3 (map permission_row s.permissions) ∷ incident_part_4 incidents ∷ []) more same between.means; fit = between.fit };
+        made = λ _ _ between. record { known = between.known; whole = between.whole; means = exchanged_rows _ (in_every_version newest s) (item_part items) (behind_items s incidents) more same between.means; fit = between.fit };
       };
       moved = λ s items more same. record {
         goes = goes;

@@ -59,11 +59,6 @@ reason_on a b c s clean more (inr (inl shut)) = go a.is_open refl
     go false is = inr (inl is)
     go true is = elim (s.closes clean is) [ inl still ↦ absurd (true≢false (sym still ∙ shut)) | inr fell ↦ inl (omega (arith, fell, more)) ]
 
--- a fault of the store says nothing of the tables
-pub store_fault : (db : Database) (fault : ShelfFault) → IsMigrationFault db (opened_as fault)
-store_fault db shelf.NoMemory = tt
-store_fault db shelf.Failed = tt
-
 pub store_cause : (fault : ShelfFault) (P : Type 0) → (fault ≡ shelf.Failed → P) → opened_as fault ≡ Failed → P
 store_cause shelf.NoMemory P cause is = absurd cc
 store_cause shelf.Failed P cause is = cause refl

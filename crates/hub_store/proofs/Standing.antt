@@ -1,5 +1,5 @@
 -- The lines that a table takes: parts of them, the same in another order, and no conflict between their rows.
-use Rattle.std.proofs.Common.{◌≡◌, inl, inr, ◌+◌, ◌<◌, ◌^◌, ◌&&◌, ◌||◌, not, List, [], ◌∷◌, ◌++◌, map, Bool, true, false, refl, sym, ap, subst, ◌∙◌, arith}
+use Rattle.std.proofs.Common.{◌≡◌, inl, inr, ◌+◌, ◌<◌, ◌^◌, ◌&&◌, ◌||◌, List, [], ◌∷◌, ◌++◌, map, Bool, true, false, refl, sym, ap, subst, ◌∙◌, arith}
 use Rattle.std.specs.List.{AllByRecursion, list_any}
 use Rattle.std.specs.List.Sorted.{IsPermutation}
 use Rattle.std.specs.Ordering.{is_eq}
@@ -72,10 +72,6 @@ pairs_seen same full seen as_seen (r ∷ rows) p = (each rows p.0, pairs_seen sa
     each (x ∷ rs) all = ((as_seen r x ∙ all.0.0, as_seen x r ∙ all.0.1), each rs all.1)
 
 -- ---- no conflict
-
-true_not : (b : Bool) → b ≡ true → not b ≡ false
-true_not true e = refl
-true_not false e = absurd cc
 
 itself : (v : Value) → differ v v ≡ false
 unfolding binary

@@ -112,10 +112,6 @@ err_passed (Err y) e P is h = subst P (sym is) h
 pub fails_passed : {T U : Type 0} {a b : State} {P : Database → Type 0} {e : Error} {r : Result U Error} → IsErrAnd r (λ y. y ≡ e) → FailsOnly {T = T} a b P (Err e) → FailsOnly a b P r
 fails_passed {e = e} {r = r} is one = record { cause = λ clean inside before. err_passed r e _ is (one.cause clean inside before) }
 
--- want of memory is no such failure
-pub fails_unheld : {U : Type 0} {a b : State} {P : Database → Type 0} {r : Result U Error} → IsErrAnd r (λ y. y ≡ SqliteFailure code.OutOfMemory) → FailsOnly a b P r
-fails_unheld {r = r} is = record { cause = λ clean inside before. err_passed r (SqliteFailure code.OutOfMemory) _ is (λ other. absurd (other refl)) }
-
 -- nothing but want of memory is no such failure
 pub unheld_only : {U : Type 0} (X : Type 0) (r : Result U Error) → IfErr r IsUnheld → IfErr r (λ e. e ≢ SqliteFailure code.OutOfMemory → X)
 unheld_only X r unheld = IfErr-weaker r IsUnheld _ (λ e h other. absurd (h other)) unheld

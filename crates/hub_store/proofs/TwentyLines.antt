@@ -21,8 +21,7 @@ use Rattle.sqlite.proofs.Callers.{IsPlain, command_of}
 use Rattle.hub_state.specs.Documents.{Lines}
 use Rattle.hub_state.specs.State.{State, empty}
 use Rattle.hub_store.specs.Items.{items_from, item_row, placed_lines}
-use Rattle.hub_store.specs.Rows.{permission_row}
-use Rattle.hub_store.specs.Layout.{newest, in_every_version, in_versions_1_and_2, incident_part, item_part, permission_part_3, incident_part_4, tables_4, with_items}
+use Rattle.hub_store.specs.Layout.{newest, in_every_version, in_versions_1_and_2, incident_part, item_part, behind_items, newest_tables, with_items}
 use Rattle.hub_store.specs.Parts.{schema_of, HoldsParts}
 use Rattle.hub_store.specs.Means.{HoldsBetween}
 use Rattle.hub_store.specs.inner.PutsLines.{HasMore}
@@ -70,11 +69,11 @@ module _ (n place : ℕ) (ls : Lines) (long : length ls ≡ 20) (old new : sql.S
   pub puts_twenty : (incidents : List Row) → HoldsBetween items incidents old.now s → HoldsBetween more incidents new.now s
   puts_twenty incidents between =
       let all = map item_row (items_from n place ls) in
-      let has : HoldsParts (tables_4 items incidents s) old.now = record { known = between.known; whole = between.whole; means = between.means } in
-      let put = puts_all (in_every_version newest s) (item_part items) (permission_part_3 (map permission_row s.permissions) ∷ incident_part_4 incidents ∷ []) item_place (stands_between s items incidents) put_twenty _ old new is_plain count h has (terms_for 1 20) 8 is_put all given (cast_items items (items_from n place ls)) (λ before. past_rowids before all) more same in
+      let has : HoldsParts (newest_tables items incidents s) old.now = record { known = between.known; whole = between.whole; means = between.means } in
+      let put = puts_all (in_every_version newest s) (item_part items) (behind_items s incidents) item_place (stands_between s items incidents) put_twenty _ old new is_plain count h has (terms_for 1 20) 8 is_put all given (cast_items items (items_from n place ls)) (λ before. past_rowids before all) more same in
       record {
         known = put.known;
-        whole = puts_whole (in_every_version newest s) (item_part items) (permission_part_3 (map permission_row s.permissions) ∷ incident_part_4 incidents ∷ []) item_place (stands_between s items incidents) put_twenty _ old new is_plain count h has (terms_for 1 20) 8 is_put;
+        whole = puts_whole (in_every_version newest s) (item_part items) (behind_items s incidents) item_place (stands_between s items incidents) put_twenty _ old new is_plain count h has (terms_for 1 20) 8 is_put;
         means = put.means;
         fit = between.fit;
       }

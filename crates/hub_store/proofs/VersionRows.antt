@@ -96,16 +96,3 @@ version_told db c rows there is read =
     let answer = subst (λ k. Reads k db [] rows) (asks db.schema at place table title has listed called inside c is) read in
     let plain = subst (λ t. IsAnswer (column_query table.tree (place_of table place)) t [] rows) (overlaid db.trees) (answer.answer Null) in
     version_read db.trees table.tree (place_of table place) rows plain ∙ sym (ap (λ o. only_u32 (versions_by db.trees o)) hub ∙ ap (λ o. only_u32 (values_at db.trees table o)) called))
-
--- nothing is found in a column that isn't there
-no_values : (db : Trees) (table : Table) (at : Option ℕ) → is_some at ≡ false → only_u32 (values_at db table at) ≡ None
-no_values db table None h = refl
-no_values db table (Some at) h = absurd cc
-
-no_versions : (db : Trees) (hub : Option Table) → is_some (option_and_then (λ (t : Table). column_named t (codes "version")) hub) ≡ false → only_u32 (versions_by db hub) ≡ None
-no_versions db None h = refl
-no_versions db (Some table) h = no_values db table (column_named table (codes "version")) h
-
--- with no such column there is no version
-pub version_missing : (db : Database) → is_some (version_column db.schema) ≡ false → version_of db ≡ None
-version_missing db h = no_versions db.trees (hub_of db.schema) h

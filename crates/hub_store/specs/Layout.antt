@@ -139,11 +139,14 @@ permission_part_3 = part_without_rowids 24 permission_table_3
 abbrev pub incident_part_4 : List Row → Part
 incident_part_4 rows = record { table = record incident_table_4 { tree = 26 }; seen = λ r. r; rows = rows }
 
--- the parts of version 4 with these lines and incidents, and all else of a state
-abbrev pub tables_4 : List Row → List Row → State → List Part
-tables_4 items incidents s =
-    in_every_version 4 s
-    ++ item_part items ∷ permission_part_3 (map permission_row s.permissions) ∷ incident_part_4 incidents ∷ []
+-- the parts of the newest version that come after the lines, with these incidents
+abbrev pub behind_items : State → List Row → List Part
+behind_items s incidents =
+    permission_part_3 (map permission_row s.permissions) ∷ incident_part_4 incidents ∷ []
+
+-- the parts of the newest version with these lines and incidents, and all else of a state
+abbrev pub newest_tables : List Row → List Row → State → List Part
+newest_tables items incidents s = in_every_version 4 s ++ item_part items ∷ behind_items s incidents
 
 -- ---- the schema of a version, what it means and where its statements find a table follow from its parts
 

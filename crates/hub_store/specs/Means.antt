@@ -8,7 +8,7 @@ use Rattle.hub_state.specs.State.{State}
 use Rattle.hub_store.specs.Tables.{schema_by}
 use Rattle.hub_store.specs.Holdings.{Holding, IsHeld}
 use Rattle.hub_store.specs.Parts.{held}
-use Rattle.hub_store.specs.Layout.{newest, parts_by, tables_4}
+use Rattle.hub_store.specs.Layout.{newest, parts_by, newest_tables}
 use Rattle.hub_store.specs.Fit.{IsFit, FitAs}
 
 -- what each table of a version holds of a state
@@ -36,7 +36,7 @@ TreesHoldAs v db s = HoldsAs v (record { schema = schema_by v; trees = db }) s
 pub record HoldsBetween (items incidents : List Row) (db : Database) (s : State) : Type 0 where
   pub known : db.schema ≡ schema_by newest
   pub whole : IsDatabase db
-  pub means : AllByRecursion (IsHeld db.trees) (map held (tables_4 items incidents s))
+  pub means : AllByRecursion (IsHeld db.trees) (map held (newest_tables items incidents s))
   pub fit : IsFit s
 
 -- what each table of the newest version holds of a state

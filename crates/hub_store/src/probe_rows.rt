@@ -46,6 +46,7 @@ pub(crate) fn probe_rows<S: Alter>(
         "SELECT place, depth, name, in_array, kind, text FROM item WHERE incident = ?1 ORDER BY place",
         params![incident],
     )?;
+    // for the proof: the label names the loop there
     'rows: for place in 1..u64::MAX {
         let Some(row) = rows.next()? else {
             return Ok(());

@@ -141,6 +141,7 @@ impl<S: Alter> SqlShelf<S> {
         ensures crash { IfErr result (λ e.
             Survives (state S.Store conn) (state S.Store e.1) (λ left. TreesHold left empty)) }
     {
+        // for the proof: outside a transaction the rows seen are the committed ones
         prove!(conn.is_autocommit());
         if !is_blank(conn.schema()) {
             return Err((ShelfFault::Failed, conn));
