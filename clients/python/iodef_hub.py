@@ -156,7 +156,7 @@ class View:
 
 @dataclass(frozen=True)
 class Gate:
-    """A distribution level of one class, in the words of a posted report."""
+    """A gate at a class, by its path in the posted report."""
 
     level: int
     group: int
@@ -515,7 +515,7 @@ class Hub:
         return int(self._told(lambda told: _member(told, "revision", int), value, AGAIN_REPLACE))
 
     def redistribute(self, number: int, revision: int, path: str, level: int, group: int | None = None) -> None:
-        """A distribution level at the root (the empty path) or at a class."""
+        """Sets a gate at the root (the empty path) or at a class."""
         grouped = [("group", group)] if group is not None else []
         fields = [("revision", revision), ("path", path), ("level", level), *grouped]
         self._do(f"/incidents/{number}/gate", AGAIN_PUT_REVISED, *fields)
@@ -529,7 +529,7 @@ class Hub:
         self._do(f"/incidents/{number}/unaddress", AGAIN_TAKE, (kind, target))
 
     def grant(self, number: int, revision: int, path: str, kind: str, target: int, until: str | None = None) -> None:
-        """Permits a `person`, an `org`, a `community` or a `group` to see a class, for ever or up to a moment (RFC 3339, with offset)."""
+        """Permits a `person`, an `org`, a `community` or a `group` to see a class, without an end or up to one (RFC 3339, with offset)."""
         ended = [("until", until)] if until is not None else []
         fields = [("revision", revision), ("path", path), (kind, target), *ended]
         self._do(f"/incidents/{number}/grant", AGAIN_PUT_REVISED, *fields)
@@ -826,21 +826,20 @@ def gate(text: str) -> Gate:
 
 
 def moment(text: str) -> str:
-    """A moment as the hub reads it. A date alone is the moment at which that day begins, the earlier of its two ends. What has no
-    offset is of this machine's time zone."""
+    """An end as the hub reads it. A date alone is the beginning of that day. What has no offset is of this machine's time zone."""
     try:
         read = datetime.datetime.fromisoformat(text)
         read = read if read.tzinfo else read.astimezone()
         offset = read.utcoffset() or datetime.timedelta()
     except (ValueError, OverflowError, OSError):
         raise argparse.ArgumentTypeError(
-            f"{text!r} is no moment; wanted is 2026-12-31 (as that day begins), 2026-12-31T18:00 (both of this machine's time zone), or with"
+            f"{text!r} is no end; wanted is 2026-12-31 (as that day begins), 2026-12-31T18:00 (both of this machine's time zone), or with"
             " an offset 2026-12-31T18:00:00+01:00 or 2026-12-31T17:00:00Z"
         ) from None
     if read.microsecond or offset % datetime.timedelta(minutes=1):
         raise argparse.ArgumentTypeError(f"{text!r} has a part of a second, or an offset with seconds")
     if read > LAST_MOMENT:
-        raise argparse.ArgumentTypeError(f"{text!r} is after the hub's last moment, 9999-12-30T22:00:00Z; without --until there is no end")
+        raise argparse.ArgumentTypeError(f"{text!r} is after the hub's last end, 9999-12-30T22:00:00Z; without --until there is no end")
     return read.isoformat()
 
 
@@ -1308,7 +1307,7 @@ class Words:
                  "the sharing groups of your organisation")
         self.add("list", listed(lambda hub, given, after: hub.incidents(after)), "the incidents that show you something")
         self.add("addressed", listed(lambda hub, given, after: hub.addressed(after)), "those that address you or your organisation")
-        self.add("show", do_show, "an incident as you may read it; what is withheld stands on standard error", "number")
+        self.add("show", do_show, "the excerpt of an incident; what is withheld is on standard error", "number")
         found = self.add("indicators", do_indicators, "what one blocks or looks for in an incident: kind, value, place and role", "number")
         found.add_argument("--all", action="store_true",
                            help="also what stands neither below Indicator nor in a source, as the addresses of victims: look at the role")
@@ -1353,7 +1352,7 @@ class Words:
     def add_sharing(self) -> None:
         redistribute = self.add("redistribute", done(lambda hub, given: hub.redistribute(
             given.number, revision_of(hub, given), given.path, given.level, given.group)),
-            "sets the distribution level of a class (5: as the class above), or with an empty path that of the whole report", "number", "path", "level")
+            "sets a gate at a class (level 5: as the class above), or with an empty path at the root", "number", "path", "level")
         redistribute.add_argument("--group", type=number, help="the sharing group of level 4")
         add_revision(redistribute)
         self.add("address", done(lambda hub, given: hub.address(given.number, given.recipient, given.target)),

@@ -148,7 +148,7 @@ class Gate:
 
 @dataclass(frozen=True)
 class Permission:
-    """Of the class at `path` and what is below it, up to `until`, a moment in RFC 3339. To one `person`, one `org`, the members of
+    """Of the class at `path` and what is below it, up to `until`, its end in RFC 3339. To one `person`, one `org`, the members of
     one `community` or those of one `group`."""
 
     path: str

@@ -145,6 +145,6 @@ def wrongs(trial: Trial) -> None:
         is_refused = status != 0 and told.startswith("none that the hub knows")
         trial.check(f"{json.dumps(members)} is no label, to the page and to the program", is_refused, (status, told))
     show(trial, POST, {"or its text": report(incident("x")).decode(), "Levels of single": "0:0:/Incident/0/Contact/9"})
-    words = "No class is at /Incident/0/Contact/9: the hub refuses this level."
+    words = "No class is at /Incident/0/Contact/9: the hub refuses this gate."
     trial.check_has("a level of no class is told", browser.text("#pane form details"), words)
     show(trial, POST, {})

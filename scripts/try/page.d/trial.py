@@ -62,7 +62,7 @@ return found;
 """
 
 # The titles of forms
-PERMIT, WITHDRAW, DISTRIBUTE = "Permit a class to somebody", "Withdraw a permission", "Set a distribution level"
+PERMIT, WITHDRAW, DISTRIBUTE = "Permit a class to somebody", "Withdraw a permission", "Set a gate"
 REPLACE = "Replace the report"
 
 
