@@ -164,7 +164,8 @@ def documents(tree: Tree, what: str) -> dict[str, bytes]:
     if not tool.is_file():
         return {}
     with tempfile.TemporaryDirectory() as name:
-        subprocess.run([sys.executable, tool, what, name], check=True)
+        # Up to 1.1.0 make-docs told a path by the depth of the folder in which it was run.
+        subprocess.run([sys.executable, tool, what, name], cwd=tree.folder, check=True)
         room = pathlib.Path(name)
         return {str(it.relative_to(room)): it.read_bytes() for it in room.rglob("*") if it.is_file()}
 
