@@ -106,7 +106,7 @@ def in_lines(trial: Trial, folder: pathlib.Path) -> None:
     group = browser.text("#done").split("number ")[1].split(".")[0]
     trial.fill("Add a member to a group", {"Group": group, "Organisation": "Telco", "May it": "0"})
     trial.fill("Add a member to a group", {"Group": group, "Organisation": "Telco", "May it": "0"})
-    trial.refused("a change that is refused", "S1", "so already")
+    trial.refused("a change that is refused", "S1", "already the case")
     wanted = [
         permitted,
         ["Ada (person 2)", PERMIT, f"incident {number} {PLACE}", "Cleo (person 4)", "without an end"],

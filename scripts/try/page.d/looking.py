@@ -125,7 +125,7 @@ def asks(trial: Trial, what: str, words: str) -> None:
 def wrongs(trial: Trial) -> None:
     browser = trial.browser
     for text, words in (
-        ("", "There is no report yet."), ("{", "This is no JSON text."), ("[1]", "There is no Incident in it."),
+        ("", "There is no report yet."), ("{", "This is not valid JSON."), ("[1]", "There is no Incident in it."),
         ('{"a":' * 60 + "{}" + "}" * 60, "There is no Incident"),
     ):  # fmt: skip
         show(trial, POST, {"or its text": text})
@@ -145,6 +145,6 @@ def wrongs(trial: Trial) -> None:
         is_refused = status != 0 and told.startswith("none that the hub knows")
         trial.check(f"{json.dumps(members)} is no label, to the page and to the program", is_refused, (status, told))
     show(trial, POST, {"or its text": report(incident("x")).decode(), "Levels of single": "0:0:/Incident/0/Contact/9"})
-    words = "No class is at /Incident/0/Contact/9: the hub refuses this gate."
+    words = "There is no class at /Incident/0/Contact/9: the hub refuses this gate."
     trial.check_has("a level of no class is told", browser.text("#pane form details"), words)
     show(trial, POST, {})

@@ -101,7 +101,7 @@ def changing_at_each(trial: Trial) -> None:
     trial.check("the lines of both stay, and say which hub's incident it was", where == [f"incident 1/1 {PLACE}", f"incident 2/1 {PLACE}"], lines)
     trial.enter("admin")
     trial.go("#circle")
-    trial.check_has("what is said of the circle is wanted at each hub", trial.browser.text("#pane"), "is wanted at each hub of the circle")
+    trial.check_has("what is said of the circle is wanted at each hub", trial.browser.text("#pane"), "each hub of the circle needs it")
 
 
 def going_back(trial: Trial) -> None:

@@ -77,7 +77,7 @@ def writing(trial: Trial, folder: pathlib.Path) -> None:
     trial.fill(MAKE, {name: value for name, value in WRITTEN.items() if name != "Label of the report"})
     trial.check("no report is made before its label is chosen", text_of(trial) == "", text_of(trial))
     trial.fill(MAKE, WRITTEN)
-    trial.done("a report is made by the form", "The report stands below as JSON")
+    trial.done("a report is made by the form", "The report is below as JSON")
     text = text_of(trial)
     made = json.loads(text)["Incident"][0]
     time = made.pop("GenerationTime", "")
