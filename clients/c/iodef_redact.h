@@ -1,21 +1,21 @@
 /* What a reader may see of an incident report: the library iodef_redact for C and C++. clients/c/README.md shows its use.
  *
  * Each call takes a report (an IODEF v2 document in JSON, RFC 7970 and RFC 8727) and mostly a view description (JSON: for whom
- * the report is redacted, and by which case), and gives an answer, a text in UTF-8. It returns 0 where there is an answer, and
+ * the report is redacted, and by which case), and gives an answer, a text in UTF-8. It returns 0 if there is an answer, and
  * otherwise the number of the fault.
  *
- *   - On 0, *needed is the answer's length in bytes. If out_length is at least that, the answer begins out, with no NUL behind
- *     it; otherwise out stays as it is. So call again with *needed bytes where they are more than out_length.
- *   - On a fault, *needed is 0 and out stays as it is.
+ *   - On 0, *needed is the answer's length in bytes. If out_length is at least that, the answer is at the beginning of out,
+ *     without a NUL after it; otherwise out is unchanged. So call again with *needed bytes if they are more than out_length.
+ *   - On a fault, *needed is 0 and out is unchanged.
  *
  * A length is in bytes, and NULL may be passed with length 0. NULL with another length, or for needed, is the fault
  * IODEF_REDACT_NULL_POINTER.
  *
- * What the caller owes, which nothing checks:
+ * What the caller must ensure, and nothing checks:
  *
  *   - out, needed and the bytes that are read do not overlap. While a call runs, no other thread writes to any of them, nor
  *     reads out and needed. Otherwise calls may run in parallel: the library has no state.
- *   - malloc, realloc and free are of one allocator. malloc and realloc align a block to each power of two up to 16 that
+ *   - malloc, realloc and free belong to one allocator. malloc and realloc align a block to each power of two up to 16 that
  *     divides its size.
  *   - No call is made in a signal handler, nor in the forked child of a process that has threads. The child may exec first.
  *   - The stack has IODEF_REDACT_STACK bytes left.
@@ -31,8 +31,8 @@
 extern "C" {
 #endif
 
-/* The faults in their order: of several the first is returned. IODEF_REDACT_NO_MEMORY may replace any answer. Each has a
- * number, the name by which the program iodef-redact tells it, and a reason. */
+/* The faults in their order: if there are several, the first is returned. IODEF_REDACT_NO_MEMORY may replace any answer. Each
+ * has a number, the name that the program iodef-redact prints, and a reason. */
 #define IODEF_REDACT_FAULTS(FAULT) \
     FAULT(NO_MEMORY, 1, "NoMemory", "memory ran out") \
     FAULT(VIEW_NOT_JSON, 2, "ViewNotJson", "the view is no JSON text in UTF-8") \
@@ -63,11 +63,11 @@ enum {
 #define IODEF_REDACT_FAULT_(NAME, NUMBER, WORD, REASON) IODEF_REDACT_##NAME = NUMBER,
     IODEF_REDACT_FAULTS(IODEF_REDACT_FAULT_)
 #undef IODEF_REDACT_FAULT_
-    /* of this header: a pointer is NULL where it may not be, or a length is above PTRDIFF_MAX */
+    /* from this header: a pointer is NULL that must not be, or a length is above PTRDIFF_MAX */
     IODEF_REDACT_NULL_POINTER = 255
 };
 
-/* The name of a fault; "" of 0, and of a number that is none. */
+/* The name of a fault; "" for 0, and for a number that isn't a fault's. */
 static inline const char *iodef_redact_fault_name(uint32_t fault) {
     switch (fault) {
 #define IODEF_REDACT_FAULT_(NAME, NUMBER, WORD, REASON) case NUMBER: return WORD;
@@ -78,7 +78,7 @@ static inline const char *iodef_redact_fault_name(uint32_t fault) {
     }
 }
 
-/* Why there is no answer; "" of 0, and of a number that is no fault's. */
+/* Why there is no answer; "" for 0, and for a number that isn't a fault's. */
 static inline const char *iodef_redact_fault_reason(uint32_t fault) {
     switch (fault) {
 #define IODEF_REDACT_FAULT_(NAME, NUMBER, WORD, REASON) case NUMBER: return REASON;
@@ -89,7 +89,7 @@ static inline const char *iodef_redact_fault_reason(uint32_t fault) {
     }
 }
 
-/* How much of the stack a call needs at most, in bytes. */
+/* The most stack that a call needs, in bytes. */
 #define IODEF_REDACT_STACK (256 * 1024)
 
 /* ---- the library itself ---- */
@@ -145,7 +145,7 @@ static inline uint32_t iodef_redact_excerpt(const void *report, size_t report_le
     return iodef_redact_excerpt_into(r.start, r.length, v.start, v.length, iodef_redact_start_of_(out), out_length, needed);
 }
 
-/* The member `document` of that, alone: a report again. */
+/* The member `document` of that answer, alone: a report again. */
 static inline uint32_t iodef_redact_document(const void *report, size_t report_length, const void *view, size_t view_length,
                                              void *out, size_t out_length, size_t *needed) {
     iodef_redact_bytes_ r = iodef_redact_bytes_of_(report, report_length), v = iodef_redact_bytes_of_(view, view_length);
@@ -163,7 +163,7 @@ static inline uint32_t iodef_redact_finds(const void *report, size_t report_leng
                                    needed);
 }
 
-/* The same of the classes of one name, as "Address". */
+/* The same for the classes of one name, such as "Address". */
 static inline uint32_t iodef_redact_finds_in_class(const void *report, size_t report_length, const void *view, size_t view_length,
                                                    const void *text, size_t text_length, const void *name, size_t name_length,
                                                    void *out, size_t out_length, size_t *needed) {
@@ -187,7 +187,7 @@ static inline uint32_t iodef_redact_explain(const void *report, size_t report_le
 }
 
 /* For each class of the Incident at a place of the report, from 0, a line with the JSON array of its path, its label, the label's
- * handling, and the path of the class where that label stands. */
+ * handling, and the path of the class that has that label. */
 static inline uint32_t iodef_redact_marks(const void *report, size_t report_length, uint32_t incident, void *out,
                                           size_t out_length, size_t *needed) {
     iodef_redact_bytes_ r = iodef_redact_bytes_of_(report, report_length);

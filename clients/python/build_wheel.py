@@ -26,7 +26,7 @@ def project() -> dict[str, Any]:
 
 
 def contents(table: dict[str, Any], stem: str) -> dict[str, bytes]:
-    """The files of the wheel by name, but the record of them."""
+    """The files of the wheel by name, except the record of them."""
     about = [
         "Metadata-Version: 2.1", f"Name: {table['name']}", f"Version: {table['version']}", f"Summary: {table['description']}",
         f"License: {table['license']['text']}", f"Requires-Python: {table['requires-python']}",

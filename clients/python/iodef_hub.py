@@ -1,14 +1,14 @@
 #!/usr/bin/env python3
-"""A client of iodef-hub: the library (class Hub), and the command iodef-hub-ask. Python 3.11's standard library alone.
+"""A client of iodef-hub: the library (class Hub), and the command iodef-hub-ask. Needs Python 3.11 only.
 
     import iodef_hub
     hub = iodef_hub.Hub("https://hub.example.org", key)
     for entry in hub.every_incident():
         print(hub.view(entry.number).document)
 
-A call is one request. If the hub refuses it, the call raises Refused, with the code, reason and detail. A read is asked again
-if the connection is lost or the hub is busy, a bounded number of times. A change is sent again only if it was surely not taken;
-if that can't be known, MayBeTaken says what the answer to the same request means.
+A call is one request. If the hub refuses it, the call raises Refused, with the code, reason and detail. A read is sent again if the
+connection is lost or the hub is busy, a limited number of times. A change is sent again only if it surely wasn't taken. If that
+can't be known, MayBeTaken says what the answer to the same request means.
 """
 from __future__ import annotations
 
@@ -48,7 +48,7 @@ RULES = {
     "G0": "kept within the source's own organisation",
     "G1": "for organisations that share a community with the source",
     "G2": "for the source's communities and those connected to them",
-    "G4": "for a sharing group of which your organisation is no member",
+    "G4": "for a sharing group that your organisation isn't a member of",
     "G4X": "for a sharing group that is switched off",
     "H-GREEN": "marked GREEN, for the source's communities, or for the one that the incident names",
     "H-AMBER": "marked AMBER, for addressed persons, and nominated persons of addressed organisations and of clients of these or of the source",
@@ -57,15 +57,15 @@ RULES = {
 }
 
 # What the answer to the same change means, asked again after one that may have been taken.
-AGAIN_POST = "S1 means that it was taken, and its detail is the number; any other answer is that of a first request"
-AGAIN_REPLACE = "S3 means that a later revision stands, its detail: yours if nobody else of your organisation replaces it; look before you go on"
-AGAIN_PUT = "S1 means that it is so: it was taken, or was so before"
-AGAIN_PUT_REVISED = AGAIN_PUT + "; S3 means that another revision stands, its detail, and that this change is none of that revision's"
-AGAIN_TAKE = "S2 means that it is so no more: it was taken, or wasn't so before"
+AGAIN_POST = "S1 means that the report was posted, and its detail is the number; any other answer is the answer to a first request"
+AGAIN_REPLACE = "S3 means that there is a later revision, its detail: yours if nobody else of your organisation replaces the incident; look before you go on"
+AGAIN_PUT = "S1 means that the change is in place: it was taken, or was in place before"
+AGAIN_PUT_REVISED = AGAIN_PUT + "; S3 means that the stored revision is another one, whose number is its detail, and that it doesn't have this change"
+AGAIN_TAKE = "S2 means that there is nothing to remove: the change was taken, or there was nothing before"
 
 
 class HubError(Exception):
-    """Why a request has no answer that is of use."""
+    """Why a request has no useful answer."""
 
     def __init__(self, code: str, reason: str, detail: str = "") -> None:
         super().__init__(f"{code}: {reason}" + (f" ({detail})" if detail else ""))
@@ -73,7 +73,7 @@ class HubError(Exception):
 
 
 class Refused(HubError):
-    """A refusal of the hub, or of the proxy before it, by its code. What a refused request would change stays as it was."""
+    """A refusal by the hub, or by the proxy in front of it, with its code. A refused request changes nothing."""
 
     def __init__(self, status: int, code: str, reason: str, detail: str = "") -> None:
         super().__init__(code, reason, detail)
@@ -89,12 +89,12 @@ class MayBeTaken(HubError):
 
 
 class NotHub(HubError):
-    """Something answered that is no hub."""
+    """What answered is not a hub."""
 
 
 @dataclass(frozen=True)
 class Caller:
-    """The person whose key it is."""
+    """The person that the key belongs to."""
 
     number: int
     name: str
@@ -105,7 +105,7 @@ class Caller:
 
 @dataclass(frozen=True)
 class Group:
-    """A sharing group. `extend` is whether the caller's organisation may add others."""
+    """A sharing group. `extend` says whether the caller's organisation may add others."""
 
     number: int
     name: str
@@ -125,7 +125,7 @@ class Entry:
 
 
 class Place(NamedTuple):
-    """An incident of a circle that has several hubs: which hub, from 1 and the oldest first, and the number that the hub gave it."""
+    """An incident of a circle that has several hubs: the hub, counted from 1 for the oldest, and the number that this hub gave it."""
 
     hub: int
     number: int
@@ -170,7 +170,7 @@ T = TypeVar("T", int, str, bool)
 
 
 def _stranger(what: str) -> NotHub:
-    return NotHub("NotHub", "that was no answer of a hub", what)
+    return NotHub("NotHub", "the answer isn't a hub's", what)
 
 
 def _member(value: object, name: str, kind: type[T]) -> T:
@@ -188,7 +188,7 @@ def _list(value: object, name: str) -> list[Any]:
 
 
 def _refusal(status: int, value: object) -> Refused | None:
-    """What is told in the shape of a refusal; its status is none of success."""
+    """The refusal, if the value has the shape of one and the status is that of a failure."""
     told = [value.get(name) for name in ("code", "reason", "detail")] if isinstance(value, dict) else []
     texts = [each for each in told if isinstance(each, str)]
     return Refused(status, *texts) if len(texts) == 3 and status >= 400 else None
@@ -237,7 +237,7 @@ def new_key() -> str:
 
 
 def digest_of(key: str) -> str:
-    """What the hub is told of a key."""
+    """The SHA-256 of a key, by which `add_person` gives the key to the hub."""
     return hashlib.sha256(key.encode()).hexdigest()
 
 
@@ -245,7 +245,7 @@ def digest_of(key: str) -> str:
 
 Report = dict[str, Any] | bytes | str
 
-OF_A_FILE = "of a file: pathlib.Path(NAME).read_bytes()"
+OF_A_FILE = "for a file, give pathlib.Path(NAME).read_bytes()"
 BYTE_ORDER_MARKS = (
     (codecs.BOM_UTF8, "UTF-8", "tail -c +4 FILE"),
     (codecs.BOM_UTF32_LE, "UTF-32", "iconv -f UTF-32 -t UTF-8 FILE"),  # before that of UTF-16, with which it begins
@@ -256,11 +256,11 @@ BYTE_ORDER_MARKS = (
 
 
 def _unmarked(text: bytes) -> bytes:
-    """Returns the text, or raises ValueError if a byte order mark stands in front of it."""
+    """Returns the text, or raises ValueError if it begins with a byte order mark."""
     for mark, encoding, helps in BYTE_ORDER_MARKS:
         if text.startswith(mark):
             raise ValueError(
-                f"a byte order mark of {encoding} is in front of the report, which the hub can't read: save it as UTF-8 without one, as `{helps}` writes it"
+                f"the report begins with a {encoding} byte order mark, which the hub can't read: save it as UTF-8 without one, for example with `{helps}`"
             )
     return text
 
@@ -269,15 +269,15 @@ def _utf8(text: str) -> bytes:
     try:
         return text.encode()
     except UnicodeEncodeError as fault:
-        raise ValueError(f"the report has half of a character, {text[fault.start]!r}, which UTF-8 can't write") from None
+        raise ValueError(f"the report contains half a character, {text[fault.start]!r}, which UTF-8 can't encode") from None
 
 
 def _no_json(value: object) -> Any:
-    raise TypeError(f"a report has texts, whole numbers, true, false, null, lists and dicts, and no {type(value).__name__}")
+    raise TypeError(f"a report may contain strings, whole numbers, true, false, null, lists and dicts, but not {type(value).__name__}")
 
 
 def _check_numbers(report: dict[str, Any]) -> None:
-    """Raises ValueError at a number that the hub refuses. None is changed: whether 1000.0 is 1000 or a text is not for us to say."""
+    """Raises ValueError for a number that the hub refuses. It changes none: only the caller knows whether 1000.0 is 1000 or a string."""
     waiting: list[tuple[str, object]] = [("", report)]
     while waiting:
         path, value = waiting.pop()
@@ -286,17 +286,17 @@ def _check_numbers(report: dict[str, Any]) -> None:
         elif isinstance(value, (list, tuple)):
             waiting += [(f"{path}/{place}", each) for place, each in enumerate(value)]
         elif isinstance(value, float):
-            helps = f"write {int(value)}" if value.is_integer() and abs(value) < 2**53 else "write a text"
-            raise ValueError(f"{path} is {value!r}, and the hub takes no number with a fraction or an exponent: {helps}")
+            helps = f"write {int(value)}" if value.is_integer() and abs(value) < 2**53 else "write it as a string"
+            raise ValueError(f"{path} is {value!r}, and the hub accepts no number with a fraction or an exponent: {helps}")
         elif isinstance(value, int) and not -(2**63) <= value < 2**64:
-            raise ValueError(f"{path} is {value}, and the hub takes no number of more than 64 bits: write a text")
+            raise ValueError(f"{path} is {value}, and the hub accepts no number of more than 64 bits: write it as a string")
 
 
 def report_bytes(report: Report) -> bytes:
-    """Returns the bytes that are sent of a report: of a dict its JSON, of a str its UTF-8, and bytes as they are.
+    """Returns the bytes that are sent for a report: the JSON of a dict, the UTF-8 of a str, and bytes unchanged.
 
-    Raises TypeError for anything else. Raises ValueError for a byte order mark in front of the report, for a str that begins no
-    JSON object (as the name of a file), and for a number in a dict that the hub refuses. All else is for the hub to say.
+    Raises TypeError for anything else. Raises ValueError for a byte order mark at the beginning, for a str that doesn't begin with
+    a JSON object (such as the name of a file), and for a number in a dict that the hub refuses. The hub checks everything else.
     """
     if isinstance(report, dict):
         text = json.dumps(report, ensure_ascii=False, separators=(",", ":"), default=_no_json)
@@ -305,11 +305,11 @@ def report_bytes(report: Report) -> bytes:
     if isinstance(report, str):
         whole = _unmarked(_utf8(report))
         if not whole.lstrip(b" \t\r\n").startswith(b"{"):
-            raise ValueError(f"a str is the JSON of a report, which begins with {{; {OF_A_FILE}")
+            raise ValueError(f"a str must be the JSON of a report, which begins with {{; {OF_A_FILE}")
         return whole
     if isinstance(report, bytes):
         return _unmarked(report)
-    raise TypeError(f"a report is a dict, or its JSON as bytes or str, and no {type(report).__name__}; {OF_A_FILE}")
+    raise TypeError(f"a report must be a dict, or its JSON as bytes or str, not {type(report).__name__}; {OF_A_FILE}")
 
 
 def _is_this_host(name: str) -> bool:
@@ -320,12 +320,12 @@ def _is_this_host(name: str) -> bool:
 
 
 class Hub:
-    """A hub as the person sees it whose key this is. Each call is one request, but `every_..`, which are one for each page.
+    """A hub, as the person with this key sees it. Each call is one request, except `every_..`, which makes one for each page.
 
     A call raises Refused if the hub refuses it, Unreachable if nothing was changed, MayBeTaken if a change may have been taken,
-    and NotHub if something else answers. All are a HubError. `ca` is a file of certificates to trust in place of the system's,
-    `timeout` the seconds that a connection may stay without a byte, `tries` how often a request is sent at most, and `pause` the
-    seconds before the second try.
+    and NotHub if something else answers. Each of these is a HubError. `ca` is a file of certificates to trust instead of the
+    system's, `timeout` is how many seconds a connection may go without a byte, `tries` is the most times that a request is sent,
+    and `pause` is the seconds before the second try.
     """
 
     def __init__(
@@ -333,20 +333,20 @@ class Hub:
     ) -> None:
         parts = urllib.parse.urlsplit(url)
         if parts.scheme not in ("http", "https") or not parts.hostname or parts.query or parts.fragment or "@" in parts.netloc:
-            raise ValueError("the hub's address is https://NAME[:PORT][/PATH]")
+            raise ValueError("the hub's address must be https://NAME[:PORT][/PATH]")
         if parts.scheme == "http" and not _is_this_host(parts.hostname):
-            raise ValueError("a key is sent over https alone, but to this host")
+            raise ValueError("a key is sent only over https, except to this host")
         if not all("!" <= each <= "~" for each in parts.path):
-            raise ValueError("the path of the hub's address is ASCII without spaces")
+            raise ValueError("the path of the hub's address must be ASCII without spaces")
         if not 1 <= len(key) <= 128 or not all("!" <= each <= "~" for each in key):
-            raise ValueError("a key is 1 to 128 bytes from ! to ~")
+            raise ValueError("a key must be 1 to 128 bytes from ! to ~")
         # Over plain HTTP the name of this host is not looked up: a key must not leave it by a strange table of names.
         self._host = "127.0.0.1" if parts.scheme == "http" and parts.hostname == "localhost" else parts.hostname
         self._port, self._path = parts.port, parts.path.rstrip("/")
         self._key, self._timeout, self._tries, self._pause = key, timeout, max(tries, 1), pause
         self._tls = ssl.create_default_context(cafile=ca) if parts.scheme == "https" else None
         self.heard = b""
-        """The bytes of the newest answer's body, as they came."""
+        """The bytes of the newest answer's body, as received."""
 
     def _connection(self) -> http.client.HTTPConnection:
         if self._tls:
@@ -354,8 +354,8 @@ class Hub:
         return http.client.HTTPConnection(self._host, self._port, timeout=self._timeout)
 
     def _once(self, method: str, target: str, body: bytes | None) -> tuple[int, str | None, bytes] | HubError:
-        """Status, Retry-After and body of what is answered; or Unreachable where the request was surely not taken, or
-        MayBeTaken where it was sent whole and the answer is lost."""
+        """Status, Retry-After and body of the answer; or Unreachable if the request surely wasn't taken, or MayBeTaken if it was
+        sent in full and the answer is lost."""
         connection = self._connection()
         try:
             try:
@@ -377,7 +377,7 @@ class Hub:
                     raise http.client.IncompleteRead(text, answer.length)
             except (OSError, http.client.HTTPException) as fault:
                 if unsent:
-                    return Unreachable("Unreachable", "the request wasn't sent whole", str(unsent))
+                    return Unreachable("Unreachable", "the request wasn't sent in full", str(unsent))
                 return MayBeTaken("MayBeTaken", "the answer is lost", str(fault) or type(fault).__name__)
             if len(text) > LONGEST_REPLY:
                 return _stranger(f"more than {LONGEST_REPLY} bytes")
@@ -388,7 +388,7 @@ class Hub:
     def _ask(
         self, method: str, path: str, query: Sequence[tuple[str, object]] = (), body: bytes | None = None, again: str = ""
     ) -> Any:
-        """The value that is answered. `again` is what a second answer means of a change; a read has none."""
+        """The value of the answer. `again` says what the answer to a change means if it is sent again; a read has none."""
         # Slashes and colons as they are: 16 gates are to fit a head.
         target = self._path + path + ("?" + urllib.parse.urlencode(query, safe="/:") if query else "")
         for left in range(self._tries - 1, -1, -1):
@@ -418,20 +418,20 @@ class Hub:
                 time.sleep(min(int(wait) if wait and wait.isascii() and wait.isdigit() and len(wait) < 6 else pause, 30))
                 continue
             if again and not is_untaken and (status == 200 or status >= 500 and status != 501):
-                raise MayBeTaken("MayBeTaken", f"the change was answered {status} on the way", f"ask again: {again}")
+                raise MayBeTaken("MayBeTaken", f"something on the way answered the change with status {status}", f"ask again: {again}")
             raise refusal or _stranger(f"status {status}")
         raise AssertionError("the last try answers or raises")
 
     def _change(self, path: str, again: str, *fields: tuple[str, object]) -> Any:
-        """A change, with its parameters as a form."""
+        """Sends a change, with its parameters as a form."""
         return self._ask("POST", path, body=urllib.parse.urlencode(fields).encode(), again=again)
 
     def _told(self, read: Callable[[Any], Any], value: Any, again: str) -> Any:
-        """What a change is answered. An answer of another shape leaves it open whether the change was taken."""
+        """Reads the answer to a change. If the answer has another shape, the change may have been taken or not."""
         try:
             return read(value)
         except NotHub:
-            raise MayBeTaken("MayBeTaken", "the change was answered by no hub", f"ask again: {again}") from None
+            raise MayBeTaken("MayBeTaken", "what answered the change is not a hub", f"ask again: {again}") from None
 
     def _do(self, path: str, again: str, *fields: tuple[str, object]) -> None:
         self._told(_done, self._change(path, again, *fields), again)
@@ -442,7 +442,7 @@ class Hub:
     # Reading, by every active person
 
     def me(self) -> Caller:
-        """Who the hub takes the caller for."""
+        """Who the hub says the caller is."""
         value = self._ask("GET", "/me")
         return Caller(
             _member(value, "number", int), _member(value, "name", str), _member(value, "org", int),
@@ -462,7 +462,7 @@ class Hub:
         return _page(self._ask("GET", "/incidents", [("after", after)]))
 
     def view(self, number: int) -> View:
-        """What the caller may read of an incident, and what is withheld where, by which rule."""
+        """What the caller may read of an incident, and where something is withheld, by which rule."""
         value = self._ask("GET", f"/incidents/{number}")
         document = value.get("document")
         if not isinstance(document, dict):
@@ -494,8 +494,9 @@ class Hub:
     def post(
         self, report: Report, level: int, group: int | None = None, gates: Sequence[Gate] = (), community: int | None = None
     ) -> tuple[int, ...]:
-        """Posts a report and returns the numbers of its Incidents. What is marked green in it is for the members of one community
-        of the source, or if None is named of any. Raises TypeError and ValueError as `report_bytes`, before anything is sent."""
+        """Posts a report and returns the numbers of its Incidents. What is marked green in it is for the members of
+        this community of the source, or of any of them if it is None. Raises TypeError and ValueError as `report_bytes` does, before
+        anything is sent."""
         value = self._ask("POST", "/incidents", _spread(level, group, gates, community), report_bytes(report), AGAIN_POST)
         return tuple(self._told(_numbers, value, AGAIN_POST))
 
@@ -503,12 +504,12 @@ class Hub:
         self, number: int, revision: int, report: Report, level: int, group: int | None = None, *, gates: Sequence[Gate],
         community: int | None,
     ) -> int:
-        """Puts a new revision in place of the one that was seen, and returns its number.
+        """Replaces the revision that was seen with a new one, and returns its number.
 
-        The new revision is for whom this call says, whatever was said of the one before: `gates` are all gates at its classes, and
-        what is marked green is for the members of `community`, or if it is None of any community of the source. Both have to be
-        given, as leaving one out would widen the report. All permissions are removed; the recipients stay. Raises TypeError and
-        ValueError as `report_bytes`, before anything is sent.
+        This call says who may read the new revision, whatever applied to the one before: `gates` are all gates at its classes, and
+        what is marked green is for the members of `community`, or of any community of the source if it is None. Both must be given,
+        as leaving one out would widen the report. All permissions are removed; the recipients stay. Raises TypeError and ValueError
+        as `report_bytes` does, before anything is sent.
         """
         query = [("revision", revision), *_spread(level, group, gates, community)]
         value = self._ask("PUT", f"/incidents/{number}", query, report_bytes(report), AGAIN_REPLACE)
@@ -521,27 +522,27 @@ class Hub:
         self._do(f"/incidents/{number}/gate", AGAIN_PUT_REVISED, *fields)
 
     def address(self, number: int, kind: str, target: int) -> None:
-        """A recipient: a `person` or an `org`, and its number."""
+        """Adds a recipient: a `person` or an `org`, by its number."""
         self._do(f"/incidents/{number}/address", AGAIN_PUT, (kind, target))
 
     def unaddress(self, number: int, kind: str, target: int) -> None:
-        """Removes a recipient: a `person` or an `org`, and its number."""
+        """Removes a recipient: a `person` or an `org`, by its number."""
         self._do(f"/incidents/{number}/unaddress", AGAIN_TAKE, (kind, target))
 
     def grant(self, number: int, revision: int, path: str, kind: str, target: int, until: str | None = None) -> None:
-        """Permits a `person`, an `org`, a `community` or a `group` to see a class, without an end or up to one (RFC 3339, with offset)."""
+        """Permits a `person`, an `org`, a `community` or a `group` to see a class, for ever or until a moment (RFC 3339, with offset)."""
         ended = [("until", until)] if until is not None else []
         fields = [("revision", revision), ("path", path), (kind, target), *ended]
         self._do(f"/incidents/{number}/grant", AGAIN_PUT_REVISED, *fields)
 
     def withdraw(self, number: int, path: str, kind: str, target: int) -> None:
-        """Removes the permission of a `person`, an `org`, a `community` or a `group` at a class, ended or not."""
+        """Removes the permission of a `person`, an `org`, a `community` or a `group` at a class, whether it has ended or not."""
         self._do(f"/incidents/{number}/withdraw", AGAIN_TAKE, ("path", path), (kind, target))
 
     # The circle, by an administrator
 
     def explain(self, person: int, incident: int, path: str) -> str:
-        """Why a person sees a class, or doesn't, in lines."""
+        """Why a person sees a class or doesn't, as lines."""
         query = [("person", person), ("incident", incident), ("path", path)]
         return _member(self._ask("GET", "/explain", query), "trace", str)
 
@@ -558,11 +559,11 @@ class Hub:
         self._do(f"/orgs/{org}/clients/remove", AGAIN_TAKE, ("client", client))
 
     def add_person(self, org: int, name: str, role: str, digest: str) -> int:
-        """A new person, whose key has this digest (see `new_key` and `digest_of`)."""
+        """Adds a person whose key has this digest (see `new_key` and `digest_of`), and returns the person's number."""
         return self._make("/persons", AGAIN_PUT, ("org", org), ("name", name), ("role", role), ("key", digest))
 
     def suspend(self, person: int) -> None:
-        """A person's key is served no more. Nothing takes this back."""
+        """Suspends a person: the hub refuses the key from then on. This can't be undone."""
         self._do(f"/persons/{person}/suspend", AGAIN_PUT)
 
     def add_community(self, name: str) -> int:
@@ -596,7 +597,7 @@ class Hub:
         self._do(f"/persons/{person}/unnominate", AGAIN_TAKE)
 
     def new_group(self, name: str, releasability: str = "") -> int:
-        """Founds a sharing group of the caller's organisation and returns its number."""
+        """Creates a sharing group of the caller's organisation and returns its number."""
         return self._make("/groups", AGAIN_PUT, ("name", name), ("releasability", releasability))
 
     def group_add(self, group: int, org: int, extend: bool = False) -> None:
@@ -612,20 +613,20 @@ class Hub:
         self._do(f"/groups/{group}/active", AGAIN_PUT, ("active", int(active)))
 
     def arrange(self, org: int, handling: str) -> None:
-        """Says what the label `default` of the caller's organisation means to another one: one of `HANDLINGS`."""
+        """Sets what the label `default` of the caller's organisation means to another organisation: one of `HANDLINGS`."""
         self._do("/arrangements", AGAIN_PUT, ("org", org), ("handling", handling))
 
     def cancel_arrange(self, org: int) -> None:
-        """Ends what was arranged with another organisation."""
+        """Ends the arrangement with another organisation."""
         self._do("/arrangements/cancel", AGAIN_TAKE, ("org", org))
 
 
 class Hubs:
-    """The hubs of one circle that began a second hub beside the first, the oldest first, for one key.
+    """The hubs of one circle that has more than one, the oldest first, for one key.
 
     Each hub numbers its own incidents, so an incident is a `Place`. Persons, organisations, communities and groups have the same
-    numbers in each. What each hub does is `at(1)`, `at(2)` and so on; a new report is posted at `newest`. The arguments behind
-    `urls` are those of `Hub`.
+    numbers in each. `at(1)`, `at(2)` and so on are the single hubs; a new report is posted at `newest`. The arguments after `urls`
+    are those of `Hub`.
     """
 
     def __init__(
@@ -641,13 +642,13 @@ class Hubs:
         return self.all[-1]
 
     def at(self, hub: int) -> Hub:
-        """The hub of this place, from 1. Raises ValueError if there is none."""
+        """The hub at this place, counted from 1. Raises ValueError if there is none."""
         if not 1 <= hub <= len(self.all):
             raise ValueError(f"there is no hub {hub}: the hubs are 1 to {len(self.all)}")
         return self.all[hub - 1]
 
     def view(self, place: Place) -> View:
-        """What the caller may read of an incident, and what is withheld where, by which rule."""
+        """What the caller may read of an incident, and where something is withheld, by which rule."""
         return self.at(place.hub).view(place.number)
 
     def every_addressed(self) -> Iterator[tuple[Place, Entry]]:
@@ -683,7 +684,7 @@ def _spread(level: int, group: int | None, gates: Sequence[Gate], community: int
     return [*named, ("level", level), *grouped, *(("gate", str(gate)) for gate in gates)]
 
 
-# What stands in a document
+# What is in a document
 
 
 def _token(name: str) -> str:
@@ -714,10 +715,11 @@ HOLDERS = {
 
 
 class Indicator(NamedTuple):
-    """A value in a document, and what part it has there.
+    """A value in a document, and its role there.
 
-    `role` is `indicator` below a class Indicator, `source`, `target` or another category of a System in it, and `-` if the
-    document says none. Both stand if both hold, as `indicator:target`. A System that its report calls spoofed is `source:spoofed`.
+    `role` is `indicator` below a class Indicator; `source`, `target` or another category inside a System; and `-` if the document
+    gives none. If both apply, it has both, as in `indicator:target`. A System that the report calls spoofed adds `:spoofed`, as in
+    `source:spoofed`.
     """
 
     kind: str
@@ -745,17 +747,17 @@ def _found_in(name: str, each: dict[str, Any]) -> Iterator[tuple[str, str]]:
 
 
 def _part_of(system: dict[str, Any]) -> str:
-    """The part of a System in what happened (RFC 7970 section 3.17). One that is spoofed is likely none of its category."""
+    """The role of a System in what happened (RFC 7970 section 3.17). A spoofed one is probably not of its category."""
     category = system.get("category")
     part = category if isinstance(category, str) else "-"
     return f"{part}:spoofed" if system.get("spoofed") == "yes" else part
 
 
 def indicators(document: Mapping[str, Any], every: bool = False) -> Iterator[Indicator]:
-    """Yields what one blocks or looks for: addresses, domain names, hashes, files, registry keys, bulk lists and URLs that stand
-    below a class Indicator, or in a System of the category source that isn't spoofed. A Reference is none.
+    """Yields what to block or look for: addresses, domain names, hashes, files, registry keys, bulk lists and URLs below a class
+    Indicator, or in a System of the category source that isn't spoofed. The URL of a Reference isn't one.
 
-    With `every` it yields those of all places, also the addresses of victims: look at `role` before you block one.
+    With `every` it yields those of all places, including the addresses of victims: look at `role` before you block one.
     """
     systems: list[tuple[str, str]] = []  # those around, the nearest last
     for path, name, each in classes(document):
@@ -779,12 +781,12 @@ class Usage(Exception):
 
 
 def shown(text: str) -> str:
-    """A text for a terminal: what isn't printable is spelled."""
+    """A text for a terminal: what isn't printable is escaped."""
     return "".join(each if each.isprintable() else f"\\u{ord(each):04x}" if ord(each) < 0x10000 else f"\\U{ord(each):08x}" for each in text)
 
 
 def shown_json(value: object) -> str:
-    """JSON for a terminal, in lines. What isn't printable is spelled as JSON spells it."""
+    """JSON for a terminal, in lines. What isn't printable is escaped as in JSON."""
     lines = json.dumps(value, indent=2, ensure_ascii=False).split("\n")
     return "\n".join("".join(each if each.isprintable() else json.dumps(each)[1:-1] for each in line) for line in lines)
 
@@ -796,7 +798,7 @@ def key_of(environment: Mapping[str, str]) -> str:
         return lines[0] if lines else ""
     if key := environment.get("IODEF_HUB_KEY"):
         return key
-    raise Usage("the key is wanted in IODEF_HUB_KEY, or in a file that IODEF_HUB_KEY_FILE names")
+    raise Usage("no key is given: set IODEF_HUB_KEY, or IODEF_HUB_KEY_FILE to the name of a file with the key")
 
 
 def read_file(name: str) -> bytes:
@@ -805,7 +807,7 @@ def read_file(name: str) -> bytes:
 
 def number(text: str) -> int:
     if not (text.isascii() and text.isdigit()) or int(text) > LAST_NUMBER:
-        raise argparse.ArgumentTypeError("a number from 0 to 4294967295 is wanted")
+        raise argparse.ArgumentTypeError("it must be a number from 0 to 4294967295")
     return int(text)
 
 
@@ -821,25 +823,26 @@ def place(text: str) -> Place:
 def gate(text: str) -> Gate:
     parts = text.split(":", 2)
     if len(parts) != 3:
-        raise argparse.ArgumentTypeError("a gate is LEVEL:GROUP:POINTER")
+        raise argparse.ArgumentTypeError("a gate must be LEVEL:GROUP:POINTER")
     return Gate(number(parts[0]), number(parts[1]), parts[2])
 
 
 def moment(text: str) -> str:
-    """An end as the hub reads it. A date alone is the beginning of that day. What has no offset is of this machine's time zone."""
+    """A moment as the hub reads it. A date alone is the beginning of that day. Without an offset it is in this machine's time zone."""
     try:
         read = datetime.datetime.fromisoformat(text)
         read = read if read.tzinfo else read.astimezone()
         offset = read.utcoffset() or datetime.timedelta()
     except (ValueError, OverflowError, OSError):
         raise argparse.ArgumentTypeError(
-            f"{text!r} is no end; wanted is 2026-12-31 (as that day begins), 2026-12-31T18:00 (both of this machine's time zone), or with"
-            " an offset 2026-12-31T18:00:00+01:00 or 2026-12-31T17:00:00Z"
+            f"{text!r} is not a moment; give 2026-12-31 (the beginning of that day) or 2026-12-31T18:00, both in this machine's time zone, or"
+            " with an offset 2026-12-31T18:00:00+01:00 or 2026-12-31T17:00:00Z"
         ) from None
     if read.microsecond or offset % datetime.timedelta(minutes=1):
-        raise argparse.ArgumentTypeError(f"{text!r} has a part of a second, or an offset with seconds")
+        raise argparse.ArgumentTypeError(f"{text!r} has a fraction of a second, or an offset with seconds")
     if read > LAST_MOMENT:
-        raise argparse.ArgumentTypeError(f"{text!r} is after the hub's last end, 9999-12-30T22:00:00Z; without --until there is no end")
+        raise argparse.ArgumentTypeError(
+            f"{text!r} is after the last moment that the hub accepts, 9999-12-30T22:00:00Z; leave out --until for a permission without an end")
     return read.isoformat()
 
 
@@ -848,9 +851,9 @@ class Unseen(Exception):
 
 
 class Teller:
-    """Writes results: in lines for people, or with --json the hub's own answers, one a line.
+    """Prints results: lines for people, or with --json the hub's own answers, one per line.
 
-    If several hubs are asked, `at` is which one this is. Then `before` stands before each line, and an answer has a member `hub`.
+    If several hubs are asked, `at` is the number of this one. Each line then begins with `before`, and an answer has a member `hub`.
     """
 
     def __init__(self, hub: Hub, is_json: bool, at: int = 0, before: str = "") -> None:
@@ -868,7 +871,7 @@ class Teller:
         sys.stdout.buffer.flush()
 
     def pages(self, page: Callable[[int], tuple[Entry, ...]]) -> None:
-        """All pages, with --json an answer a line."""
+        """Prints all pages, with --json one answer per line."""
         after = 0
         while True:
             found = page(after)
@@ -900,12 +903,13 @@ def do_indicators(hub: Hub, given: argparse.Namespace, teller: Teller) -> None:
     teller.tell(*("\t".join(map(shown, each)) for each in found))
     if len(found) < len(every) and not given.json:
         rest = len(every) - len(found)
-        print(f"iodef-hub-ask: {rest} more stand elsewhere, as the addresses of victims do; --all lists them with their role", file=sys.stderr)
+        print(f"iodef-hub-ask: {rest} more are elsewhere, such as the addresses of victims; --all lists them with their role", file=sys.stderr)
 
 
 class Watched:
-    """The incidents that a watch has told: the highest number, or with --all the revision of each. A file keeps them from one run
-    to the next. If a new file is given and no --from, nothing that stands at the hub is news, so `is_first` is true for one look."""
+    """The incidents that a watch has reported: the highest number, or with --all the revision of each. A file keeps them from one
+    run to the next. If the file is new and --from isn't given, nothing that the hub has already is news, so `is_first` is true for
+    one look."""
 
     def __init__(self, file: str | None, start: int | None, is_all: bool) -> None:
         self.file, self.is_all, self.last = file, is_all, start or 0
@@ -915,7 +919,7 @@ class Watched:
             self.read(file)
 
     def read(self, file: str) -> None:
-        bad = Usage(f"{file} was written by no watch {'with' if self.is_all else 'without'} --all")
+        bad = Usage(f"{file} was not written by a watch {'with' if self.is_all else 'without'} --all")
         try:
             value = json.loads(pathlib.Path(file).read_bytes())
             self.last = _member(value, "last", int)
@@ -947,8 +951,8 @@ class Watched:
 
 
 def handed_over(command: str, entry: Entry, before: str = "") -> bool:
-    """Whether a command that was run with the number and the source of an incident ended well. It gets nothing else: no content,
-    no key, an empty standard input."""
+    """Runs a command with the number and the source of an incident, and returns whether it succeeded. It gets nothing else: no
+    content, no key, an empty standard input."""
     environment = {name: value for name, value in os.environ.items() if name not in ("IODEF_HUB_KEY", "IODEF_HUB_KEY_FILE")}
     incident = f"{before}{entry.number}"
     words = [command, incident, str(entry.source)]
@@ -956,19 +960,19 @@ def handed_over(command: str, entry: Entry, before: str = "") -> bool:
         status = subprocess.run(words, stdin=subprocess.DEVNULL, stdout=sys.stderr, env=environment, timeout=COMMAND_SECONDS).returncode
         if status == 0:
             return True
-        why = f"ended with status {status}" if status > 0 else f"was ended by signal {-status}"
+        why = f"ended with status {status}" if status > 0 else f"was killed by signal {-status}"
     except subprocess.TimeoutExpired:
         why = f"didn't end within {COMMAND_SECONDS} seconds"
     except OSError as fault:
-        why = f"wasn't run: {fault.strerror}"
-    told = f"{command} {why}; incident {incident} and those behind it are tried again at the next look"
+        why = f"couldn't be run: {fault.strerror}"
+    told = f"{command} {why}; incident {incident} and those after it are tried again at the next look"
     print(f"iodef-hub-ask: {shown(told)}", file=sys.stderr, flush=True)
     return False
 
 
 def look(hub: Hub, given: argparse.Namespace, watched: Watched, at: int) -> None:
-    """Tells what is new. If the command fails, the look ends there, so that incidents are reported in order.
-    If there are several hubs, `at` is which one this is, and 0 else."""
+    """Reports what is new. If the command fails, the look ends there, so that incidents are reported in order.
+    If there are several hubs, `at` is the number of this one, else 0."""
     before, named = (f"{at}/", {"hub": at}) if at else ("", {})
     for entry in hub.every_incident(0 if given.all else watched.last):
         if not watched.is_news(entry):
@@ -986,10 +990,10 @@ def look(hub: Hub, given: argparse.Namespace, watched: Watched, at: int) -> None
 
 
 def watched_of(given: argparse.Namespace, count: int) -> list[Watched]:
-    """What was told of each hub. The state of the first is in the file of --state, that of the second in FILE.2, and so on. If the
-    first one's is there, the circle was watched before it had a further hub, so all that stands at that hub is new."""
+    """What was reported of each hub. The state of the first is in the file of --state, that of the second in FILE.2, and so on. If
+    the first one's exists, the circle was watched before it had a further hub, so everything at that hub is new."""
     if count > 1 and given.start is not None:
-        raise Usage("--from is a number of one hub: name that hub alone by --url")
+        raise Usage("--from is an incident number of one hub: name only that hub with --url")
     was_watched = given.state is not None and os.path.exists(given.state)
     watched = [Watched(given.state, given.start, given.all)]
     for at in range(2, count + 1):
@@ -999,7 +1003,7 @@ def watched_of(given: argparse.Namespace, count: int) -> list[Watched]:
 
 
 def do_watch(hubs: Hubs, given: argparse.Namespace) -> None:
-    """New incidents by number; with --all also new revisions and what becomes visible, which costs a whole list each time."""
+    """Reports new incidents by number; with --all also new revisions and what becomes visible, for which each look reads the whole list."""
     if given.exec is not None and shutil.which(given.exec) is None:
         raise Usage(f"--exec {given.exec}: there is no such program")
     has_several = len(hubs.all) > 1
@@ -1013,7 +1017,7 @@ def do_watch(hubs: Hubs, given: argparse.Namespace) -> None:
                 if isinstance(fault, Refused) and fault.status not in (429, 502, 503, 504):
                     raise
                 which = f"hub {at}: " if has_several else ""
-                print(f"iodef-hub-ask: {which}{shown(str(fault))}; goes on", file=sys.stderr, flush=True)
+                print(f"iodef-hub-ask: {which}{shown(str(fault))}; the watch goes on", file=sys.stderr, flush=True)
         rounds += 1
         if rounds == given.rounds:
             return
@@ -1021,17 +1025,17 @@ def do_watch(hubs: Hubs, given: argparse.Namespace) -> None:
 
 
 def check_replacement(given: argparse.Namespace, has_gates: bool) -> None:
-    """Raises Usage if the words leave open for whom a new revision is. What was said of the stored one doesn't hold for it, and the
-    hub has no request that tells what that was."""
+    """Raises Usage if the words don't say who may read a new revision. What applied to the stored one doesn't apply to it, and no
+    request reads what that was."""
     unsaid = []
     if given.community is None and not given.any_community:
         unsaid.append("--community N or --any-community: whose members may read what is marked green")
     if not has_gates:
-        unsaid.append("--gate LEVEL:GROUP:POINTER or --no-gates: the gates of the stored revision are taken out")
+        unsaid.append("--gate LEVEL:GROUP:POINTER or --no-gates: the gates of the stored revision are removed")
     if not given.drop_permissions:
-        unsaid.append("--drop-permissions: all permissions are taken out")
+        unsaid.append("--drop-permissions: all permissions are removed")
     if unsaid:
-        raise Usage(f"nothing is sent, as a new revision wants {'; and '.join(unsaid)}")
+        raise Usage(f"nothing is sent, as a new revision needs {'; and '.join(unsaid)}")
 
 
 def do_replace(hub: Hub, given: argparse.Namespace, teller: Teller) -> None:
@@ -1050,7 +1054,7 @@ def do_grant(hub: Hub, given: argparse.Namespace, teller: Teller) -> None:
 
 @dataclass(frozen=True)
 class PostLine:
-    """A line for post-all: a report with its way of posting. `gates` is None if the line has none written."""
+    """A line for post-all: a report and how to post it. `gates` is None if the line has no such member."""
 
     report: bytes
     level: int
@@ -1061,7 +1065,7 @@ class PostLine:
 
 
 def post_line(text: bytes, place: int) -> PostLine:
-    bad = Usage(f'line {place}: {{"community":..,"document":..,"gates":[..],"group":..,"level":..,"source":..}} is wanted')
+    bad = Usage(f'line {place} must be {{"community":..,"document":..,"gates":[..],"group":..,"level":..,"source":..}}')
     try:
         value = json.loads(text)
     except (ValueError, RecursionError):
@@ -1084,8 +1088,8 @@ def post_line(text: bytes, place: int) -> PostLine:
 
 
 def post_lines(given: argparse.Namespace) -> list[PostLine]:
-    """All lines, each with the community that the words say. Raises Usage if a line says another one, or if a line for --replace
-    says no gates."""
+    """All lines, each with the community that the command's words name. Raises Usage if a line names another one, or if a line for
+    --replace has no gates."""
     lines: list[PostLine] = []
     for text in _unmarked(read_file(given.file)).split(b"\n"):
         if not text.strip():
@@ -1094,9 +1098,9 @@ def post_lines(given: argparse.Namespace) -> list[PostLine]:
         line = post_line(text, place)
         if line.community is not None and (given.any_community or given.community not in (None, line.community)):
             said = "--any-community" if given.any_community else f"--community {given.community}"
-            raise Usage(f"line {place} is for community {line.community}, and you say {said}")
+            raise Usage(f"line {place} is for community {line.community}, but you gave {said}")
         if given.replace and line.gates is None:
-            raise Usage(f'line {place}: "gates" is wanted, as a new revision takes out the gates of the stored one')
+            raise Usage(f'line {place} needs "gates", as a new revision removes the gates of the stored one')
         lines.append(replace(line, community=line.community if given.community is None else given.community))
     return lines
 
@@ -1109,7 +1113,7 @@ def do_post_all(hub: Hub, given: argparse.Namespace, teller: Teller) -> None:
     org = hub.me().org
     for place, line in enumerate(lines):
         if line.source not in (None, org):
-            raise Usage(f"line {place + 1}: the report is of organisation {line.source}, and your key is of organisation {org}")
+            raise Usage(f"line {place + 1}: the report is from organisation {line.source}, but your key is for organisation {org}")
     for place, line in enumerate(lines):
         gates = line.gates or ()
         try:
@@ -1123,7 +1127,7 @@ def do_post_all(hub: Hub, given: argparse.Namespace, teller: Teller) -> None:
                 revision = hub.replace(stored, seen, line.report, line.level, line.group, gates=gates, community=line.community)
                 told = f"{stored}\tr{revision}"
         except HubError:
-            print(f"iodef-hub-ask: {place} of {len(lines)} lines are posted; line {place + 1}:", file=sys.stderr)
+            print(f"iodef-hub-ask: {place} of {len(lines)} lines were posted; line {place + 1} failed:", file=sys.stderr)
             raise
         teller.tell(told)
 
@@ -1144,9 +1148,9 @@ def do_add_person(hub: Hub, given: argparse.Namespace, teller: Teller) -> None:
         made = hub.add_person(given.org, given.name, given.role, digest_of(key))
     except MayBeTaken:
         if given.key_file is None:
-            print(f"iodef-hub-ask: the key, should it have been taken: {key}", file=sys.stderr)
+            print(f"iodef-hub-ask: the key, in case the person was added: {key}", file=sys.stderr)
         else:
-            print(f"iodef-hub-ask: the key stands in {given.key_file}, should it have been taken", file=sys.stderr)
+            print(f"iodef-hub-ask: the key is in {given.key_file}, in case the person was added", file=sys.stderr)
         raise
     except HubError:
         if given.key_file is not None:
@@ -1176,9 +1180,9 @@ def reader_of(name: str) -> dict[str, object]:
     try:
         value = json.loads(pathlib.Path(name).read_bytes())
     except (ValueError, RecursionError):
-        raise Usage(f"{name} holds no JSON") from None
+        raise Usage(f"{name} is not JSON") from None
     if not isinstance(value, dict):
-        raise Usage(f"{name} holds no JSON object")
+        raise Usage(f"{name} is not a JSON object")
     return value
 
 
@@ -1200,7 +1204,7 @@ def previewed(report: bytes, description: Mapping[str, object], engine: str) -> 
         try:
             ran = subprocess.run([engine, "excerpt", "--for", file.name], input=report, capture_output=True, check=False)
         except FileNotFoundError:
-            raise Usage(f"there is no {engine}: install it, or name the program by --engine") from None
+            raise Usage(f"{engine} was not found: install it, or name the program with --engine") from None
     if ran.returncode == 0:
         return ran.stdout
     told = " ".join(ran.stderr.decode(errors="replace").split("\n")).strip()
@@ -1222,7 +1226,7 @@ Command = Callable[[Hub, argparse.Namespace, Teller], None]
 
 
 def done(change: Callable[[Hub, argparse.Namespace], None]) -> Command:
-    """A command whose change is answered as done."""
+    """A command that makes a change and prints `done`."""
     def command(hub: Hub, given: argparse.Namespace, teller: Teller) -> None:
         change(hub, given)
         teller.tell("done")
@@ -1230,7 +1234,7 @@ def done(change: Callable[[Hub, argparse.Namespace], None]) -> Command:
 
 
 def told(ask: Callable[[Hub, argparse.Namespace], Sequence[str]]) -> Command:
-    """A command whose answer is lines."""
+    """A command that prints lines."""
     def command(hub: Hub, given: argparse.Namespace, teller: Teller) -> None:
         teller.tell(*ask(hub, given))
     return command
@@ -1246,10 +1250,10 @@ KINDS: dict[str, Callable[[str], Any]] = {
 }
 CHOICES = {"grantee": GRANTEES, "recipient": RECIPIENTS, "role": ROLES, "handling": HANDLINGS, "state": ("on", "off")}
 HELPS = {
-    "level": "0 your organisation, 1 organisations that share a community with it, 2 those of connected communities too, 3 everybody in the"
-    " hub, also organisations in no community, 4 the group of --group",
-    "number": "the incident's number; if there are several hubs HUB/NUMBER, as 2/17",
-    "path": "the JSON pointer of a class in the Incident's document, as /Incident/0/EventData/1",
+    "level": "0 your organisation, 1 organisations that share a community with it, 2 also those of connected communities, 3 everybody in the"
+    " hub, including organisations in no community, 4 the group of --group",
+    "number": "the incident's number; with several hubs HUB/NUMBER, such as 2/17",
+    "path": "the JSON pointer of a class in the Incident's document, such as /Incident/0/EventData/1",
     "file": "the file, or - for standard input",
 }
 
@@ -1268,16 +1272,16 @@ class Words:
 
     def __init__(self) -> None:
         self.parser = argparse.ArgumentParser(
-            prog="iodef-hub-ask", description="Asks an iodef-hub. The key stands in IODEF_HUB_KEY, or in a file that IODEF_HUB_KEY_FILE names.",
+            prog="iodef-hub-ask", description="Sends requests to an iodef-hub. The key is in IODEF_HUB_KEY, or in a file that IODEF_HUB_KEY_FILE names.",
         )
         add = self.parser.add_argument
         add("--url", action="append", metavar="URL",
-            help=f"the hub's address; else IODEF_HUB_URL, else {DEFAULT_URL}. Given more than once, or several in IODEF_HUB_URL with spaces"
-            " between, they are the hubs of one circle, the oldest first")
-        add("--ca", default=os.environ.get("IODEF_HUB_CA") or None, help="certificates to trust in place of the system's; else IODEF_HUB_CA")
-        add("--json", action="store_true", help="the hub's own answers, one a line")
-        add("--tries", type=number, default=5, help="how often a request is sent at most (%(default)s)")
-        add("--timeout", type=float, default=70, help="seconds without a byte until a connection is lost (%(default)s)")
+            help=f"the hub's address (default: IODEF_HUB_URL, else {DEFAULT_URL}). Several, by --url again or with spaces between them in"
+            " IODEF_HUB_URL, are the hubs of one circle, the oldest first")
+        add("--ca", default=os.environ.get("IODEF_HUB_CA") or None, help="a file of certificates to trust instead of the system's (default: IODEF_HUB_CA)")
+        add("--json", action="store_true", help="print the hub's own answers, one per line")
+        add("--tries", type=number, default=5, help="the most times that a request is sent (default: %(default)s)")
+        add("--timeout", type=float, default=70, help="seconds without a byte after which a connection counts as lost (default: %(default)s)")
         add("--version", action="version", version=f"%(prog)s {__version__}")
         self.commands = self.parser.add_subparsers(dest="command", required=True, metavar="COMMAND")
         self.known: dict[str, Command] = {}
@@ -1302,32 +1306,32 @@ class Words:
         return made
 
     def add_reading(self) -> None:
-        self.add("me", told(lambda hub, given: [shown_json(asdict(hub.me()))]), "who the hub takes you for")
+        self.add("me", told(lambda hub, given: [shown_json(asdict(hub.me()))]), "who the hub says you are")
         self.add("groups", told(lambda hub, given: [shown(json.dumps(asdict(each), ensure_ascii=False)) for each in hub.groups()]),
                  "the sharing groups of your organisation")
-        self.add("list", listed(lambda hub, given, after: hub.incidents(after)), "the incidents that show you something")
-        self.add("addressed", listed(lambda hub, given, after: hub.addressed(after)), "those that address you or your organisation")
-        self.add("show", do_show, "the excerpt of an incident; what is withheld is on standard error", "number")
-        found = self.add("indicators", do_indicators, "what one blocks or looks for in an incident: kind, value, place and role", "number")
+        self.add("list", listed(lambda hub, given, after: hub.incidents(after)), "the incidents of which you may see something")
+        self.add("addressed", listed(lambda hub, given, after: hub.addressed(after)), "the incidents that address you or your organisation")
+        self.add("show", do_show, "what you may see of an incident; standard error lists what is withheld", "number")
+        found = self.add("indicators", do_indicators, "what to block or look for in an incident: kind, value, place and role", "number")
         found.add_argument("--all", action="store_true",
-                           help="also what stands neither below Indicator nor in a source, as the addresses of victims: look at the role")
+                           help="also what is neither below Indicator nor in a source, such as the addresses of victims: look at the role")
         self.add("find", listed(lambda hub, given, after: hub.search(given.needle, given.class_name, after)),
-                 "the incidents in which you may read a text, in a class of this name if one is given", "needle", "class_name?")
-        watch = self.add("watch", lambda hub, given, teller: None, "tells new incidents as they come")
-        watch.add_argument("--every", type=float, default=60, help="seconds between two looks (%(default)s)")
-        watch.add_argument("--from", dest="start", type=number, metavar="NUMBER", help="incidents above this number are new (0); of one hub alone")
-        watch.add_argument("--all", action="store_true", help="also new revisions, and what becomes visible: a whole list each time")
-        watch.add_argument("--rounds", type=number, default=0, help="how often to look; 0 is for ever")
-        watch.add_argument("--exec", metavar="COMMAND", help="runs COMMAND NUMBER SOURCE for each, without a shell, and never with content or"
-                           " the key; if it fails, that incident and those behind it are tried again at the next look")
-        watch.add_argument("--state", metavar="FILE", help="keeps in FILE what was told; if it isn't there and --from isn't given, what stands at"
-                           " the hub now isn't new; of a second hub in FILE.2, and so on")
+                 "the incidents in which you may read this text, in a class of this name if one is given", "needle", "class_name?")
+        watch = self.add("watch", lambda hub, given, teller: None, "prints new incidents as they arrive")
+        watch.add_argument("--every", type=float, default=60, help="seconds between two looks at the hub (default: %(default)s)")
+        watch.add_argument("--from", dest="start", type=number, metavar="NUMBER", help="incidents above this number are new (default: 0); for one hub only")
+        watch.add_argument("--all", action="store_true", help="also new revisions, and incidents that become visible; each look then reads the whole list")
+        watch.add_argument("--rounds", type=number, default=0, help="how often to look; 0 means for ever (default: %(default)s)")
+        watch.add_argument("--exec", metavar="COMMAND", help="run COMMAND NUMBER SOURCE for each, without a shell, and never with content or"
+                           " the key; if it fails, that incident and those after it are tried again at the next look")
+        watch.add_argument("--state", metavar="FILE", help="keep in FILE what was printed; if FILE doesn't exist and --from isn't given, what the"
+                           " hub has already isn't new; for a second hub FILE.2, and so on")
 
     def add_reports(self) -> None:
         post = self.add("post", told(lambda hub, given: [str(each) for each in hub.post(
-            read_file(given.file), given.level, given.group, given.gate, given.community)]), "posts a report; tells the numbers", "file", "level")
+            read_file(given.file), given.level, given.group, given.gate, given.community)]), "posts a report and prints its numbers", "file", "level")
         add_spread(post)
-        exchange = self.add("replace", do_replace, "puts a new revision in place of the stored one, and says anew for whom it is",
+        exchange = self.add("replace", do_replace, "replaces the stored revision with a new one, and says again who may read it",
                             "number", "file", "level")
         gates = add_spread(exchange)
         gates.add_argument("--no-gates", action="store_true", help="no class has a gate of its own in the new revision")
@@ -1335,19 +1339,19 @@ class Words:
         add_revision(exchange)
         post_all = self.add("post-all", do_post_all, "posts the lines that iodef-hub-misp to-iodef writes", "file")
         add_communities(post_all)
-        post_all.add_argument("--replace", action="store_true", help="puts a new revision in place of a report that was posted before")
+        post_all.add_argument("--replace", action="store_true", help="replace a report that was posted before with a new revision")
         add_dropping(post_all, False)
-        preview = self.commands.add_parser("preview", help="what a reader would get of a report, before it is posted; asks no hub",
-                                           description="What a reader would get of a report, before it is posted. Asks no hub.")
+        preview = self.commands.add_parser("preview", help="shows what a reader would get of a report, before it is posted; needs no hub",
+                                           description="Shows what a reader would get of a report, before it is posted. Needs no hub.")
         preview.add_argument("file", metavar="FILE", help=HELPS["file"])
         preview.add_argument("level", type=number, metavar="LEVEL", help=HELPS["level"])
         add_spread(preview)
         preview.add_argument("--for", dest="reader", required=True, metavar="READER", help="stranger: of an organisation that shares no community"
                              " with yours; partner: of one that does; addressed: a nominated person of a partner that is a recipient; or a"
-                             " file with a JSON object, as {\"who\":4,\"org\":2,\"peer\":true}")
+                             " file with a JSON object, such as {\"who\":4,\"org\":2,\"peer\":true}")
         preview.add_argument("--in-group", type=number, action="append", default=[], metavar="N", help="the reader's organisation is a member of this group")
-        preview.add_argument("--incident", type=number, default=0, metavar="K", help="the place of the Incident in the report, from 0 (%(default)s)")
-        preview.add_argument("--engine", default="iodef-redact", metavar="PROGRAM", help="the program that redacts (%(default)s)")
+        preview.add_argument("--incident", type=number, default=0, metavar="K", help="the place of the Incident in the report, from 0 (default: %(default)s)")
+        preview.add_argument("--engine", default="iodef-redact", metavar="PROGRAM", help="the program that redacts (default: %(default)s)")
 
     def add_sharing(self) -> None:
         redistribute = self.add("redistribute", done(lambda hub, given: hub.redistribute(
@@ -1358,77 +1362,77 @@ class Words:
         self.add("address", done(lambda hub, given: hub.address(given.number, given.recipient, given.target)),
                  "adds a recipient", "number", "recipient", "target")
         self.add("unaddress", done(lambda hub, given: hub.unaddress(given.number, given.recipient, given.target)),
-                 "takes a recipient out", "number", "recipient", "target")
+                 "removes a recipient", "number", "recipient", "target")
         grant = self.add("grant", do_grant, "permits somebody to see a class", "number", "path", "grantee", "target")
         grant.add_argument("--until", type=moment, metavar="MOMENT",
-                           help="when it ends: 2026-12-31, as that day begins, or 2026-12-31T18:00; of this machine's time zone, unless an"
-                           " offset as +01:00 or Z follows the time")
+                           help="when it ends: 2026-12-31 (the beginning of that day) or 2026-12-31T18:00, in this machine's time zone, unless"
+                           " an offset such as +01:00 or Z follows the time")
         add_revision(grant)
         self.add("withdraw", done(lambda hub, given: hub.withdraw(given.number, given.path, given.grantee, given.target)),
-                 "takes a permission back", "number", "path", "grantee", "target")
+                 "removes a permission", "number", "path", "grantee", "target")
 
     def add_circle(self) -> None:
         self.add("why", told(lambda hub, given: [shown(each) for each in hub.explain(given.person, given.number, given.path).splitlines()]),
                  "why a person sees a class of an incident, or doesn't", "person", "number", "path")
         self.add("add-org", told(lambda hub, given: [str(hub.add_org(given.name))]), "adds an organisation", "name")
         self.add("client", done(lambda hub, given: hub.add_client(given.org, given.client)), "makes CLIENT a client of ORG", "org", "client")
-        self.add("unclient", done(lambda hub, given: hub.remove_client(given.org, given.client)), "takes a client out", "org", "client")
-        person = self.add("add-person", do_add_person, "adds a person with a new key, which is told this once", "org", "name", "role")
-        person.add_argument("--key-file", help="the new key is written into this file, which must not be there")
-        person.add_argument("--digest", help="the SHA-256 of a key that the person has made, in place of a new one")
-        self.add("suspend", done(lambda hub, given: hub.suspend(given.person)), "serves a person no more, for good", "person")
+        self.add("unclient", done(lambda hub, given: hub.remove_client(given.org, given.client)), "removes CLIENT as a client of ORG", "org", "client")
+        person = self.add("add-person", do_add_person, "adds a person with a new key, which is shown only once", "org", "name", "role")
+        person.add_argument("--key-file", help="write the new key into this file, which must not exist")
+        person.add_argument("--digest", help="the SHA-256 of a key that the person has made, instead of a new one")
+        self.add("suspend", done(lambda hub, given: hub.suspend(given.person)), "suspends a person for ever: the hub refuses the key", "person")
         self.add("add-community", told(lambda hub, given: [str(hub.add_community(given.name))]), "adds a community", "name")
         self.add("join", done(lambda hub, given: hub.join(given.community, given.org)), "puts an organisation into a community", "community", "org")
-        self.add("leave", done(lambda hub, given: hub.leave(given.community, given.org)), "takes an organisation out of a community", "community", "org")
+        self.add("leave", done(lambda hub, given: hub.leave(given.community, given.org)), "removes an organisation from a community", "community", "org")
         self.add("link", done(lambda hub, given: hub.link(given.community, given.other)), "connects two communities", "community", "other")
-        self.add("unlink", done(lambda hub, given: hub.unlink(given.community, given.other)), "ends a connection", "community", "other")
+        self.add("unlink", done(lambda hub, given: hub.unlink(given.community, given.other)), "ends the connection of two communities", "community", "other")
 
     def add_groups(self) -> None:
         self.add("nominate", done(lambda hub, given: hub.nominate(given.person)), "lets a person receive what is for your organisation", "person")
         self.add("unnominate", done(lambda hub, given: hub.unnominate(given.person)), "ends a nomination", "person")
         self.add("new-group", told(lambda hub, given: [str(hub.new_group(given.name, given.releasability or ""))]),
-                 "founds a sharing group of your organisation", "name", "releasability?")
+                 "creates a sharing group of your organisation", "name", "releasability?")
         group_add = self.add("group-add", done(lambda hub, given: hub.group_add(given.group_number, given.org, given.extend)),
                              "puts an organisation into a group", "group_number", "org")
         group_add.add_argument("--extend", action="store_true", help="the new member may add others")
         self.add("group-remove", done(lambda hub, given: hub.group_remove(given.group_number, given.org)),
-                 "takes an organisation out of a group", "group_number", "org")
+                 "removes an organisation from a group", "group_number", "org")
         self.add("group-active", done(lambda hub, given: hub.group_active(given.group_number, given.state == "on")),
                  "switches a group on or off", "group_number", "state")
         self.add("arrange", done(lambda hub, given: hub.arrange(given.org, given.handling)),
-                 "says what your label `default` means to another organisation", "org", "handling")
+                 "sets what your label `default` means to another organisation", "org", "handling")
         self.add("cancel-arrange", done(lambda hub, given: hub.cancel_arrange(given.org)), "ends an arrangement", "org")
 
 
 def add_revision(made: argparse.ArgumentParser) -> None:
-    made.add_argument("--revision", type=number, help="the revision that you have seen; else the present one is asked for")
+    made.add_argument("--revision", type=number, help="the revision that you have seen (default: the hub is asked for the current one)")
 
 
 def add_communities(made: argparse.ArgumentParser) -> None:
     either = made.add_mutually_exclusive_group()
-    either.add_argument("--community", type=number, metavar="N", help="what is marked green is for the members of this one of your communities alone")
+    either.add_argument("--community", type=number, metavar="N", help="what is marked green is for the members of this one of your communities only")
     either.add_argument("--any-community", action="store_true", help="what is marked green is for the members of any of your communities")
 
 
 def add_spread(made: argparse.ArgumentParser) -> Any:
-    """The words that say for whom a report is. Returns the group of those of which only one kind may be given for its gates."""
+    """Adds the words that say who may read a report. Returns the group of those for gates, of which only one kind may be given."""
     add_communities(made)
     made.add_argument("--group", type=number, metavar="N", help="the sharing group of level 4")
     gates = made.add_mutually_exclusive_group()
     gates.add_argument("--gate", type=gate, action="append", default=[], metavar="LEVEL:GROUP:POINTER",
-                       help="a class has a level of its own; GROUP is 0 but at level 4")
+                       help="give a class a level of its own; GROUP is 0 except at level 4")
     return gates
 
 
 def add_dropping(made: argparse.ArgumentParser, is_wanted: bool) -> None:
-    wanted = "wanted" if is_wanted else "wanted with --replace"
-    made.add_argument("--drop-permissions", action="store_true", help=f"{wanted}: a new revision takes out all permissions of the stored one")
+    wanted = "required" if is_wanted else "required with --replace"
+    made.add_argument("--drop-permissions", action="store_true", help=f"{wanted}: a new revision removes all permissions of the stored one")
 
 
 def told_of(fault: Exception) -> str:
-    """What standard error is told of a fault, with what helps if the hub doesn't say it."""
+    """The text of a fault for standard error, with advice if the hub gives none."""
     is_number = isinstance(fault, Refused) and fault.detail.split(" ")[0] == "NotWhole"
-    return shown(str(fault)) + (": write a whole number of at most 64 bits, as 1000 in place of 1000.0, or a text" if is_number else "")
+    return shown(str(fault)) + (": write a whole number of at most 64 bits, such as 1000 instead of 1000.0, or a string" if is_number else "")
 
 
 def status_of(fault: Exception) -> int:
@@ -1453,24 +1457,24 @@ def run_one(words: Words, given: argparse.Namespace, hub: Hub, teller: Teller) -
 def run_at_incident(words: Words, given: argparse.Namespace, hubs: Hubs) -> None:
     """Runs a command at the hub that its incident's number names."""
     if not given.number.hub and len(hubs.all) > 1:
-        raise Usage(f"which hub's incident {given.number.number} is meant? There are {len(hubs.all)}: say HUB/NUMBER, as 2/{given.number.number}")
+        raise Usage(f"which hub's incident {given.number.number} do you mean? There are {len(hubs.all)} hubs: give HUB/NUMBER, such as 2/{given.number.number}")
     hub = hubs.at(given.number.hub or 1)
     given.number = given.number.number
     run_one(words, given, hub, Teller(hub, given.json))
 
 
 def run_at_newest(words: Words, given: argparse.Namespace, hubs: Hubs) -> None:
-    """Posts at the newest hub. It can't know what an older one has, so a replacement wants its hub named."""
+    """Posts at the newest hub. It can't know what an older one has, so for a replacement the hub must be named."""
     at = len(hubs.all)
     if given.command == "post-all" and given.replace and at > 1:
-        raise Usage("post-all --replace wants one hub: an older hub's report would be posted a second time; name its hub alone by --url")
+        raise Usage("post-all --replace needs one hub: an older hub's report would be posted a second time; name only its hub with --url")
     teller = Teller(hubs.newest, given.json, at, f"{at}/") if at > 1 else Teller(hubs.newest, given.json)
     run_one(words, given, hubs.newest, teller)
 
 
 def run_at_each(words: Words, given: argparse.Namespace, hubs: Hubs) -> int:
-    """Runs a command at each hub in turn, and returns the first status that isn't 0. One hub's fault doesn't keep the others from
-    being asked; but where numbers are given a fault ends it, as they have to be the same in all, unless a hub has it already."""
+    """Runs a command at each hub in turn, and returns the first status that isn't 0. The others are asked even if one hub fails. But
+    if the command gets a number, a fault ends it, as the numbers must be the same in all hubs, unless that hub has it already."""
     numbers: dict[int, str] = {}
     status = 0
     for at, hub in enumerate(hubs.all, 1):
@@ -1483,16 +1487,16 @@ def run_at_each(words: Words, given: argparse.Namespace, hubs: Hubs) -> int:
             status = status or status_of(fault)
             if given.command in NUMBERING and fault.code != "S1":
                 if numbers and given.command == "add-person":
-                    print(f"iodef-hub-ask: for the hubs that lack it run this again with --digest {given.digest}", file=sys.stderr)
+                    print(f"iodef-hub-ask: for the hubs that lack the person, run this again with --digest {given.digest}", file=sys.stderr)
                 return status
     if given.command in NUMBERING and len(set(numbers.values())) > 1:
-        print("iodef-hub-ask: the hubs gave different numbers, so what is said by number isn't the same in each", file=sys.stderr)
+        print("iodef-hub-ask: the hubs gave different numbers, so a number doesn't mean the same at each hub", file=sys.stderr)
         status = status or 1
     return status
 
 
 def run(words: Words, given: argparse.Namespace, hubs: Hubs) -> int:
-    """Runs a command at the hubs that it is for, and returns the status."""
+    """Runs a command at the hubs that it concerns, and returns the status."""
     if given.command == "watch":
         do_watch(hubs, given)
     elif given.command in AT_INCIDENT:
@@ -1507,7 +1511,7 @@ def run(words: Words, given: argparse.Namespace, hubs: Hubs) -> int:
 
 
 def main() -> int:
-    """0 done, 1 refused, 2 usage, 3 not reached or no hub, 4 a change that may have been taken."""
+    """Returns 0 done, 1 refused, 2 usage, 3 not reached or not a hub, 4 a change that may have been taken."""
     words = Words()
     given = words.parser.parse_args()
     try:

@@ -1,11 +1,11 @@
 #!/usr/bin/env python3
-"""MISP events to IODEF reports for iodef-hub, and back: the library and the command iodef-hub-misp. Python 3.11's standard library alone.
+"""MISP events to IODEF reports for iodef-hub, and back: the library and the command iodef-hub-misp. Needs Python 3.11 only.
 
     iodef-hub-misp to-iodef --map MAP.json EVENT.json | iodef-hub-ask post-all -
     iodef-hub-ask --json show 1 | iodef-hub-misp to-misp --map MAP.json > event.json
 
-It talks to nobody. Where a choice is in doubt it takes the stricter one and says so on standard error; what doesn't fit is
-refused, with status 1. clients/README.md has the tables, and the form of the file that --map names.
+It opens no connection. If a choice is in doubt, it takes the stricter one and says so on standard error. It refuses what doesn't
+fit, with status 1. clients/README.md has the tables, and the form of the file that --map names.
 """
 from __future__ import annotations
 
@@ -107,7 +107,7 @@ OWN_MATTER = {
     "disable_correlation", "event_creator_email", "protected", "sighting_timestamp", "batch_import",
 }
 # What others are called where they are counted.
-CALLED = {"Galaxy": "galaxies but for their tags", "Sighting": "sightings", "RelatedEvent": "related events", "CryptographicKey": "cryptographic keys", "data": "files"}
+CALLED = {"Galaxy": "galaxies except for their tags", "Sighting": "sightings", "RelatedEvent": "related events", "CryptographicKey": "cryptographic keys", "data": "files"}
 # Members of a report that say nothing where they have such a value; labels become tags.
 USUAL = {
     "purpose": ("reporting",), "operator": ("or",), "system-status": ("unknown",), "domain-status": ("unknown",), "scope": ("file-contents",), "dtype": ("string",),
@@ -147,21 +147,21 @@ def say(text: str) -> None:
 def _members(pairs: list[tuple[str, Any]]) -> dict[str, Any]:
     members = dict(pairs)
     if len(members) != len(pairs):
-        raise Unfit("a member's name stands twice in one object")
+        raise Unfit("a member's name occurs twice in one object")
     return members
 
 
 def _constant(text: str) -> Any:
-    raise Unfit(f"{text} is no JSON")
+    raise Unfit(f"{text} is not JSON")
 
 
 def read_json(text: bytes) -> Any:
     if len(text) > LONGEST_INPUT:
-        raise Unfit(f"more than {LONGEST_INPUT} bytes")
+        raise Unfit(f"the input has more than {LONGEST_INPUT} bytes")
     try:
         return json.loads(text.decode(), object_pairs_hook=_members, parse_float=NoWhole, parse_constant=_constant)
     except (ValueError, RecursionError) as fault:
-        raise Unfit(f"that is no JSON: {fault}") from None
+        raise Unfit(f"the input is not JSON: {fault}") from None
 
 
 def text_of(value: dict[str, Any], name: str, where: str, default: str | None = None) -> str:
@@ -169,13 +169,13 @@ def text_of(value: dict[str, Any], name: str, where: str, default: str | None = 
     if isinstance(found, bool) or not isinstance(found, (str, int)):
         if found is None and default is not None:
             return default
-        what = "missing" if found is None else f"a float, {found.text}; write it as a text" if isinstance(found, NoWhole) else "no text"
+        what = "missing" if found is None else f"a float, {found.text}; write it as a string" if isinstance(found, NoWhole) else "not a string"
         raise Unfit(f"{where}: {name} is {what}")
     try:
         text = str(found)
         text.encode()
     except ValueError:
-        raise Unfit(f"{where}: {name} is no text that can be written") from None
+        raise Unfit(f"{where}: {name} can't be written as text") from None
     return text
 
 
@@ -193,21 +193,21 @@ def list_of(value: dict[str, Any], name: str, where: str) -> list[dict[str, Any]
     if found is None:
         return []
     if not isinstance(found, list) or not all(isinstance(each, dict) for each in found):
-        raise Unfit(f"{where}: {name} is no list of objects")
+        raise Unfit(f"{where}: {name} is not a list of objects")
     return found
 
 
 def uuid_of(value: dict[str, Any], name: str, where: str) -> str:
     text = text_of(value, name, where).lower()
     if not re.fullmatch(UUID, text):
-        raise Unfit(f"{where}: {name} is no UUID")
+        raise Unfit(f"{where}: {name} is not a UUID")
     return text
 
 
 def moment_of(text: str, where: str) -> str:
     """Seconds since 1970, as a date and time."""
     if not re.fullmatch(r"[0-9]{1,10}", text):
-        raise Unfit(f"{where} is no number of seconds")
+        raise Unfit(f"{where} is not a number of seconds")
     return datetime.datetime.fromtimestamp(int(text), datetime.timezone.utc).strftime("%Y-%m-%dT%H:%M:%SZ")
 
 
@@ -233,7 +233,7 @@ class Mapping:
     def read(text: bytes) -> Mapping:
         value = read_json(text)
         if not isinstance(value, dict) or set(value) - {"hub", "organisations", "groups"}:
-            raise Unfit('the mapping is {"hub": .., "organisations": [..], "groups": [..]}')
+            raise Unfit('the mapping must be {"hub": .., "organisations": [..], "groups": [..]}')
         hub = text_of(value, "hub", "the mapping")
         orgs, groups = [], {}
         for each in list_of(value, "organisations", "the mapping"):
@@ -243,17 +243,17 @@ class Mapping:
             where = "a group of the mapping"
             number, name = _number(each, where, {"number", "uuid"}), uuid_of(each, "uuid", where)
             if name in groups:
-                raise Unfit(f"{where}: {name} stands twice")
+                raise Unfit(f"{where}: {name} occurs twice")
             groups[name] = number
         if not hub or len({each.uuid for each in orgs}) < len(orgs) or len({each.number for each in orgs}) < len(orgs):
-            raise Unfit("the mapping: hub is empty, or an organisation's number or uuid stands twice")
+            raise Unfit("the mapping: hub is empty, or an organisation's number or uuid occurs twice")
         return Mapping(hub, tuple(orgs), groups)
 
 
 def _number(value: dict[str, Any], where: str, names: set[str]) -> int:
     number = value.get("number")
     if type(number) is not int or not 1 <= number <= LAST_NUMBER or set(value) != names:
-        raise Unfit(f"{where} has {', '.join(sorted(names))}, and a number is from 1 to {LAST_NUMBER}")
+        raise Unfit(f"{where} must have {', '.join(sorted(names))}, and a number from 1 to {LAST_NUMBER}")
     return number
 
 
@@ -262,7 +262,7 @@ def _number(value: dict[str, Any], where: str, names: set[str]) -> int:
 
 @dataclass(frozen=True)
 class Key:
-    """By what attributes are told apart: the gate (level and group) and the label that they have beside the event's."""
+    """How attributes are grouped: by the gate (level and group) and the label that they have besides the event's."""
 
     gate: tuple[int, int] | None
     label: str | None
@@ -334,7 +334,7 @@ def strictest(labels: Sequence[str]) -> str:
 
 
 def tlp_of(tag: str) -> str | None:
-    """The label that a tag is, if it is one of TLP. What looks like one and isn't known is red."""
+    """The label of a tag, if it is a TLP tag. One that looks like TLP and isn't known is red."""
     text = tag.strip().lower()
     if not re.match(r"tlp\s*[^0-9a-z\s]|tlp\s", unicodedata.normalize("NFKC", text).strip().lower() + " "):
         return None
@@ -344,7 +344,7 @@ def tlp_of(tag: str) -> str | None:
 
 @dataclass
 class Tags:
-    """The tags of an event or attribute: those of TLP, those that stay in the MISP where they stand, and others."""
+    """The tags of an event or attribute: TLP tags that are shared, TLP tags that are local, others, and how many others are local."""
 
     shared: list[str] = field(default_factory=list)
     local: list[str] = field(default_factory=list)
@@ -392,7 +392,7 @@ class Reader:
     def event(self, value: dict[str, Any]) -> Event:
         where = "Event"
         if not flag_of(value, "published", where) and not self.choices.unpublished:
-            raise Unfit("Event isn't published (--unpublished takes it)")
+            raise Unfit("Event isn't published (--unpublished accepts it)")
         self._look_whole(value)
         self._note_groups(value)
         level, group = self._event_distribution(value)
@@ -413,7 +413,7 @@ class Reader:
         for name, what in (("ShadowAttribute", "proposals"), ("EventReport", "event reports")):
             self.left_out[what] += len(list_of(value, name, where))
         if text_of(value, "extends_uuid", where, ""):
-            self.left_out["which event this one extends"] += 1
+            self.left_out["references to the event that this one extends"] += 1
         self._count_others(value, EVENT_READ, "events")
         if any(self.noted.values()):
             say("noted: " + counted(self.noted))
@@ -444,13 +444,13 @@ class Reader:
                 waiting += each
 
     def _look_whole(self, value: dict[str, Any]) -> None:
-        """Fails with an event of an index, which has the number of its attributes in place of them."""
+        """Refuses an event of an index, which has the number of its attributes instead of them."""
         count = text_of(value, "attribute_count", "Event", "0")
         if count not in ("", "0") and "Attribute" not in value and "Object" not in value:
-            raise Unfit(f"Event has {count} attributes by its attribute_count, and none is in it; export the event")
+            raise Unfit(f"Event has {count} attributes by its attribute_count, but contains none; export the event")
 
     def _count_others(self, value: dict[str, Any], read: set[str], of: str) -> None:
-        """What is neither read nor a matter of that MISP alone."""
+        """Counts what is neither read nor of use to that MISP alone."""
         for name, found in value.items():
             if name not in read and name not in OWN_MATTER and not name.startswith("_") and found not in (None, "", "0", 0, [], {}):
                 what = CALLED.get(name) or (name if of == "attributes" else f"{name} of {of}")
@@ -466,12 +466,12 @@ class Reader:
         chosen = self.choices.distribution
         if value.get("distribution") is not None:
             if chosen is not None:
-                say("Event has a distribution of its own, which holds in place of --distribution")
+                say("Event has its own distribution, which is used instead of --distribution")
             return self._distribution(value, "Event", 4)
         if names_group(value, "Event"):
             raise Unfit("Event: distribution is missing, and a sharing group is named; write 4 if it is for that group")
         if chosen is None:
-            raise Unfit("Event: distribution is missing (--distribution NUMBER says it)")
+            raise Unfit("Event: distribution is missing (--distribution NUMBER sets it)")
         return chosen, None
 
     def _distribution(self, value: dict[str, Any], where: str, most: int) -> tuple[int, int | None]:
@@ -483,16 +483,16 @@ class Reader:
         number = text_of(value, "sharing_group_id", where, "0")
         own = value.get("SharingGroup")
         if isinstance(own, dict) and text_of(own, "id", where, number) != number and number != "0":
-            raise Unfit(f"{where}: sharing_group_id and SharingGroup name two groups")
+            raise Unfit(f"{where}: sharing_group_id and SharingGroup name different groups")
         name = uuid_of(own, "uuid", f"{where}: SharingGroup") if isinstance(own, dict) and own else self.group_uuids.get(number)
         if name is None:
-            raise Unfit(f"{where}: the UUID of the sharing group {number} isn't told")
+            raise Unfit(f"{where}: the UUID of the sharing group {number} is missing")
         if name not in self.mapping.groups:
             raise Unfit(f"{where}: the sharing group {name} has no entry in the mapping")
         return 4, self.mapping.groups[name]
 
     def _gate(self, value: dict[str, Any], where: str) -> tuple[int, int] | None:
-        """The gate of a distribution below an event's: none where it inherits, as without one, or lets everybody pass."""
+        """The gate of a distribution below an event's: none if it inherits, as a missing one does, or lets everybody pass."""
         if value.get("distribution") is None:
             if names_group(value, where):
                 raise Unfit(f"{where}: distribution is missing, and a sharing group is named; write 4 if it is for that group")
@@ -513,14 +513,14 @@ class Reader:
         self.left_out["proposals"] += len(list_of(value, "ShadowAttribute", where))
         kind = text_of(value, "type", where)
         if not re.fullmatch(KIND, kind):
-            raise Unfit(f"{where}: type is none of MISP's")
+            raise Unfit(f"{where}: type is not one of MISP's")
         if kind in WITHOUT_DATA:
             self.left_out[f"files of type {kind}, whose names and hashes are of type {WITHOUT_DATA[kind]}"] += 1
         self._count_others(value, ATTRIBUTE_READ | ({"data"} if kind in WITHOUT_DATA else set()), "attributes")
         kind = WITHOUT_DATA.get(kind, kind)
         text = text_of(value, "value", where)
         if kind in PARTS and class_of(kind, text) is None:
-            self.noted["values that aren't of their type's form"] += 1
+            self.noted["values that don't have the form of their type"] += 1
         return Attribute(
             kind, text, text_of(value, "category", where, DEFAULT_CATEGORY.get(kind, "Other")), flag_of(value, "to_ids", where),
             text_of(value, "comment", where, ""), tuple(tags.others), text_of(value, "first_seen", where, ""), text_of(value, "last_seen", where, ""),
@@ -547,13 +547,13 @@ def _date(text: str) -> str:
     try:
         return text and datetime.date.fromisoformat(text).isoformat()
     except ValueError:
-        raise Unfit("Event: date is no day") from None
+        raise Unfit("Event: date is not a date") from None
 
 
 def _one_of(value: dict[str, Any], name: str, known: str, default: str) -> str:
     text = text_of(value, name, "Event", default)
     if len(text) != 1 or text not in known:
-        raise Unfit(f"Event: {name} is none of {', '.join(known)}")
+        raise Unfit(f"Event: {name} is not one of {', '.join(known)}")
     return text
 
 
@@ -561,7 +561,7 @@ def _one_of(value: dict[str, Any], name: str, known: str, default: str) -> str:
 
 
 def address_of(kind: str, value: str) -> str | None:
-    """The category of an address of this type, None where the value is none."""
+    """The category of an address of this type, None if the value isn't one."""
     if kind.startswith("ip-"):
         try:
             ipaddress.ip_interface(value)
@@ -594,7 +594,7 @@ def _file(name: str | None, kind: str, digest: str | None) -> dict[str, Any] | N
 
 
 def class_of(kind: str, value: str) -> tuple[str, dict[str, Any]] | None:
-    """The class that a value of this type is, with its name; None where there is none or the value isn't of its form."""
+    """The class for a value of this type, with its name; None if there is none or the value doesn't have its form."""
     made: dict[str, Any] | None = None
     name = "System"
     if kind in PARTS and PARTS[kind] == ("Address",):
@@ -638,7 +638,7 @@ def class_of(kind: str, value: str) -> tuple[str, dict[str, Any]] | None:
 
 
 def bulk_of(kind: str, value: str) -> str | None:
-    """The type of the bulk list in which a value of this type stands, None where it stands in none."""
+    """The type of the bulk list for a value of this type, None if there is none."""
     if kind not in BULK or kind in PARTS and class_of(kind, value) is None:
         return None
     return BULK[kind] or address_of(kind, value)
@@ -649,7 +649,7 @@ def extra(name: str, value: str) -> dict[str, Any]:
 
 
 def extras_of(attribute: Attribute) -> list[dict[str, Any]]:
-    """What of an attribute has no class of its own."""
+    """The details of an attribute that have no class of their own."""
     made = [extra("misp-type", attribute.type)]
     if attribute.category != DEFAULT_CATEGORY.get(attribute.type):
         made.append(extra("misp-category", attribute.category))
@@ -749,7 +749,7 @@ def is_indicator(item: Item) -> bool:
 
 @dataclass(frozen=True)
 class Report:
-    """A document with its way of posting."""
+    """A document and how to post it."""
 
     document: dict[str, Any]
     level: int
@@ -758,7 +758,7 @@ class Report:
     source: int
 
     def line(self, community: int | None = None) -> str:
-        """The line for `post-all`; what is green in the report is for one community, if one is named."""
+        """The line for `post-all`; what is green in the report is for this community, if one is named."""
         named = {} if community is None else {"community": community}
         return compact({**named, "document": self.document, "gates": self.gates, "group": self.group, "level": self.level, "source": self.source})
 
@@ -779,7 +779,7 @@ def settled(value: Any, path: str, gates: list[str]) -> Any:
 
 
 def lines_of(value: dict[str, Any]) -> int:
-    """How many lines a document has as the hub counts them: one for each member, and for each element of an array."""
+    """How many lines a document has, as the hub counts them: one for each member, and one for each element of an array."""
     count = 0
     for each in value.values():
         elements = each if isinstance(each, list) and each else [each]
@@ -819,16 +819,17 @@ def misfit_of(report: Report) -> str | None:
     """Why the hub would refuse a report, if it would."""
     size = len(compact(report.document).encode())
     if size > MOST_BYTES:
-        return f"the report has {size} bytes, at most {MOST_BYTES} are taken (--split makes several reports)"
+        return f"the report has {size} bytes, but the hub accepts at most {MOST_BYTES} (--split makes several reports)"
     if (count := lines_of(report.document)) > MOST_LINES:
-        return f"the report has {count} lines, at most {MOST_LINES} are taken (--split makes several reports)"
+        return f"the report has {count} lines, but the hub accepts at most {MOST_LINES} (--split makes several reports)"
     if len(report.gates) > MOST_GATES:
-        return f"the report has {len(report.gates)} gates, at most {MOST_GATES} are taken (--stricter takes fewer and narrower ones, --split makes several reports)"
+        return (f"the report has {len(report.gates)} gates, but the hub accepts at most {MOST_GATES}"
+                " (--stricter uses fewer and narrower ones, --split makes several reports)")
     return None
 
 
 def met(one: tuple[int, int] | None, other: tuple[int, int] | None) -> tuple[int, int] | None:
-    """A gate that lets nobody pass whom one of both refuses."""
+    """A gate that lets nobody pass whom either of the two refuses."""
     if one is None or other is None or one == other:
         return one or other
     return min(one, other) if one[0] < 4 and other[0] < 4 else (0, 0)
@@ -884,7 +885,7 @@ def reports_of(event: Event, choices: Choices) -> list[Report]:
             half = len(parts[place]) // 2
             parts[place : place + 1] = [parts[place][:half], parts[place][half:]]
         else:
-            raise Unfit(f"one attribute or object alone is too much: {misfit}")
+            raise Unfit(f"one attribute or object alone is too large: {misfit}")
     say(f"split into {len(parts)} reports")
     return [built(event, part, number + 1) for number, part in enumerate(parts)]
 
@@ -893,12 +894,12 @@ def events_of(value: Any) -> Iterator[dict[str, Any]]:
     """The events of an answer, an export or a feed of MISP; without `Event` around them, they are as PyMISP writes them."""
     found = value.get("response", value) if isinstance(value, dict) else value
     if isinstance(found, dict) and found and all(re.fullmatch(UUID, name.lower()) for name in found):
-        raise Unfit("that is the manifest of a feed, which has no attributes: the feed's folder is wanted, or its files UUID.json")
+        raise Unfit("that is the manifest of a feed, which has no attributes: give the feed's folder, or one of its files UUID.json")
     for each in found if isinstance(found, list) else [found]:
         is_bare = isinstance(each, dict) and "uuid" in each and "info" in each
         event = each.get("Event", each if is_bare else None) if isinstance(each, dict) else None
         if not isinstance(event, dict):
-            raise Unfit('{"Event": {..}} is wanted, or the object inside it, or a list of such')
+            raise Unfit('the input must be {"Event": {..}}, the object inside it, or a list of these')
         yield event
 
 
@@ -917,7 +918,7 @@ def feed_to_iodef(folder: pathlib.Path, mapping: Mapping, choices: Choices) -> l
     """The reports of each event that the manifest of a feed names."""
     manifest = read_json(read_file(str(folder / "manifest.json")))
     if not isinstance(manifest, dict) or not all(re.fullmatch(UUID, name.lower()) for name in manifest):
-        raise Unfit("manifest.json has members that are no UUIDs")
+        raise Unfit("manifest.json has members that are not UUIDs")
     made: list[Report] = []
     for name in manifest:
         try:
@@ -954,7 +955,7 @@ class Taken:
         return 0 if is_usual else max(elements_of(found) - self.counts[id(value), name], 0)
 
     def left_out(self, value: dict[str, Any], name: str) -> tuple[bool, Counter[str]]:
-        """Whether something of a class is taken; and what isn't: the class as one if nothing is, else what in it isn't. A bare frame has nothing."""
+        """Whether anything of a class is taken; and what isn't: the class as one if nothing is, else what in it isn't. A bare frame has nothing."""
         is_taken = id(value) in self.opened or any(self.counts[id(value), member] for member in value)
         left: Counter[str] = Counter()
         for member in value:
@@ -967,7 +968,7 @@ class Taken:
 
 
 def elements_of(value: object) -> int:
-    """How many values a member has that are no classes."""
+    """How many values a member has that aren't classes."""
     return sum(not isinstance(each, dict) for each in (value if isinstance(value, list) else [value]))
 
 
@@ -983,7 +984,7 @@ class Wording:
 
 @dataclass
 class Parts:
-    """The first of each kind of value that stands in an attribute's classes, with the member that holds it and what tells its kind."""
+    """The first value of each kind in an attribute's classes, with the member that holds it and those that say its kind."""
 
     found: dict[str, str] = field(default_factory=dict)
     holders: dict[str, tuple[dict[str, Any], str, tuple[str, ...]]] = field(default_factory=dict)
@@ -995,7 +996,7 @@ class Parts:
             self.found[name], self.holders[name] = value, (holder, member, beside)
 
     def take(self, names: Sequence[str], taken: Taken) -> str:
-        """The value that is made of these."""
+        """The value that these parts make."""
         for name in names:
             holder, member, beside = self.holders[name]
             taken.one_of(holder, member)
@@ -1038,7 +1039,7 @@ def wordings_of(value: dict[str, Any], name: str, language: str) -> list[Wording
 
 
 def main_language(tag: object) -> str:
-    """`de` of `de-AT`, nothing of what is no text."""
+    """`de` for `de-AT`, and empty if the tag isn't a text."""
     return tag.lower().partition("-")[0] if isinstance(tag, str) else ""
 
 
@@ -1060,7 +1061,7 @@ def first(values: dict[str, list[str]], name: str, default: str = "") -> str:
 
 @dataclass
 class Found:
-    """An attribute of the event to be."""
+    """An attribute of the event that is made."""
 
     type: str
     value: str
@@ -1100,7 +1101,7 @@ class Context:
 
 
 class Writer:
-    """Reads what is served of one report, and makes an event of it."""
+    """Reads what the hub serves of one report, and makes an event of it."""
 
     def __init__(self, language: str) -> None:
         self.language = language
@@ -1165,7 +1166,7 @@ class Writer:
                     self.read(each, name, context)
 
     def _told(self, value: dict[str, Any], extras: dict[str, list[str]], context: Context) -> Found | None:
-        """The attribute of a class that tells its type, if what it holds is of that type."""
+        """The attribute of a class that names its type, if what the class holds is of that type."""
         kind = first(extras, "misp-type")
         parts, below, systems = self._parts(value)
         told = parts.found
@@ -1186,13 +1187,13 @@ class Writer:
         for each in systems if kind.startswith("ip-") else ():
             self.taken.all_of(each, "category")
         if kind in PARTS and class_of(kind, text) is None or not re.fullmatch(KIND, kind):
-            self.noted["values that aren't of their type's form, so they are texts"] += 1
+            self.noted["values that don't have the form of their type, so they are texts"] += 1
             kind, context = "text", replace(context, to_ids=False)
         comment = first(extras, "misp-comment") or next((self.take(each) for each in self.wordings(value, "Description")), "")
         return self._found(kind, text, extras, replace(context, label=strictest([context.label, *below])), comment)
 
     def _parts(self, value: dict[str, Any]) -> tuple[Parts, list[str], list[dict[str, Any]]]:
-        """What stands in a class that tells its type: its parts, the labels, and the Systems of a source or a target."""
+        """What is in a class that names its type: its parts, the labels, and the Systems of a source or a target."""
         parts = Parts()
         labels: list[str] = []
         systems: list[dict[str, Any]] = []
@@ -1242,7 +1243,7 @@ class Writer:
                 self._add(TYPE_OF.get(form) if isinstance(form, str) else None, text, context)
 
     def _add(self, kind: str | None, text: str, context: Context) -> None:
-        """A value whose type is told by its place alone; of another form it is a text."""
+        """Adds a value whose type follows from its place alone; if its form is another, it is a text."""
         if kind == "ip-dst" and context.system.get("category") in ("source", "target"):
             self.taken.all_of(context.system, "category")
             kind = "ip-src" if context.system["category"] == "source" else kind
@@ -1251,7 +1252,7 @@ class Writer:
         context.hold.append(self._found(kind, text, {}, context if kind != "text" else replace(context, to_ids=False)))
 
     def _plain(self, value: dict[str, Any], name: str, context: Context) -> None:
-        """What a class of a report by any other hand says directly."""
+        """Reads what a class says directly, in a report from another program."""
         if name == "Address" and isinstance(value.get("value"), str):
             category = value.get("category")
             self.taken.all_of(value, "value", "category")
@@ -1300,14 +1301,14 @@ def operands_in(value: dict[str, Any]) -> int:
 
 
 def to_misp(text: bytes, mapping: Mapping, sharing_group: int | None = None) -> dict[str, Any]:
-    """The event of what `iodef-hub-ask --json show` tells."""
+    """The event for what `iodef-hub-ask --json show` prints."""
     view = read_json(text)
     if not isinstance(view, dict) or not isinstance(view.get("document"), dict) or type(view.get("source")) is not int or type(view.get("number")) is not int:
-        raise Unfit("the hub's answer for one incident is wanted: document, number, source")
+        raise Unfit("the input must be the hub's answer for one incident, with document, number and source")
     document = view["document"]
     incidents = inner_of(document, "Incident")
     if len(incidents) != 1:
-        raise Unfit("the document has one Incident")
+        raise Unfit("the document must have one Incident")
     incident = incidents[0]
     org = next((each for each in mapping.orgs if each.number == view["source"]), None)
     if org is None:
@@ -1330,7 +1331,7 @@ def to_misp(text: bytes, mapping: Mapping, sharing_group: int | None = None) -> 
         event |= {"distribution": "4", "sharing_group_id": str(sharing_group)}
     withheld = view.get("withheld")
     if isinstance(withheld, list) and withheld:
-        say(f"in {len(withheld)} places something is withheld from you")
+        say(f"something is withheld from you in {len(withheld)} places")
     if writer.noted:
         say("noted: " + counted(writer.noted))
     left_out = writer.left_out + writer.taken.left_out(document, "document")[1]
@@ -1346,7 +1347,7 @@ def _event_uuid(incident: dict[str, Any], source: str, number: int, taken: Taken
         name = json.dumps([ident["name"], ident["id"]], separators=(",", ":"), ensure_ascii=False)
     else:
         name = str(number)
-        say("the IncidentID is withheld, so the event's UUID is made of the hub's number")
+        say("the IncidentID is withheld, so the event's UUID is made from the hub's number")
     return uuid.uuid5(uuid.NAMESPACE_URL, f"{source}/{name}")
 
 
@@ -1360,7 +1361,7 @@ def _event(incident: dict[str, Any], event_uuid: uuid.UUID, own: str | None, wri
     shown = [each.label for each in [*writer.attributes, *(one for thing in things for one in thing.attributes)]]
     label = own or strictest([*shown, *(each.label or "red" for each in infos[:1])] or ["red"])
     if own is None:
-        say(f"the Incident's own label is withheld, so the event is tagged as its strictest attribute, tlp:{label}")
+        say(f"the Incident's own label is withheld, so the event is tagged like its strictest attribute, tlp:{label}")
     event: dict[str, Any] = {
         "uuid": str(event_uuid), "info": info,
         "threat_level_id": _known(first(extras, "misp-threat-level"), "1234", "4"), "analysis": _known(first(extras, "misp-analysis"), "012", "0"),
@@ -1426,7 +1427,7 @@ def _stamp(text: object) -> str | None:
 
 
 def once(attributes: Sequence[Found], writer: Writer) -> list[Found]:
-    """Each type, value, category and relation once, as MISP wants it, with the strictest label of those alike."""
+    """Each type, value, category and relation once, as MISP requires, with the strictest label of those alike."""
     kept: dict[tuple[str, ...], Found] = {}
     for each in attributes:
         if len(each.value.encode(errors="replace")) > LONGEST_VALUE or not each.value:
@@ -1460,7 +1461,7 @@ def read_file(name: str) -> bytes:
 
 def number(text: str) -> int:
     if not re.fullmatch(r"[1-9][0-9]{0,9}", text):
-        raise argparse.ArgumentTypeError("a number from 1 on is wanted")
+        raise argparse.ArgumentTypeError("it must be a whole number of at least 1")
     return int(text)
 
 
@@ -1468,16 +1469,18 @@ def words() -> argparse.ArgumentParser:
     parser = argparse.ArgumentParser(prog="iodef-hub-misp", description="MISP events to IODEF reports for iodef-hub, and back.")
     ways = parser.add_subparsers(dest="way", required=True, metavar="to-iodef|to-misp")
     there = ways.add_parser("to-iodef", help="lines for iodef-hub-ask post-all, one for each report")
-    there.add_argument("--untagged", choices=ORDER, default="red", help="what an event without a TLP tag is (%(default)s)")
-    there.add_argument("--own-tags", action="store_true", help="an attribute's own TLP tag holds where it is wider than the event's; else the stricter of both holds")
-    there.add_argument("--stricter", action="store_true", help="where more than 16 gates are wanted, some attributes are for the source alone")
-    there.add_argument("--split", action="store_true", help="what is too large for one report, or has too many gates, becomes several")
-    there.add_argument("--unpublished", action="store_true", help="takes an event that isn't published")
+    there.add_argument("--untagged", choices=ORDER, default="red", help="the TLP label of an event without a TLP tag (default: %(default)s)")
+    there.add_argument("--own-tags", action="store_true",
+                       help="an attribute's own TLP tag applies even if it is wider than the event's (default: the stricter of the two applies)")
+    there.add_argument("--stricter", action="store_true", help="if more than 16 gates are needed, some attributes are for the source alone")
+    there.add_argument("--split", action="store_true", help="make several reports of an event that is too large for one or has too many gates")
+    there.add_argument("--unpublished", action="store_true", help="accept an event that isn't published")
     there.add_argument("--distribution", type=int, choices=range(4), metavar="NUMBER",
-                       help="MISP's distribution, 0 to 3, of an event that has none, as those of a feed; an event's own always holds")
-    there.add_argument("--community", type=number, metavar="NUMBER", help="the hub's community for which green is meant; else any community of the source")
-    back = ways.add_parser("to-misp", help="the event of what iodef-hub-ask --json show tells")
-    back.add_argument("--sharing-group", type=number, metavar="ID", help="the number in your MISP of the sharing group that gets the event; else your organisation only")
+                       help="MISP's distribution, 0 to 3, for an event that has none, such as those of a feed; an event's own always applies")
+    there.add_argument("--community", type=number, metavar="NUMBER", help="the hub's community that green is meant for (default: any community of the source)")
+    back = ways.add_parser("to-misp", help="the event for what iodef-hub-ask --json show prints")
+    back.add_argument("--sharing-group", type=number, metavar="ID",
+                      help="the number in your MISP of the sharing group that gets the event (default: your organisation only)")
     for each, what in ((there, "EVENT"), (back, "ANSWER")):
         each.add_argument("--map", required=True, metavar="FILE", help="organisations and sharing groups of MISP and of the hub")
         each.add_argument("file", nargs="?", default="-", metavar=what, help="a file, or standard input" + (", or the folder of a MISP feed" if each is there else ""))
@@ -1485,7 +1488,7 @@ def words() -> argparse.ArgumentParser:
 
 
 def main() -> int:
-    """0 done, 1 refused, 2 usage or a file that can't be read."""
+    """Returns 0 done, 1 refused, 2 usage or a file that can't be read."""
     given = words().parse_args()
     try:
         mapping = Mapping.read(read_file(given.map))
@@ -1502,7 +1505,7 @@ def main() -> int:
         say(f"refused: {fault}")
         return 1
     except (RecursionError, UnicodeError):
-        say("refused: too deep, or a text that can't be written")
+        say("refused: the input is nested too deeply, or has a text that can't be written")
         return 1
     except OSError as fault:
         say(str(fault))

@@ -7,13 +7,13 @@
 A report is an IODEF v2 document in JSON (RFC 7970 and RFC 8727), as bytes or str. `to` says for whom it is redacted:
 
 - the name of a handling (CLEAR, GREEN, AMBER, STRICT or RED): a reader with that clearance and nothing stricter;
-- a Reader, with a Case. What is left out of a Reader doesn't hold, and what is left out of a Case isn't granted;
+- a Reader, with a Case. What a Reader leaves out doesn't apply, and what a Case leaves out isn't granted;
 - a View: a view description as its JSON text.
 
 A call that has no answer raises the Fault of that name. A call lets other threads run, and calls may run in parallel. In the forked
 child of a process that had threads no call may be made: start processes by "spawn" or "forkserver".
 
-The library is looked for by the name libiodef_redact.so.1, or is the file that IODEF_REDACT_LIBRARY names.
+The module loads the library by the name libiodef_redact.so.1, or from the file that IODEF_REDACT_LIBRARY names.
 """
 from __future__ import annotations
 
@@ -31,7 +31,7 @@ HANDLINGS = ("CLEAR", "GREEN", "AMBER", "STRICT", "RED")
 
 
 class Fault(Exception):
-    """Why a call has no answer. Of several faults the one with the least number is raised; NoMemory may replace any
+    """Why a call has no answer. If there are several faults, the one with the lowest number is raised; NoMemory may replace any
     answer."""
 
     number: ClassVar[int] = 0
@@ -138,7 +138,7 @@ FAULTS: dict[int, type[Fault]] = {each.number: each for each in Fault.__subclass
 
 @dataclass(frozen=True)
 class Gate:
-    """Of the class at `path` and what is below it; the path of the root is empty. `level`: 0 the source alone, 1 its communities, 2
+    """A gate of the class at `path` and what is below it; the path of the root is empty. `level`: 0 the source alone, 1 its communities, 2
     those connected to them too, 3 everybody, 4 the members of `group`, 5 as above."""
 
     level: int
@@ -148,8 +148,8 @@ class Gate:
 
 @dataclass(frozen=True)
 class Permission:
-    """Of the class at `path` and what is below it, up to `until`, its end in RFC 3339. To one `person`, one `org`, the members of
-    one `community` or those of one `group`."""
+    """A permission for the class at `path` and what is below it, until the moment `until` (RFC 3339). It is given to one `person`,
+    one `org`, the members of one `community` or those of one `group`."""
 
     path: str
     person: int | None = None
@@ -161,7 +161,7 @@ class Permission:
 
 @dataclass(frozen=True)
 class Case:
-    """What an Incident is judged by. `source` is the organisation that it is from. One gate is at the root."""
+    """What decides who may see an Incident. `source` is the organisation that it is from. One gate must be at the root."""
 
     source: int
     gates: Sequence[Gate]
@@ -171,12 +171,12 @@ class Case:
 
 @dataclass(frozen=True)
 class Reader:
-    """A person, and how it stands to the source and to the Incident.
+    """A person, and the person's relation to the source and to the Incident.
 
-    `who` is its number, `org` that of its organisation. `source`: its organisation is the source, and has to be said where `org` is
+    `who` is its number, `org` that of its organisation. `source`: its organisation is the source; it must be true if `org` is
     the case's `source`. `person`: it is addressed itself. `nominated`: its organisation nominated it. `addressed`: its organisation
     is addressed. `client`: its organisation is a client of the source, or of an organisation that is addressed. `community`: its
-    organisation and the source are in one community. `peer`: its organisation is in the community that the case names; where it
+    organisation and the source are in one community. `peer`: its organisation is in the community that the case names; if it
     names none, as `community`. `connected`: its organisation is in a community that is connected to one of the source's.
     `arrangement`: the handling that the source arranged with its organisation for the label `default`. `groups` are the groups of
     its organisation, `active_groups` the groups that are active, and `communities` the communities of its organisation."""
@@ -214,7 +214,7 @@ class Withheld:
 
 @dataclass(frozen=True)
 class Excerpt:
-    """What a reader may see: how many classes, the report without the others, and where what is withheld. `text` is the JSON text
+    """What a reader may see: how many classes, the report without the others, and where something is withheld. `text` is the JSON text
     of all three as the library gives it."""
 
     classes: int
@@ -226,8 +226,8 @@ class Excerpt:
 def excerpt(
     report: bytes | str, to: str | Reader | View, case: Case | None = None, *, incident: int | None = None, now: str | datetime.datetime | None = None
 ) -> Excerpt:
-    """What the reader may see of the Incident at the place `incident`, the first one if it isn't given. `now` is the moment at
-    which a permission has ended or not, and is wanted where one has `until`."""
+    """What the reader may see of the Incident at the place `incident`, the first one if it isn't given. `now` is the moment that
+    decides whether a permission has ended, and is required if one has `until`."""
     text = _answer("excerpt", report, _described(to, case, incident, now))
     told = json.loads(text)
     withheld = tuple(Withheld(place, rule) for place, rule in told["withheld"])
@@ -262,7 +262,7 @@ def explain(
 
 def marks(report: bytes | str, incident: int = 0) -> str:
     """For each class of an Incident a line: the JSON array of its path, its label, the label's handling, and the path of the class
-    where that label stands."""
+    that has that label."""
     return _answer("marks", report, incident).decode()
 
 
@@ -273,7 +273,7 @@ def _moment(moment: str | datetime.datetime) -> str:
     if moment.tzinfo is None:
         raise ValueError(f"{moment!r} has no time zone")
     if moment.microsecond:
-        raise ValueError(f"{moment!r} is no whole second")
+        raise ValueError(f"{moment!r} is not a whole second")
     return moment.isoformat()
 
 
@@ -306,14 +306,14 @@ def _described(to: str | Reader | View, case: Case | None, incident: int | None,
     moment = None if now is None else _moment(now)
     if isinstance(to, Reader):
         if case is None:
-            raise TypeError("a Reader wants a Case")
+            raise TypeError("a Reader needs a Case")
         return json.dumps(_members(now=moment, incident=incident, case=_case(case), reader=_reader(to)))
     if isinstance(to, View):
         if case is not None or incident is not None or now is not None:
             raise TypeError("a View says all of it: case, incident and now go with a Reader")
         return to.text
     if to not in HANDLINGS:
-        raise ValueError(f"{to!r} is none of {', '.join(HANDLINGS)}")
+        raise ValueError(f"{to!r} is not one of {', '.join(HANDLINGS)}")
     if case is not None or now is not None:
         raise TypeError("case and now go with a Reader")
     return json.dumps(_members(clearance=to, incident=incident))
@@ -335,22 +335,22 @@ def _function(name: str, words: tuple[type, ...]) -> Any:
 
 
 def _word(word: object) -> bytes | int:
-    """A word as it is handed over, without a copy of bytes."""
+    """A word as the library takes it, without a copy of bytes."""
     if isinstance(word, str):
         return word.encode()
     if isinstance(word, bytes):
         return word
     if isinstance(word, int) and not isinstance(word, bool):
         if not 0 <= word < 2**32:
-            raise ValueError(f"{word} is no number from 0 to {2**32 - 1}")
+            raise ValueError(f"{word} is not a number from 0 to {2**32 - 1}")
         return word
-    raise TypeError(f"bytes, str or a number is wanted, not {type(word).__name__}")
+    raise TypeError(f"it must be bytes, str or a number, not {type(word).__name__}")
 
 
 def _answer(name: str, report: bytes | str, *words: object) -> bytes:
-    """What the library answers. Where the answer is longer than the room at first, it is asked again."""
+    """The library's answer. If it is longer than the first room for it, the library is called again."""
     if not isinstance(report, (bytes, str)):
-        raise TypeError(f"a report is bytes or str, not {type(report).__name__}")
+        raise TypeError(f"a report must be bytes or str, not {type(report).__name__}")
     handed = [_word(word) for word in (report, *words)]
     function = _function(name, tuple(map(type, handed)))
     taken = [part for word in handed for part in ((word,) if isinstance(word, int) else (word, len(word)))]

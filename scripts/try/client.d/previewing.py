@@ -55,7 +55,7 @@ def by_previews(check: Check, command: pathlib.Path, report: pathlib.Path, folde
     check("preview needs neither hub nor key", ask(str(report), "3", "--for", "stranger"), (0, '{\n  "a": [\n    "\\u001b"\n  ]\n}\n'))
     check("and tells on standard error what is withheld, and why", errors.splitlines(), [
         "withheld at /Incident/0: marked GREEN, for the source's communities, or for the one that the incident names (H-GREEN)",
-        "withheld at the root: for a sharing group of which your organisation is no member (G4)"])
+        "withheld at the root: for a sharing group that your organisation isn't a member of (G4)"])
     check("the engine is asked for an excerpt", (folder / "words").read_text(), "excerpt --for\n")
     check("of the report as it is", (folder / "report").read_bytes(), report.read_bytes())
     check("the engine's own answer", ask("--json", str(report), "3", "--for", "stranger"), (0, VIEW + "\n"))
@@ -71,9 +71,9 @@ def by_previews(check: Check, command: pathlib.Path, report: pathlib.Path, folde
     reader = folder / "reader.json"
     reader.write_text('{"who":4,"org":2,"peer":true}')
     check("a reader of a file", asked("3", "--for", str(reader))["reader"], {"who": 4, "org": 2, "peer": True})
-    for text in ("{", "[]", "4"):
+    for text, why in (("{", "is not JSON"), ("[]", "is not a JSON object"), ("4", "is not a JSON object")):
         reader.write_text(text)
-        check(f"a file of {text} is no reader", (ask(str(report), "3", "--for", str(reader))[0], "holds no JSON" in errors), (2, True))
+        check(f"a file of {text} is no reader", (ask(str(report), "3", "--for", str(reader))[0], f"{reader} {why}\n" in errors), (2, True))
     check("a file that isn't there", ask(str(report), "3", "--for", str(folder / "nowhere"))[0], 2)
     check("a reader is wanted", (ask(str(report), "3")[0], "--for" in errors), (2, True))
     check("the report may come on standard input", (ask("-", "3", "--for", "stranger", given=report.read_bytes())[0],
@@ -85,6 +85,6 @@ def by_previews(check: Check, command: pathlib.Path, report: pathlib.Path, folde
     check("another fault of the engine", (ask(str(report), "3", "--for", "stranger"), errors),
           ((2, ""), f"iodef-hub-ask: {engine}: NoClass no class is at that place\n"))
     check("no engine", (ask(str(report), "3", "--for", "stranger", by="/nowhere"), errors),
-          ((2, ""), "iodef-hub-ask: there is no /nowhere: install it, or name the program by --engine\n"))
+          ((2, ""), "iodef-hub-ask: /nowhere was not found: install it, or name the program with --engine\n"))
     answers("no JSON")
     check("an answer that is no JSON", ask(str(report), "3", "--for", "stranger"), (2, ""))

@@ -179,7 +179,7 @@ def by_incident(two: Two) -> None:
     json_of = lambda urls, number: two.asker(0, KEYS[2], "--json", IODEF_HUB_URL=urls)("show", number)
     check("with --json it is the hub's own answer, which iodef-hub-misp reads", json_of(" ".join(two.urls), "1/1"), json_of(two.urls[0], "1"))
     check("a number alone is refused", (bank("show", "1"), bank.errors),
-          ((2, ""), "iodef-hub-ask: which hub's incident 1 is meant? There are 2: say HUB/NUMBER, as 2/1\n"))
+          ((2, ""), "iodef-hub-ask: which hub's incident 1 do you mean? There are 2 hubs: give HUB/NUMBER, such as 2/1\n"))
     check("a hub that isn't there", (bank("show", "3/1"), bank.errors), ((2, ""), "iodef-hub-ask: there is no hub 3: the hubs are 1 to 2\n"))
     for wrong in ("0/1", "/1", "1/", "1/1/1", "-1/1", "x/1"):
         check(f"no incident is {wrong}", bank("show", wrong)[0], 2)
@@ -195,7 +195,7 @@ def by_incident(two: Two) -> None:
     check("why is asked of the incident's hub", two.ask(6)("why", "4", "1/2", "/Incident/0")[1].split("\n")[0], "verdict Hidden G0")
     line = json.dumps({"document": json.loads(report("fourth")), "level": 3, "gates": []}).encode()
     check("post-all posts at the newest", bank("post-all", "-", given=line), (0, "2/2\n"))
-    check("and replaces nothing unless a hub is named", (bank("post-all", "-", "--replace", *replaced[::2], given=line)[0], "name its hub alone by --url" in bank.errors), (2, True))
+    check("and replaces nothing unless a hub is named", (bank("post-all", "-", "--replace", *replaced[::2], given=line)[0], "name only its hub with --url" in bank.errors), (2, True))
 
 
 def by_watch(two: Two, port: int) -> None:

@@ -114,13 +114,13 @@ def by_command(watching: Watching, hub: Any, newest: int) -> None:
     later = watching.post()
     check("what a command failed at isn't told", (watching.look(*after, "--exec", command, rounds=2), [each.split(":")[0] for each in watching.told()]),
           ((0, ""), [f"told {newest} 2"] * 2))
-    words = f"iodef-hub-ask: {command} ended with status 7; incident {newest} and those behind it are tried again at the next look"
+    words = f"iodef-hub-ask: {command} ended with status 7; incident {newest} and those after it are tried again at the next look"
     check("and standard error says so", watching.bank.errors.splitlines()[1::2], [words] * 2)
     threading.Timer(1.5, fail.unlink).start()
     check("until the command does it", watching.look(*after, "--exec", command, rounds=40)[1], f"{line}{later}\tr1\torg 2\n")
     told = [each.split(":")[0] for each in watching.told()]
     check("in the order of their numbers", told, [f"told {newest} 2"] * (len(told) - 1) + [f"told {later} 2"])
-    for text, why in (("#!/bin/sh\nkill -9 $$\n", f"was ended by signal {int(signal.SIGKILL)}"), ("#!/nowhere\n", "wasn't run: No such file or directory")):
+    for text, why in (("#!/bin/sh\nkill -9 $$\n", f"was killed by signal {int(signal.SIGKILL)}"), ("#!/nowhere\n", "couldn't be run: No such file or directory")):
         other = program(watching.folder, "other", text)
         check(f"a command that {why}", (watching.look(*after, "--exec", str(other))[1], why in watching.bank.errors), ("", True))
     slow = program(watching.folder, "slow", "#!/bin/sh\nexec sleep 30\n")
@@ -159,7 +159,7 @@ def by_state(watching: Watching, newest: int) -> None:
     for text, words in (("{", ()), ("[]", ()), ('{"last":"7"}', ()), ('{"last":7,"revisions":{}}', ()), ('{"last":7}', ("--all",)), ('{"last":7,"revisions":{"x":1}}', ("--all",))):
         state = watching.folder / "bad"
         state.write_text(text)
-        check(f"a file that holds {text} is usage", (watching.look("--state", str(state), *words), "was written by no watch" in watching.bank.errors), ((2, ""), True))
+        check(f"a file that holds {text} is usage", (watching.look("--state", str(state), *words), "was not written by a watch" in watching.bank.errors), ((2, ""), True))
     check("a file that can't be written is told", watching.look("--state", "/nowhere/state", "--from", "0")[0], 2)
 
 
