@@ -1,12 +1,12 @@
 #!/usr/bin/env python3
-"""Says on standard error how long a script takes, when it begins, and every ten seconds how far it is.
+"""Says on standard error how long a script takes when it begins, and every ten seconds how far it is.
 
-A script in Python calls `say`. A script in bash starts this file beside itself, and ends it when it ends:
+A script in Python calls `say`. A script in bash starts this file in the background, and ends it when it ends:
 
     scripts/progress.py MINUTES SCRIPT FILE
 
 SCRIPT is one of scripts/try, and FILE is where a line `ok: ..` or `FAILED: ..` appears for each of its checks.
-Minutes are those of a run on four processors. How many checks a script has is what its last run had, by docs/TESTED.md.
+Minutes are those of a run on four processors. The number of a script's checks is that of its last run, by docs/TESTED.md.
 """
 from __future__ import annotations
 
@@ -24,7 +24,7 @@ SECONDS_BETWEEN = 10
 
 
 def checks_of(script: str) -> int:
-    """How many checks the last run of this script of scripts/try had, or 0 if the page doesn't tell."""
+    """How many checks the last run of this script of scripts/try had, or 0 if the page doesn't say."""
     found = re.search(rf"^\| `{re.escape(script)}` \|.*?([\d,]+) passed, ", TESTED.read_text(), re.M)
     return int(found[1].replace(",", "")) if found else 0
 

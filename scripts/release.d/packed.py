@@ -46,7 +46,7 @@ FROM = [
     (r"(?:usr/)?lib/systemd/system/(.*)", r"deploy/systemd/\1"),
     (r"usr/share/iodef-hub/nginx/(?!iodef-hub-csp\.conf)(.*)", r"deploy/nginx/\1"),
     (r"usr/share/iodef-hub/page/(.*)", r"web/\1"),
-    # Of a commit without make-docs, which makes them since.
+    # Of a commit without make-docs, which makes them otherwise.
     (r"usr/share/doc/iodef-hub/([\w-]+\.md|openapi\.yaml)", r"docs/\1"),
     (r"usr/share/doc/iodef-hub/examples/reports/(.*)", r"docs/examples/\1"),
     (r"usr/share/doc/iodef-hub/examples/(site\.conf)", r"deploy/nginx/\1"),
@@ -86,7 +86,7 @@ def built(tree: Tree, made_of: Given, version: str, room: pathlib.Path, maintain
     if ran.returncode or len(packages) != len(made_of.packages()) or len(packages) != len(list(room.iterdir())):
         raise Refused(f"the packages aren't built: {(ran.stderr or ran.stdout).strip()[-600:]}")
     if "~trial" in packages[0].name:
-        raise Refused(f"a program has an address sanitizer: it is for trials alone: {ran.stderr.strip()[-300:]}")
+        raise Refused(f"a program has an address sanitizer, so it is only for trials: {ran.stderr.strip()[-300:]}")
     return packages
 
 

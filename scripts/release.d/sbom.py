@@ -184,9 +184,9 @@ def faults_of_shape(sbom: Json) -> list[str]:
     tools = metadata.get("tools", {}).get("components", [])
     faults += [fault for it in components + tools for fault in faults_of_component(it)]
     refs = [it.get("bom-ref") for it in components]
-    faults += [f"{it} stands twice" for it in set(refs) if refs.count(it) > 1]
+    faults += [f"{it} is listed twice" for it in set(refs) if refs.count(it) > 1]
     for it in sbom.get("dependencies", []):
-        faults += [f"{name} of a dependency isn't there" for name in [it.get("ref"), *it.get("dependsOn", [])] if name not in refs]
+        faults += [f"{name} of a dependency isn't listed" for name in [it.get("ref"), *it.get("dependsOn", [])] if name not in refs]
     return faults
 
 
@@ -196,13 +196,13 @@ def faults_of_tree(sbom: Json, tree: Tree, version: str, programs: dict[str, str
     components, named = sbom.get("components", []), dependencies(tree, programs)
     found = {it["bom-ref"]: it for it in components if it.get("group") == "iodef-hub"}
     due = {it["bom-ref"]: it for it in beside(programs, version) + own(tree, version)}
-    faults = [f"{name} differs from the commit's and from what PROVENANCE.json names" for name in sorted({*found, *due}) if found.get(name) != due.get(name)]
+    faults = [f"{name} differs from what the commit and PROVENANCE.json say" for name in sorted({*found, *due}) if found.get(name) != due.get(name)]
     if [it for it in sbom.get("dependencies", []) if not it["ref"].startswith("kit/")] != named:
-        faults.append("what stands on what differs from crates.txt")
+        faults.append("the dependencies differ from crates.txt")
     lacking = {name for it in named for name in it["dependsOn"]} - {it["bom-ref"] for it in components}
     faults += [f"{name} isn't listed" for name in sorted(lacking)]
     faults += [f"{it.get('name')} is of another group" for it in components if it.get("group") not in ("iodef-hub", "rattle")]
     of_kits = [it for it in components if it.get("group") == "rattle"]
     faults += [f"{it['bom-ref']} is called {it['name']}" for it in of_kits if it["bom-ref"] != f"kit/{it['name']}"]
     kits = {it["version"] for it in of_kits}
-    return faults + ([] if kits == {tree.kit_line()} else [f"the kit is {sorted(kits)}, and README names {tree.kit_line()}"])
+    return faults + ([] if kits == {tree.kit_line()} else [f"the kit is {sorted(kits)}, but README names {tree.kit_line()}"])

@@ -1,4 +1,4 @@
-"""What the files of a commit tell of a release: their digests, crates and edits, the kit's line, and what its gate has to tell."""
+"""What the files of a commit say of a release: their digests, crates and edits, the kit's line, and what its gate must print."""
 from __future__ import annotations
 
 import datetime
@@ -19,7 +19,7 @@ SBOM, PROVENANCE = "sbom.cdx.json", "PROVENANCE.json"
 
 
 class Refused(Exception):
-    """Why no release is made, or why it can't be looked at."""
+    """Why no release is made, or why one can't be read."""
 
 
 def git(*words: str) -> str:
@@ -106,10 +106,10 @@ class Tree:
         ends = re.fullmatch(r"(\d+) passed, (\d+) failed", lines[-1])
         said = [it for it in lines[-20:] if "ok; handles allowed: " in it]
         if not ends or ends[2] != "0" or not said:
-            raise Refused(f"the gate's log isn't that of a gate that passed; it ends: {lines[-1]}")
+            raise Refused(f"the gate's log isn't that of a gate that passed; it ends with: {lines[-1]}")
         due = len(self.crates()) + self.edits()
         if int(ends[1]) != due:
-            raise Refused(f"the gate's log is of {ends[1]} crates and edits, and {self.commit[:10]} has {due}")
+            raise Refused(f"the gate's log is of {ends[1]} crates and edits, but {self.commit[:10]} has {due}")
         return {"passed": due, "failed": 0, "lines": [said[-1], lines[-1]]}
 
     def provenance(self, log: str, version: str, programs: dict[str, str]) -> dict[str, Any]:

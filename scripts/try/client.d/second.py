@@ -108,11 +108,11 @@ def second_store(check: Check, given: str, folder: pathlib.Path, port: int) -> p
     value = json.loads(names.read_text())
     check("  names that are published anew keep the hubs", ([each["name"] for each in value["hubs"]], value["orgs"]["2"]), (["older", "newest"], "Bank & S\u00f6hne"))
     again = ran("bash", script, store, str(port))
-    check("  a store that is there stays", (again.returncode, again.stderr), (1, f"{store} is there\n"))
+    check("  a store that is there stays", (again.returncode, again.stderr), (1, f"{store} exists\n"))
     altered = folder / "altered.sh"
     altered.write_text(script.read_text().replace("-- 2 Ada coordinator", "-- 2 Adah coordinator"))
     made = ran("bash", altered, folder / "altered.db", str(port))
-    check("  commands that make another directory are told", (made.returncode, made.stderr), (1, f"{folder / 'altered.db'} is not what the first hub has\n"))
+    check("  commands that make another directory are told", (made.returncode, made.stderr), (1, f"{folder / 'altered.db'} differs from the store of the first hub\n"))
     return store
 
 

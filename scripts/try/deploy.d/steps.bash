@@ -20,7 +20,7 @@ digest() { printf %s "$1" | sha256sum | cut -d' ' -f1; }
 pid_of() { systemctl show -p MainPID --value "iodef-hub@$1"; }
 wait_active() { for _ in $(seq 600); do systemctl is-active --quiet "$1" && return; sleep 0.1; done; return 1; }
 newest() { find "$copies/$1" -name 'hub-*.db' | sort | tail -n 1; }
-# A program with an address sanitizer, which is for trials alone, takes more than any limit of data.
+# A program with an address sanitizer, which is only for trials, takes more than any limit of data.
 allow_sanitizer() {
     grep -qF AddressSanitizer /usr/bin/iodef-hub || return 0
     mkdir -p /etc/systemd/system/iodef-hub@.service.d
