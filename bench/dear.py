@@ -4,7 +4,7 @@
     python3 bench/dear.py crates/redact_bench/out/redact_bench ['gated finds' ..]
 
 The reports have 27 classes in one another, each in an array and under a long name, and many classes below the last. With
-`--print ROW` it prints what the program gets on standard input. It wants valgrind and GNU time.
+`--print ROW` it prints what the program gets on standard input. It needs valgrind and GNU time.
 """
 
 import argparse
@@ -13,7 +13,7 @@ import subprocess
 import sys
 import tempfile
 
-# How many classes stand in one another, below the Incident, and how many bytes each of their names has.
+# How many classes are in one another, below the Incident, and how many bytes each of their names has.
 CHAIN, NAME = 27, "n" * 8_000
 
 # The Incident's label, one of the classes below the last, and how many of these there are.

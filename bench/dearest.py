@@ -4,10 +4,10 @@
 usage: bench/dearest.py [--program PATH] [--reports 10000] [--instructions] [--only ROW ..]
 
 The reports are of 204 lines, each for every organisation by its level and for its source alone by its labels. Each row is asked
-five times. Printed are the middle of the times that the hub took of a processor, and the most memory that the process took from the
-system meanwhile (VmSize, looked at each 5 milliseconds), beside what it had before. With --instructions each row is asked once more
-of a hub under callgrind, which counts from behind the opening. Wanted: Python 3.11, for --instructions valgrind. It takes some
-minutes, with --instructions an hour.
+five times. It prints the median of the processor's times of the hub, and the most memory that the process took from the system meanwhile
+(VmSize, read every 5 milliseconds), beyond what it had before. With --instructions each row is asked once more of a hub under
+callgrind, which counts after the opening. Needs: Python 3.11, for --instructions valgrind. It takes some minutes, with
+--instructions an hour.
 """
 
 import argparse
@@ -255,7 +255,7 @@ def main() -> None:
     words.add_argument("--program", default=str(HERE.parent / "out" / "iodef-hub"))
     words.add_argument("--reports", type=int, default=10_000)
     words.add_argument("--instructions", action="store_true")
-    words.add_argument("--only", nargs="*", help="beginnings of the rows' names; those that a row stands on are done all the same")
+    words.add_argument("--only", nargs="*", help="beginnings of the rows' names; rows that they depend on run too")
     said = words.parse_args()
     rows = [row for row in ROWS if not said.only or any(row.name.startswith(each) for each in said.only)]
     with tempfile.TemporaryDirectory() as folder:

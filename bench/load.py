@@ -26,19 +26,19 @@ in a second one; two pairs of communities are connected. Of the reports (4 KB, 2
     person         five for 200 organisations  people come and go
     health         one a minute                the operator's monitor
 
-Each request has a moment that is drawn before the run. It begins then, whether or not earlier ones have ended, and its time counts
-from that moment to its last byte; so a hub that falls behind is seen. The requests of one visit begin one after another, as a page
+The moment of each request is drawn before the run. The request begins then, whether or not earlier ones have ended, and its time
+counts from that moment to its last byte, so a hub that falls behind is seen. The requests of one visit begin one after another, as a page
 does, a tenth of a second apart or later; their times count from their moments all the same. Looks have a period, all else is drawn
 evenly over the day. Each request is a connection of its own with a TLS handshake, from the address of its organisation
 (127.20.0.0/16), as a team shares one address. nginx runs with the files of deploy/nginx and HAProxy with deploy/haproxy/haproxy.cfg;
-ports and folders alone differ, and HAProxy writes no log. The hub has no limit of memory.
+only ports and folders differ, and HAProxy writes no log. The hub has no limit of memory.
 
 Of a run of M minutes the requests are those of M/10 of the day, at the same rate. With --pressed N the day is N times as fast (144).
-If bench/peer is built, the same requests, but for those that the peer doesn't know, are asked of it for --peer-minutes, behind the
-same proxies and after the hub. The table has `below 2 s` if of each kind 95 of 100 were answered within 2 seconds, and refusals by their code.
+If bench/peer is built, the same requests, except those that the peer doesn't know, are sent to it for --peer-minutes, through the
+same proxies and after the hub. The table has `below 2 s` if 95 of 100 of each kind were answered within 2 seconds, and refusals by their code.
 
 It ends with `N passed, M failed`: it checks that nothing was answered but 200 and the proxies' 429 and 503, and that each post
-that was answered is served to its source. Wanted: Python 3.11, nginx, HAProxy, openssl, and four processors that do nothing else.
+that was answered is served to its source. Needs: Python 3.11, nginx, HAProxy, openssl, and four processors that do nothing else.
 """
 
 import argparse
@@ -720,15 +720,15 @@ def numbers(text: str) -> list[int]:
 def main() -> None:
     words = argparse.ArgumentParser(description=__doc__, formatter_class=argparse.RawDescriptionHelpFormatter, allow_abbrev=False)
     words.add_argument("--program", metavar="FILE", required=True)
-    words.add_argument("--peer", metavar="FILE", default=built_peer(), help="the plain peer; else that of bench/peer, if it is built")
+    words.add_argument("--peer", metavar="FILE", default=built_peer(), help="the plain peer; by default that of bench/peer, if it is built")
     words.add_argument("--nginx", metavar="FILE", default="/usr/sbin/nginx")
     words.add_argument("--haproxy", metavar="FILE", default="/usr/sbin/haproxy")
     words.add_argument("--reports", type=numbers, default=numbers("1000,5000,20000"))
     words.add_argument("--minutes", type=float, default=10)
-    words.add_argument("--peer-minutes", type=float, help="as --minutes if it isn't given")
+    words.add_argument("--peer-minutes", type=float, help="by default as --minutes")
     words.add_argument("--organisations", type=int, default=200)
     words.add_argument("--pressed", type=float, default=144)
-    words.add_argument("--port", type=int, default=24210, help="the first of five ports; %(default)s")
+    words.add_argument("--port", type=int, default=24210, help="the first of five ports; by default %(default)s")
     words.add_argument("--folder", help="the folder in which the stores are made and removed")
     said = words.parse_args()
     for each in (said.program, said.peer, said.nginx, said.haproxy):

@@ -1,6 +1,6 @@
-"""Stores of many reports for sizes.py and load.py, and a hub that serves them with what it takes of a processor and of memory.
+"""Stores of many reports for sizes.py and load.py, and a hub that serves them, with its use of a processor and of memory.
 
-The hub itself stores the first reports. The others are rows like theirs, each with an identity of its own, put there by SQL: a
+The hub itself stores the first reports. The others are rows like theirs, each with an identity of its own, inserted by SQL: a
 hundred thousand posts would take long.
 """
 

@@ -4,9 +4,9 @@
 
 usage: bench/migrating.py [--program PATH] [--sizes 1000] [--folder FOLDER]
 
-The store is made by the SQL text of version 1, in which a document is one text, with reports of 13 KB (some 740 lines). That it is
-what it should be afterwards is seen by what is served of it: its first and its last report whole, and the page of a list that
-ends with it. Wanted: Python 3 alone, and 50 KB of disk for each report.
+The store is made by the SQL text of version 1, in which a document is one text, with reports of 13 KB (some 740 lines). The
+migrated store is checked by what a hub serves of it: its first and its last report whole, and the page of a list that ends with
+the last. Needs: Python 3 only, and 50 KB of disk for each report.
 """
 
 import argparse

@@ -1,14 +1,13 @@
 #!/usr/bin/env python3
 """What the opening of a store costs: the processor's seconds until `serve` listens, and the peak of its memory, by the number
-of reports. On a machine with a processor to spare the clock tells the same, but for the disk.
+of reports. On a machine with a free processor the clock gives the same, except for the disk.
 
 usage: bench/opening.py [--program PATH] [--sizes 1000,10000,100000] [--runs 3] [--folder FOLDER]
 
 The program itself makes the store and posts one report of 4 KB; the others are rows like its row, each with an identity of
-its own, put there by SQL, as a hundred thousand posts would take long. That each store is what it should be is seen by what
-is served of it: its last report whole, and the page of a list that ends with it. Of the runs the fastest opening is told,
-and the largest memory: behind the opening, and behind one search over all reports that finds nothing. Wanted: Python 3
-alone, and 5 KB of disk for each report.
+its own, inserted by SQL, as a hundred thousand posts would take long. Each store is checked by what is served of it: its last
+report whole, and the page of a list that ends with it. It prints the fastest opening of the runs and the largest memory, after
+the opening and after one search over all reports that finds nothing. Needs: Python 3 only, and 5 KB of disk for each report.
 """
 
 import argparse
@@ -87,7 +86,7 @@ class Hub:
         for line in pathlib.Path(f"/proc/{self.process.pid}/status").read_text().split("\n"):
             if line.startswith("VmHWM:"):
                 return int(line.split()[1]) / 1024
-        sys.exit("opening.py: the kernel doesn't tell a peak")
+        sys.exit("opening.py: the kernel doesn't report a peak")
 
     def close(self) -> None:
         self.process.kill()

@@ -1,14 +1,14 @@
 #!/usr/bin/env python3
-"""Calls a second of the library iodef_redact from C and from Python, beside the plain Rust peer: the same excerpts of the same
+"""Measures calls per second of the library iodef_redact from C and from Python, beside the plain Rust peer: the same excerpts of the same
 reports, from the report's bytes to those of the answer, in one run. Prints ratios: below 1 the library is faster.
 
 usage: bench/redacting.py [--library FOLDER] [--peer FILE] [--seconds N] [--instructions]
 
-FOLDER is what scripts/build-redact-library made, out/ where it isn't given; FILE is target/release/peer beside peer/, which
-peer/README.md tells how to build. A time is that of a processor (user and system) of the fastest of five runs, each of about N
-seconds (0.5), without the start of the process; it is to be trusted on a machine that has nothing else to do. --instructions counts instructions by callgrind in place of that: they are the
-same for the same programs and reports, whatever else the machine does. It takes two minutes; with --instructions about as long.
-Wanted: Python 3.11, gcc, and valgrind for --instructions.
+FOLDER is what scripts/build-redact-library made, by default out/. FILE is target/release/peer beside peer/; peer/README.md says how
+to build it. A time is that of a processor (user and system) of the fastest of five runs, each of about N seconds (0.5), without the
+start of the process. Trust it only on a machine that has nothing else to do. --instructions counts instructions by callgrind
+instead: they are the same for the same programs and reports, whatever else the machine does. It takes two minutes; with
+--instructions about as long. Needs: Python 3.11, gcc, and valgrind for --instructions.
 """
 from __future__ import annotations
 
@@ -138,7 +138,7 @@ def main() -> None:
     given = words.parse_args()
     library, peer = given.library.resolve(), given.peer.resolve()
     if not (library / "libiodef_redact.a").is_file() or not peer.is_file():
-        words.error(f"{library}/libiodef_redact.a and {peer} are wanted")
+        words.error(f"{library}/libiodef_redact.a and {peer} are needed")
     os.environ["IODEF_REDACT_LIBRARY"] = str(library / "libiodef_redact.so.1")
     os.environ["PYTHONPATH"] = str(TOP / "clients" / "python")
     done: list[float] = []

@@ -1,10 +1,10 @@
 #!/usr/bin/env python3
-"""The instructions of one post and of one view over HTTP, by the lines of the report: what a request more of the kind costs a
-running `serve`, counted by callgrind. The same for the same program and report, whatever else the machine does.
+"""The instructions of one post and of one view over HTTP, by the lines of the report: what one more request costs a
+running `serve`, counted by callgrind. They are the same for the same program and report, whatever else the machine does.
 
 usage: bench/requests.py [--program PATH] [--events 1,20,60]
 
-Wanted: Python 3 and valgrind. It takes some minutes.
+Needs: Python 3 and valgrind. It takes some minutes.
 """
 
 import argparse

@@ -1,35 +1,35 @@
 #!/usr/bin/env python3
-"""What a hub and the operator's commands cost by the number of reports in the store, and at how many hubs of 1, 2 and 4 GB end.
+"""What a hub and the operator's commands cost by the number of reports in the store, and how many reports fit hubs of 1, 2 and 4 GB.
 
 usage: bench/sizes.py --program FILE [--reports N,N,..] [--kilobytes 4,13] [--longest SECONDS] [--memory GB] [--port N]
                       [--no-limits] [--folder FOLDER]
 
 For each size and length of a report it measures, as a row of a table:
 
-- the store's file; the opening, by the processor and by the clock; the data of the process behind it (VmData), which is what the
+- the store's file; the opening, by the processor and by the clock; the data of the process after it (VmData), which is what the
   unit's limit of data counts;
 - a list's page of 100 reports, by a reader of another organisation; a search that finds nothing, by the source, which reads each
-  report; a View for the first time and again, when the document is kept; a post. Each is the middle of several, by the processor,
-  and a post by the clock, too;
+  report; a View for the first time and again, when the document is kept; a post. Each is the median of several, by the processor,
+  and a post also by the clock;
 - the operator's commands as they are in deploy/bin, by the clock: iodef-hub-backup while the hub serves, with and without the
   lines of reports; iodef-hub-drill of the hub and a copy, with one key; iodef-hub-restore; iodef-hub-migrate from version 3. The
   last two run in a mount namespace of their own, over a folder in the place of /var/lib/private, with a systemctl that starts and
-  stops the hub: this wants root, and leaves the machine as it is. `iodef-hub migrate` is measured alone, too.
+  stops the hub: this needs root, and leaves the machine as it is. `iodef-hub migrate` is also measured alone.
 
 A step that would take longer than --longest, by what it took at the size before, isn't measured, nor is a size whose memory
-exceeds --memory or what the machine has left. Such figures are reckoned from the two sizes before, and are marked by `~`; those of
+exceeds --memory or what the machine has left. Such figures are computed from the two sizes before, and are marked by `~`; those of
 a page, a View and a post are of the size before.
 
 The last column says how a row grows: `the same` if the figure of the largest size is below one and a half of that of the smallest;
-`linear` if a report more costs the same at the largest sizes as at the smallest, within a quarter; else by what factor it costs
-more. Of a page, a View and a post, which shouldn't grow, it has the factor of the whole.
+`linear` if one more report costs the same at the largest sizes as at the smallest, within a quarter; else by what factor it costs
+more. For a page, a View and a post, which shouldn't grow, it has the factor of the whole.
 
-The table of limits has the number of reports at which deploy/lib/limit-memory refuses to start the hub, by its own reckoning, and
+The table of limits has the number of reports at which deploy/lib/limit-memory refuses to start the hub, by its own estimate, and
 the one at which the limit of data itself ends an opening, by the slope of the memory. For MemoryMax=1G both are tried: the first 3 %
 below and 3 % above, the second a tenth below and 3 % above, as a list that grows has its old and its new place for a moment. With an
 address sanitizer the memory isn't known, so these are left out.
 
-It checks each store, copy, restored and migrated store by what is served of it, and ends with `N passed, M failed`. Wanted: Python
+It checks each store, copy, restored and migrated store by what is served of it, and ends with `N passed, M failed`. Needs: Python
 3.11, sqlite3, GNU tools. 1,000 and 10,000 reports of 4 KB take about a minute; disk: four times the largest store.
 """
 
@@ -659,7 +659,7 @@ def run(said: argparse.Namespace, folder: pathlib.Path, checks: many.Checks) -> 
         print_table(kilobytes, sizes.rows[kilobytes].lines, said.reports, tables[kilobytes])
     is_told = all(slope(table[DATA]) for table in tables.values())
     if said.no_limits or not is_told:
-        print(f"sizes.py: no table of limits: {'--no-limits' if said.no_limits else 'the memory is unknown, or there is one size alone'}", file=sys.stderr)
+        print(f"sizes.py: no table of limits: {'--no-limits' if said.no_limits else 'the memory is unknown, or there is only one size'}", file=sys.stderr)
         return
     limits = Limits(said, folder, checks)
     found: dict[int, dict[int, Ends]] = {}
@@ -686,8 +686,8 @@ def main() -> None:
     words.add_argument("--program", metavar="FILE", required=True)
     words.add_argument("--reports", type=numbers, default=numbers("1000,10000,50000,100000"))
     words.add_argument("--kilobytes", type=lengths, default=lengths("4,13"))
-    words.add_argument("--longest", type=float, default=300, help="seconds of the longest step that is measured; %(default)s")
-    words.add_argument("--memory", type=float, default=16, help="gigabytes that a hub may take; %(default)s")
+    words.add_argument("--longest", type=float, default=300, help="seconds of the longest step that is measured; by default %(default)s")
+    words.add_argument("--memory", type=float, default=16, help="gigabytes that a hub may take; by default %(default)s")
     words.add_argument("--port", type=int, default=many.free_port())
     words.add_argument("--no-limits", action="store_true", help="without the table of limits")
     words.add_argument("--folder", help="the folder in which the stores are made and removed")

@@ -1,9 +1,8 @@
 #!/usr/bin/env python3
-"""How the hub's time grows with its store: a list over all incidents by a person who may see none of them (so that the page
-goes to the end of the store), once as a gate refuses it everywhere and once by the labels, and the opening of the store, each at
-several sizes.
+"""How the hub's time grows with its store, at several sizes: a list over all incidents by a person who may see none of them (so that
+the page goes to the end of the store), once refused by the gates and once by the labels; and the opening of the store.
 
-usage: bench/stores.py [BINARY [PORT]]        BINARY is out/iodef-hub where none is named
+usage: bench/stores.py [BINARY [PORT]]        BINARY is by default out/iodef-hub
 """
 import hashlib
 import json

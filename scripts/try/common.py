@@ -63,8 +63,8 @@ class Words(argparse.ArgumentParser):
 
     def take_port(self) -> None:
         self.add_argument(
-            "--port", metavar="N", type=_port, default=free_port(), help="the port of loopback that its hub takes; a free one where it isn't given"
+            "--port", metavar="N", type=_port, default=free_port(), help="the port of loopback that its hub takes; by default a free one"
         )
 
     def take_count(self, name: str, default: int, help: str) -> None:
-        self.add_argument(name, metavar="N", type=_count, default=default, help=f"{help}; %(default)s where it isn't given")
+        self.add_argument(name, metavar="N", type=_count, default=default, help=f"{help}; by default %(default)s")
