@@ -4,8 +4,8 @@
 #
 #     docs/examples/circle.sh [PORT]
 #
-# Wanted: curl and jq. The store is made in a folder of its own, which goes when the script ends. PROGRAM is the program
-# that is run, and where it isn't given, what `./iodef-hub --look` runs: the proved one where it is built.
+# Needs: curl and jq. The store is made in a new folder, which is removed at the end. PROGRAM is the program that is run, by
+# default that of `./iodef-hub --look`: the proved one if it is built.
 set -euo pipefail
 top=$(cd "$(dirname "$0")/../.." && pwd)
 port=${1:-18080}
