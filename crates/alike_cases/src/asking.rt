@@ -1,16 +1,11 @@
 //! Requests as lines, and as the bytes that ask them.
 
-use hub::Key;
-use hub_core::Request;
 use hub_http::request_of;
 use std::alloc::{AllocError, Global};
+use trying_shelves::Asked;
 
-/// A key and the request that its caller makes.
-#[derive(Drop)]
-pub struct Asked {
-    pub key: Key,
-    pub request: Request,
-}
+/// The moment of all requests, in seconds since 1970.
+const MOMENT: i64 = 1_700_000_000;
 
 /// Returns the bytes of the request that a line says.
 fn bytes_of(alloc: Global, line: &str) -> Result<Vec<u8>, AllocError> {
@@ -29,7 +24,7 @@ pub fn asked_by(alloc: Global, block: &str) -> Result<Option<Vec<Asked>>, AllocE
     for line in block.lines().filter(|line| !line.starts_with('#')) {
         let bytes = bytes_of(alloc, line)?;
         match request_of(alloc, bytes.as_slice()) {
-            Ok((key, request)) => asked.push(Asked { key, request })?,
+            Ok((key, request)) => asked.push((MOMENT, key, request))?,
             Err(_) => return Ok(None),
         }
     }

@@ -1,12 +1,10 @@
 //! Two worlds in which the same is asked.
 
-use crate::asking::{Asked, asked_by};
-use crate::world::{MOMENT, World, in_lists, in_tables};
-use hub::Hub;
-use hub_core::Shelf;
-use hub_http::told_by_both;
+use crate::asking::asked_by;
+use crate::world::{World, in_lists, in_tables};
 use std::alloc::{AllocError, Global};
 use std::str::from_utf8;
+use trying_shelves::{Asked, Either};
 
 /// The blocks so far: the circle, the world with which others are compared, and the questions.
 #[derive(Drop)]
@@ -46,18 +44,18 @@ fn describe(alloc: Global, one: &[u8], other: &[u8]) -> Result<String, AllocErro
 }
 
 /// Returns the line for each request to both hubs, or none if one of them wasn't made.
-fn told_by_hubs<A: Shelf + Drop, B: Shelf + Drop>(
+fn told_by_hubs(
     alloc: Global,
-    first: Option<Hub<A>>,
-    other: Option<Hub<B>>,
+    first: Option<Either>,
+    other: Option<Either>,
     asked: &[Asked],
 ) -> Result<Option<Vec<String>>, AllocError> {
     let (Some(mut first), Some(mut other)) = (first, other) else {
         return Ok(None);
     };
     let mut lines = Vec::new(alloc);
-    for Asked { key, request } in asked {
-        let (one, two) = told_by_both(alloc, &mut first, &mut other, MOMENT, key, request)?;
+    for one in asked {
+        let (one, two) = first.told_beside(&mut other, alloc, one)?;
         lines.push(describe(alloc, &one, &two)?)?;
     }
     Ok(Some(lines))

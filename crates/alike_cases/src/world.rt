@@ -1,15 +1,9 @@
 //! Worlds: a hub over the shelf in memory or over tables, after the requests that make the world.
 
-use crate::asking::{Asked, asked_by};
-use hub::Hub;
-use hub_core::{ListShelf, Reply, Shelf};
-use hub_store::SqlShelf;
-use sqlite::{Connection, MemStore};
+use crate::asking::asked_by;
 use std::alloc::{AllocError, Global};
 use trying_hub::{ABC, first_rows};
-
-/// The moment of all requests, in seconds since 1970.
-pub const MOMENT: i64 = 1_700_000_000;
+use trying_shelves::{Either, Lists, Tables, are_made};
 
 /// The requests that make a world: those of the circle, and its own behind them.
 #[derive(Clone, Copy)]
@@ -18,27 +12,15 @@ pub struct World<'a> {
     pub own: &'a str,
 }
 
-/// Returns whether each request was answered, and none refused.
-fn are_made<Sh: Shelf>(alloc: Global, hub: &mut Hub<Sh>, asked: &[Asked]) -> bool {
-    asked.iter().all(|one| {
-        let reply = hub.answer(alloc, MOMENT, &one.key, &one.request);
-        !matches!(reply, Reply::Refused(_))
-    })
-}
-
-/// Returns the hub over a shelf, empty before, after the requests of a world; none if one of them is refused.
-fn populate<Sh: Shelf + Drop>(
+/// Asks the requests of a world. Returns the hub, or none if one of them is refused.
+fn populate(
     alloc: Global,
-    mut shelf: Sh,
+    mut hub: Either,
     world: World<'_>,
-) -> Result<Option<Hub<Sh>>, AllocError> {
-    if shelf.apply(&first_rows(alloc, ABC)?).is_err() {
-        return Ok(None);
-    }
-    let mut hub = Hub::new(shelf);
+) -> Result<Option<Either>, AllocError> {
     for block in [world.circle, world.own] {
         match asked_by(alloc, block)? {
-            Some(asked) if are_made(alloc, &mut hub, &asked) => {}
+            Some(asked) if are_made(&mut hub, alloc, &asked) => {}
             _ => return Ok(None),
         }
     }
@@ -46,21 +28,19 @@ fn populate<Sh: Shelf + Drop>(
 }
 
 /// Returns the world in memory.
-pub fn in_lists(alloc: Global, world: World<'_>) -> Result<Option<Hub<ListShelf>>, AllocError> {
-    populate(alloc, ListShelf::new(alloc), world)
+pub fn in_lists(alloc: Global, world: World<'_>) -> Result<Option<Either>, AllocError> {
+    let rows = first_rows(alloc, ABC)?;
+    match Lists::with(alloc, &rows) {
+        Ok(hub) => populate(alloc, Either::Lists(hub), world),
+        Err(_) => Ok(None),
+    }
 }
 
 /// Returns the world in tables.
-pub fn in_tables(
-    alloc: Global,
-    world: World<'_>,
-) -> Result<Option<Hub<SqlShelf<MemStore>>>, AllocError> {
-    let conn = Connection::open_in_memory(alloc)?;
-    if !conn.is_autocommit() {
-        return Ok(None);
-    }
-    match SqlShelf::create(alloc, conn) {
-        Ok(shelf) => populate(alloc, shelf, world),
+pub fn in_tables(alloc: Global, world: World<'_>) -> Result<Option<Either>, AllocError> {
+    let rows = first_rows(alloc, ABC)?;
+    match Tables::with(alloc, &rows) {
+        Ok(hub) => populate(alloc, Either::Tables(hub), world),
         Err(_) => Ok(None),
     }
 }

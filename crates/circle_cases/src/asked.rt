@@ -1,9 +1,9 @@
 //! ask|QUESTION|ONE|OTHER: the answers of the small directory.
 use crate::told;
 use crate::world::world;
-use crate::written::number_of;
 use circle_rows::DirectoryRows;
 use std::alloc::{AllocError, Global};
+use trying::number_of;
 
 /// Returns the answer to a test of a number, or of two.
 fn is_so(rows: &DirectoryRows, question: &str, one: u32, other: u32) -> Option<bool> {

@@ -1,10 +1,10 @@
 //! The command that a line names.
-use crate::written::number_of;
 use circle::command::CircleCommand;
 use circle::directory::{Handling, Role};
 use circle::text::Text;
 use std::alloc::{AllocError, Global};
 use std::str::Split;
+use trying::number_of;
 
 /// The command's name with its numbers, its flag and its two texts.
 #[derive(Clone, Copy)]

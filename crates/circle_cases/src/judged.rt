@@ -2,12 +2,12 @@
 //! only ROLE for person 2 of organisation 2.
 use crate::commands::{Named, command_fields, command_of, role_of};
 use crate::told;
-use crate::written::number_of;
 use circle::command::{CircleCommand, CircleFacts};
 use circle::directory::{Person, Role};
 use circle::judge::judge;
 use circle::name::Name;
 use std::alloc::{AllocError, Global};
+use trying::number_of;
 
 /// The person who commands.
 #[derive(Clone, Copy)]

@@ -1,6 +1,6 @@
 //! Answers the cases on standard input, one a line, and prints each answer. A case is a command to judge (`judged`), a
 //! question to a small directory in memory (`asked`), or a text, a refusal or a code to show (`parts`). `told` says in
-//! which words. A line that begins with `#` is printed as it is.
+//! which words. It prints a line that begins with `#` as it is, and skips an empty one.
 #![tactic(auto)]
 
 mod asked;
@@ -13,21 +13,11 @@ mod written;
 
 use std::alloc::{AllocError, Global};
 use std::io;
-use std::io::Read;
+use trying::print_answers;
 
 fn main(rt: HostRuntime) -> io::Result<()> {
     let alloc = rt.alloc();
-    let mut table = String::new(alloc);
-    rt.reader().read_to_string(&mut table)?;
-    for line in table.lines() {
-        if line.starts_with('#') {
-            println!(rt; "{line}")?;
-        } else {
-            let answer = answer(alloc, line)?;
-            println!(rt; "{answer}")?;
-        }
-    }
-    Ok(())
+    print_answers(&rt, |line| answer(alloc, line))
 }
 
 fn answer(alloc: Global, line: &str) -> Result<String, AllocError> {

@@ -1,13 +1,14 @@
 //! name|TEXT, releasability|TEXT, text|ONE|OTHER, between|ONE|OTHER, refusal|CODE|DETAIL, code|CODE.
 use crate::told;
 use crate::told::Row;
-use crate::written::{number_of, text_of};
+use crate::written::text_of;
 use circle::directory::Connection;
 use circle::name::Name;
 use circle::refusal::{Code, Refusal};
 use circle::releasability::Releasability;
 use circle::text::Text;
 use std::alloc::{AllocError, Global};
+use trying::number_of;
 
 const CODES: [Code; 14] = [
     Code::K1,

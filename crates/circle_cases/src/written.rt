@@ -1,10 +1,6 @@
 //! The fields of a line.
 use std::alloc::{AllocError, Global};
-
-/// Returns the number, or 0.
-pub fn number_of(word: &str) -> u32 {
-    word.parse::<u32>().unwrap_or(0)
-}
+use trying::number_of;
 
 /// Returns the text of a field. `129*x` is so many times `x`, and a caret makes a control character of the one behind
 /// it (`^?` is delete, `^@` is 0).

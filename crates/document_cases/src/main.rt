@@ -1,5 +1,5 @@
 //! Answers the cases on standard input, one a line, and prints each answer. It prints a line that begins with `#` as it
-//! is.
+//! is, and skips an empty one.
 //!
 //! A case is a verb and what it is about. `<3*0,>` means `0,0,0,` in it. Pointers are written as JSON strings. An
 //! outline is its lines with a semicolon between them, each as DEPTH NAME KIND TEXT. The name of an element has `[]`
@@ -22,21 +22,9 @@ mod pointers;
 mod table;
 
 use std::io;
-use std::io::Read;
+use trying::print_answers;
 
 fn main(rt: HostRuntime) -> io::Result<()> {
-    let mut cases = String::new(rt.alloc());
-    rt.reader().read_to_string(&mut cases)?;
-    for line in cases.lines() {
-        print_answer(&rt, line)?;
-    }
-    Ok(())
-}
-
-fn print_answer(rt: &HostRuntime, line: &str) -> io::Result<()> {
-    if line.starts_with('#') {
-        return println!(rt; "{line}");
-    }
-    let answer = table::answer(rt.alloc(), line)?;
-    println!(rt; "{answer}")
+    let alloc = rt.alloc();
+    print_answers(&rt, |line| table::answer(alloc, line))
 }

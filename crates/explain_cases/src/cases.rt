@@ -11,10 +11,7 @@ use explain::{ExplainFault, Trace, explain};
 use iodef_tree::Path;
 use policy::{Gate, Rule};
 use std::alloc::{AllocError, Global};
-use trying_policy::{Report, Unfit, case_of, gate_word, permission_word, standing_of};
-
-/// The source of each case.
-const SOURCE: u32 = 2;
+use trying_policy::{Asker, Report, Unfit, gate_word, permission_word};
 
 /// Returns the answer of a line, with its newlines. The report is the one of the last line with one.
 pub fn answer(report: &mut Report, alloc: Global, line: &str) -> Result<String, Unfit> {
@@ -45,10 +42,9 @@ fn trace_of(
     pointer: &str,
 ) -> Result<Trace, Unfit> {
     let document = report.document()?;
-    let standing = standing_of(alloc, standing)?;
-    let case = case_of(alloc, SOURCE, gates, permissions)?;
+    let asker = Asker::of(alloc, standing, gates, permissions)?;
     let path = Path::parse(alloc, pointer)?;
-    match explain(alloc, document, &case, &standing, &path) {
+    match explain(alloc, document, &asker.case, &asker.standing, &path) {
         Ok(trace) => Ok(trace),
         Err(ExplainFault::NoClass) => Err(Unfit::NoClass),
         Err(ExplainFault::NoMemory) => Err(Unfit::NoMemory),

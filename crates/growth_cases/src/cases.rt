@@ -24,8 +24,8 @@
 use crate::documents::{Making, Reading};
 use crate::lists::{InLists, InTables, List};
 use crate::passes::Feeding;
-use crate::readers::{Asker, Asking};
-use crate::requests::{Asked, asked_by};
+use crate::readers::{Asking, asker_of};
+use crate::requests::MOMENT;
 use crate::searches::Seeking;
 use crate::serving::Serving;
 use crate::sweep::Sweep;
@@ -34,6 +34,7 @@ use std::alloc::{AllocError, Global};
 use trying::written_out;
 use trying_hub::Fields;
 use trying_policy::{Report, Unfit, said};
+use trying_shelves::{Asked, asked_by};
 
 /// What the lines so far have set up.
 #[derive(Drop)]
@@ -108,7 +109,7 @@ impl Cases {
         let mut fields = Fields::new(words);
         let asking = Asking {
             report: &self.report,
-            asker: Asker::of(alloc, &mut fields)?,
+            asker: asker_of(alloc, &mut fields)?,
             kind,
             word: fields.word(),
             class: fields.word(),
@@ -165,7 +166,7 @@ impl Cases {
         if self.block.is_empty() {
             return Ok(None);
         }
-        let own = asked_by(alloc, &self.block)?;
+        let own = asked_by(alloc, &self.block, MOMENT)?;
         self.block = Vec::new(alloc);
         let Some(world) = &self.world else {
             self.world = Some(own);

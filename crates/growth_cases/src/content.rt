@@ -1,10 +1,11 @@
 //! The content of a hub, as its callers read it.
 
 use crate::requests::MOMENT;
-use hub::{Hub, Key};
-use hub_core::{Request, Shelf};
+use hub::Key;
+use hub_core::Request;
 use hub_http::reply_bytes;
 use std::alloc::{AllocError, Global};
+use trying_shelves::Asks;
 
 /// More incidents than a case has.
 const INCIDENTS: u32 = 2;
@@ -21,10 +22,10 @@ fn readings(alloc: Global) -> Result<Vec<Request>, AllocError> {
     Ok(all)
 }
 
-fn push_told<Sh: Shelf>(
+fn push_told<A: Asks>(
     all: &mut Vec<u8>,
     alloc: Global,
-    hub: &mut Hub<Sh>,
+    hub: &mut A,
     key: &Key,
     readings: &[Request],
 ) -> Result<(), AllocError> {
@@ -36,11 +37,7 @@ fn push_told<Sh: Shelf>(
 }
 
 /// Returns the replies to the persons with these keys, about themselves and about each incident.
-pub fn content<Sh: Shelf>(
-    alloc: Global,
-    hub: &mut Hub<Sh>,
-    keys: &[Key],
-) -> Result<Vec<u8>, AllocError> {
+pub fn content<A: Asks>(alloc: Global, hub: &mut A, keys: &[Key]) -> Result<Vec<u8>, AllocError> {
     let readings = readings(alloc)?;
     let mut all = Vec::new(alloc);
     for key in keys {

@@ -2,14 +2,15 @@
 
 use crate::content::content;
 use crate::heap::{arm, disarm};
-use crate::requests::{Asked, keys};
+use crate::requests::keys;
 use crate::sweep::{Met, Trial};
 use crate::worlds::{in_lists, in_tables};
 use circle::refusal::{Code, Refusal};
-use hub::{Hub, Key};
-use hub_core::{Reply, Shelf};
+use hub::Key;
+use hub_core::Reply;
 use hub_http::reply_bytes;
 use std::alloc::{AllocError, Global};
+use trying_shelves::{Asked, Asks};
 
 /// The answers that are due for a list.
 #[derive(Drop)]
@@ -54,9 +55,9 @@ fn is_given_up(reply: &Reply) -> bool {
 }
 
 /// Returns the bytes of each reply of a hub in memory, which isn't asked one of the requests.
-fn replies_but<Sh: Shelf>(
+fn replies_but<A: Asks>(
     alloc: Global,
-    hub: &mut Hub<Sh>,
+    hub: &mut A,
     asked: &[Asked],
     but: Option<usize>,
 ) -> Result<Vec<Vec<u8>>, AllocError> {
@@ -149,10 +150,10 @@ impl<'a> List<'a> {
     }
 
     /// Returns what is wrong with these replies and with the hub's content after them, or none if nothing is.
-    fn fault<Sh: Shelf + Drop>(
+    fn fault<A: Asks + Drop>(
         &self,
         alloc: Global,
-        mut hub: Hub<Sh>,
+        mut hub: A,
         replies: &[Reply],
         due: &Due,
     ) -> Result<Option<String>, AllocError> {
@@ -163,17 +164,17 @@ impl<'a> List<'a> {
         if has.as_slice() != due.content.as_slice() {
             return Ok(Some(String::from_str(alloc, "another content")?));
         }
-        if hub.into_shelf().failures() > 0 {
+        if hub.failures() > 0 {
             return Ok(Some(String::from_str(alloc, "a failure of the shelf")?));
         }
         Ok(None)
     }
 
     /// Runs the list over a hub that has the world. Returns the outcome.
-    fn run_over<Sh: Shelf + Drop>(
+    fn run_over<A: Asks + Drop>(
         &self,
         alloc: Global,
-        mut hub: Hub<Sh>,
+        mut hub: A,
         n: u32,
     ) -> Result<Met, AllocError> {
         arm(alloc, n);
@@ -187,10 +188,10 @@ impl<'a> List<'a> {
     }
 
     /// Returns what is printed for a list that was run, or none if a request was given up and no growth refused.
-    fn judge<Sh: Shelf + Drop>(
+    fn judge<A: Asks + Drop>(
         &self,
         alloc: Global,
-        hub: Hub<Sh>,
+        hub: A,
         replies: &[Reply],
         refused: bool,
     ) -> Result<Option<String>, AllocError> {

@@ -2,13 +2,13 @@
 
 use crate::documents::met;
 use crate::heap::arm;
-use crate::readers::{Asker, show};
+use crate::readers::{asker_of, show};
 use crate::sweep::{Met, Trial};
 use iodef_tree::{Line, OutlineFault};
 use redact::RowPass;
 use std::alloc::{AllocError, Global};
 use trying_hub::Fields;
-use trying_policy::{Report, Unfit, said};
+use trying_policy::{Asker, Report, Unfit, said};
 
 /// A report, and the reader for whom its lines are fed, in words.
 #[derive(Clone, Copy)]
@@ -63,7 +63,7 @@ fn feed_lines(alloc: Global, asker: Asker, lines: Vec<Line>) -> Result<String, U
 impl Feeding<'_> {
     /// Returns the reader for whom the lines are fed, and the lines.
     fn fresh(&self, alloc: Global) -> Result<(Asker, Vec<Line>), Unfit> {
-        let asker = Asker::of(alloc, &mut Fields::new(self.reader))?;
+        let asker = asker_of(alloc, &mut Fields::new(self.reader))?;
         let lines = self.report.document()?.outline(alloc)?;
         Ok((asker, lines))
     }

@@ -9,30 +9,14 @@ use crate::heap::arm;
 use crate::sweep::{Met, Trial};
 use explain::{ExplainFault, explain};
 use iodef_tree::{Document, Path};
-use policy::{Case, Rule, Standing};
 use redact::{Excerpt, excerpt, finds, is_listed};
 use std::alloc::{AllocError, Global};
 use trying_hub::Fields;
-use trying_policy::{Report, Unfit, case_of, said, standing_of};
+use trying_policy::{Asker, Report, Unfit, said, served_text};
 
-/// The source of each case.
-const SOURCE: u32 = 2;
-
-/// The reader who asks for a report, and the case by which the report is judged.
-#[derive(Drop)]
-pub struct Asker {
-    pub standing: Standing,
-    pub case: Case,
-}
-
-impl Asker {
-    /// Reads the next three words: the reader, the gates and the permissions.
-    pub fn of(alloc: Global, fields: &mut Fields<'_>) -> Result<Asker, Unfit> {
-        Ok(Asker {
-            standing: standing_of(alloc, fields.word())?,
-            case: case_of(alloc, SOURCE, fields.word(), fields.word())?,
-        })
-    }
+/// Reads the next three words: the reader, the gates and the permissions.
+pub fn asker_of(alloc: Global, fields: &mut Fields<'_>) -> Result<Asker, Unfit> {
+    Asker::of(alloc, fields.word(), fields.word(), fields.word())
 }
 
 /// The question that a line asks about a report.
@@ -48,22 +32,9 @@ pub struct Asking<'a> {
     pub class: &'a str,
 }
 
-fn push_pair(all: &mut String, alloc: Global, place: &Path, rule: Rule) -> Result<(), AllocError> {
-    let pointer = place.print(alloc)?;
-    let rule = rule.name();
-    let pair = format!(in alloc; " {pointer}:{rule}")?;
-    all.push_str(pair.as_str())
-}
-
 /// Returns how many classes are visible, the document, and each withheld pair.
 pub fn show(alloc: Global, excerpt: &Excerpt) -> Result<String, Unfit> {
-    let classes = excerpt.classes;
-    let text = excerpt.document.text(alloc)?;
-    let mut all = format!(in alloc; "{classes} {text}")?;
-    for (place, rule) in &excerpt.withheld {
-        push_pair(&mut all, alloc, place, *rule)?;
-    }
-    Ok(all)
+    Ok(served_text(alloc, excerpt.classes, &excerpt.document, &excerpt.withheld)?)
 }
 
 fn serve(alloc: Global, document: &Document, asker: &Asker) -> Result<String, Unfit>

@@ -2,13 +2,13 @@
 
 use crate::documents::met;
 use crate::heap::arm;
-use crate::readers::Asker;
+use crate::readers::asker_of;
 use crate::sweep::{Met, Trial};
 use iodef_tree::{Line, OutlineFault};
 use redact::{Probe, Want};
 use std::alloc::{AllocError, Global};
 use trying_hub::Fields;
-use trying_policy::{Report, Unfit, said};
+use trying_policy::{Asker, Report, Unfit, said};
 
 /// A report, the reader for whom its lines are searched, and the want, in words.
 #[derive(Clone, Copy)]
@@ -89,7 +89,7 @@ impl Seeking<'_> {
     /// Returns the reader for whom the lines are searched, the want, and the lines.
     fn fresh(&self, alloc: Global) -> Result<(Asker, Want, Vec<Line>), Unfit> {
         let mut fields = Fields::new(self.words);
-        let asker = Asker::of(alloc, &mut fields)?;
+        let asker = asker_of(alloc, &mut fields)?;
         let needle = text_of(alloc, fields.word())?;
         let class = text_of(alloc, fields.word())?;
         let lines = self.report.document()?.outline(alloc)?;

@@ -6,10 +6,11 @@ use crate::requests::MOMENT;
 use crate::sweep::{Met, Trial};
 use crate::wire::{body_of, hub_behind, keys_shown, written};
 use circle::refusal::{Code, Refusal};
-use hub::{Hub, Key};
-use hub_core::{ListShelf, Reply};
-use hub_http::{ServeFault, Served, reply_bytes, serve_one};
+use hub::Key;
+use hub_core::Reply;
+use hub_http::{ServeFault, Served, reply_bytes};
 use std::alloc::{AllocError, Global};
+use trying_shelves::Lists;
 
 /// More bytes than a reply of the cases has, so that writing it takes no memory.
 const ROOM: usize = 65_536;
@@ -94,7 +95,7 @@ impl<'a> Serving<'a> {
     fn describe(
         &self,
         alloc: Global,
-        hub: &mut Hub<ListShelf>,
+        hub: &mut Lists,
         outcome: Outcome,
     ) -> Result<String, AllocError> {
         if outcome == Outcome::Wrong {
@@ -122,10 +123,9 @@ impl Trial for Serving<'_> {
                 told: None,
             });
         };
-        let mut reader = self.bytes;
         let mut out: Vec<u8> = Vec::with_capacity(alloc, ROOM)?;
         arm(alloc, n);
-        let served = serve_one(alloc, &mut reader, &mut out, &mut hub, MOMENT);
+        let served = hub.serve(alloc, self.bytes, &mut out, MOMENT);
         let refused = disarm(alloc);
         let outcome = self.outcome(served, &out);
         if outcome != Outcome::Due && !refused {

@@ -4,12 +4,13 @@ use crate::content::content;
 use crate::heap::{arm, disarm};
 use crate::requests::MOMENT;
 use crate::sweep::{Met, Trial};
-use hub::{Hub, Key};
-use hub_core::{ListShelf, Request};
-use hub_http::{Served, WireFault, key_of_text, reply_bytes, request_of, serve_one};
+use hub::Key;
+use hub_core::Request;
+use hub_http::{Served, WireFault, key_of_text, reply_bytes, request_of};
 use std::alloc::{AllocError, Global};
 use trying::written_out;
-use trying_hub::{ABC, first_shelf};
+use trying_hub::{ABC, first_rows};
+use trying_shelves::{Asks, Lists};
 
 /// Returns the bytes of a line, in which `\n` means CR and LF.
 pub fn bytes_of(alloc: Global, line: &str) -> Result<Vec<u8>, AllocError> {
@@ -34,25 +35,19 @@ pub fn keys_shown(alloc: Global) -> Result<Vec<Key>, AllocError> {
 }
 
 /// Returns what the hub writes for these bytes, or nothing if they weren't answered.
-pub fn written(
-    alloc: Global,
-    hub: &mut Hub<ListShelf>,
-    bytes: &[u8],
-) -> Result<Vec<u8>, AllocError> {
-    let mut reader = bytes;
+pub fn written(alloc: Global, hub: &mut Lists, bytes: &[u8]) -> Result<Vec<u8>, AllocError> {
     let mut out: Vec<u8> = Vec::new(alloc);
-    match serve_one(alloc, &mut reader, &mut out, hub, MOMENT) {
+    match hub.serve(alloc, bytes, &mut out, MOMENT) {
         Ok(Served::Answered) => Ok(out),
         _ => Ok(Vec::new(alloc)),
     }
 }
 
 /// Returns the hub in memory after these requests.
-pub fn hub_behind(alloc: Global, before: &[Vec<u8>]) -> Result<Option<Hub<ListShelf>>, AllocError> {
-    let Some(shelf) = first_shelf(alloc, ABC)? else {
+pub fn hub_behind(alloc: Global, before: &[Vec<u8>]) -> Result<Option<Lists>, AllocError> {
+    let Ok(mut hub) = Lists::with(alloc, &first_rows(alloc, ABC)?) else {
         return Ok(None);
     };
-    let mut hub = Hub::new(shelf);
     for bytes in before {
         written(alloc, &mut hub, bytes)?;
     }

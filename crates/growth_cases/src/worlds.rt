@@ -1,23 +1,19 @@
 //! Hubs over both shelves, after the requests with which all lists begin.
 
-use crate::requests::Asked;
-use hub::Hub;
-use hub_core::{ListShelf, Reply, Shelf};
-use hub_store::SqlShelf;
-use sqlite::{Connection, MemStore};
+use hub_core::{Reply, ShelfFault};
 use std::alloc::{AllocError, Global};
 use trying_hub::{first_rows, key_of};
+use trying_shelves::{Asked, Asks, Lists, Tables};
 
-/// Returns the hub over a shelf, empty before, after these requests; none if one of them is refused.
-fn populate<Sh: Shelf + Drop>(
+/// Asks these requests. Returns the hub, or none if it wasn't made or refuses one of them.
+fn populate<A: Asks + Drop>(
     alloc: Global,
-    mut shelf: Sh,
+    begun: Result<A, ShelfFault>,
     world: &[Asked],
-) -> Result<Option<Hub<Sh>>, AllocError> {
-    if shelf.apply(&first_rows(alloc, key_of(1))?).is_err() {
+) -> Result<Option<A>, AllocError> {
+    let Ok(mut hub) = begun else {
         return Ok(None);
-    }
-    let mut hub = Hub::new(shelf);
+    };
     let replies = hub.run(alloc, world)?;
     if replies
         .iter()
@@ -29,21 +25,13 @@ fn populate<Sh: Shelf + Drop>(
 }
 
 /// Returns the world in memory.
-pub fn in_lists(alloc: Global, world: &[Asked]) -> Result<Option<Hub<ListShelf>>, AllocError> {
-    populate(alloc, ListShelf::new(alloc), world)
+pub fn in_lists(alloc: Global, world: &[Asked]) -> Result<Option<Lists>, AllocError> {
+    let rows = first_rows(alloc, key_of(1))?;
+    populate(alloc, Lists::with(alloc, &rows), world)
 }
 
 /// Returns the world in new tables, over a connection that has no plans yet.
-pub fn in_tables(
-    alloc: Global,
-    world: &[Asked],
-) -> Result<Option<Hub<SqlShelf<MemStore>>>, AllocError> {
-    let conn = Connection::open_in_memory(alloc)?;
-    if !conn.is_autocommit() {
-        return Ok(None);
-    }
-    match SqlShelf::create(alloc, conn) {
-        Ok(shelf) => populate(alloc, shelf, world),
-        Err(_) => Ok(None),
-    }
+pub fn in_tables(alloc: Global, world: &[Asked]) -> Result<Option<Tables>, AllocError> {
+    let rows = first_rows(alloc, key_of(1))?;
+    populate(alloc, Tables::with(alloc, &rows), world)
 }

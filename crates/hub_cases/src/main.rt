@@ -33,15 +33,13 @@
 
 mod block;
 mod counted;
-mod failing;
 mod missing_row;
 mod old_store;
 mod openings;
 mod play;
 mod steps;
 mod stored_lines;
-mod tables;
-mod told;
+mod watched;
 mod world;
 
 use block::Block;

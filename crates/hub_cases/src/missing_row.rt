@@ -2,13 +2,9 @@
 
 use crate::block::Block;
 use crate::stored_lines::post_all;
-use crate::tables::open_tables;
-use crate::told::reply;
-use crate::world::requests_of;
-use hub::Hub;
-use hub_store::SqlShelf;
-use sqlite::{Connection, MemStore};
+use crate::world::moment_at;
 use std::alloc::{AllocError, Global};
+use trying_shelves::{Store, Tables, ask};
 
 /// Two reports, of which a stranger sees everything except for the event.
 const POSTS: [&str; 2] = [
@@ -58,14 +54,10 @@ const LOSSES: [Loss; 2] = [
     },
 ];
 
-/// Returns the shelf over the tables without that row, or none if the statement or the opening is refused.
-fn without_row(
-    alloc: Global,
-    mut conn: Connection<MemStore>,
-    taken: &str,
-) -> Option<SqlShelf<MemStore>> {
-    match conn.execute(taken, &[]) {
-        Ok(1) => open_tables(alloc, conn, false).ok(),
+/// Returns the tables without that row, or none if the statement or the opening is refused.
+fn without_row(alloc: Global, mut store: Store, taken: &str) -> Option<Tables> {
+    match store.change(taken) {
+        Some(1) => store.open(alloc, false).ok(),
         _ => None,
     }
 }
@@ -74,14 +66,13 @@ fn without_row(
 fn told_behind(alloc: Global, world: &Block, loss: Loss) -> Result<Vec<String>, AllocError> {
     let mut all = Vec::new(alloc);
     let whole = post_all(alloc, world, &POSTS)?;
-    let Some(shelf) = whole.and_then(|shelf| without_row(alloc, shelf.release(), loss.taken)) else {
+    let Some(mut tables) = whole.and_then(|tables| without_row(alloc, tables.release(), loss.taken))
+    else {
         all.push(String::from_str(alloc, "the row was not taken away")?)?;
         return Ok(all);
     };
-    let mut hub = Hub::new(shelf);
-    let asked = requests_of(alloc, loss.asked, None)?;
-    for (line, (now, key, request)) in loss.asked.iter().zip(asked.iter()) {
-        let told = reply(alloc, &hub.answer(alloc, *now, key, request))?;
+    for (i, line) in loss.asked.iter().enumerate() {
+        let told = ask(&mut tables, alloc, line, moment_at(i))?;
         let name = loss.name;
         all.push(format!(in alloc; "without {name}, {line}: {told}")?)?;
     }

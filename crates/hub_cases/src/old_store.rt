@@ -2,13 +2,9 @@
 //! class that one organisation may see, and one with a class for the communities of its source.
 
 use crate::openings::fault_told;
-use crate::tables::open_tables;
-use crate::told::reply;
-use crate::world::requests_of;
-use hub::Hub;
-use hub_store::SqlShelf;
-use sqlite::{Alter, Connection, MemStore};
+use crate::world::moment_at;
 use std::alloc::{AllocError, Global};
+use trying_shelves::{Store, Tables, ask};
 
 /// The tables of version 1.
 const TABLES: [&str; 10] = [
@@ -118,9 +114,9 @@ const UNREAD_TURNS: [(&str, bool); 2] = [
 ];
 
 /// Returns whether all statements were run.
-fn are_run(conn: &mut Connection<MemStore>, statements: &[&str]) -> bool {
+fn are_run(store: &mut Store, statements: &[&str]) -> bool {
     for text in statements {
-        if conn.execute(text, &[]).is_err() {
+        if store.change(text).is_none() {
             return false;
         }
     }
@@ -128,70 +124,59 @@ fn are_run(conn: &mut Connection<MemStore>, statements: &[&str]) -> bool {
 }
 
 /// Returns what person 4 sees of the first incident at the first and the last moment, and what person 6 sees of the
-/// second and why. Also returns the shelf.
-fn look<S: Alter + Drop>(
-    alloc: Global,
-    shelf: SqlShelf<S>,
-) -> Result<(String, SqlShelf<S>), AllocError> {
+/// second and why.
+fn look(alloc: Global, tables: &mut Tables) -> Result<String, AllocError> {
     let mut told = String::new(alloc);
-    let mut hub = Hub::new(shelf);
-    for (now, key, request) in &requests_of(alloc, &ASKED, None)? {
-        let answer = reply(alloc, &hub.answer(alloc, *now, key, request))?;
+    for (i, line) in ASKED.iter().enumerate() {
+        let answer = ask(tables, alloc, line, moment_at(i))?;
         told.push_str(if told.is_empty() { "" } else { "; " })?;
         told.push_str(answer.as_str())?;
     }
-    Ok((told, hub.into_shelf()))
+    Ok(told)
 }
 
-/// Opens the store or migrates it to the newest version. Returns what is seen then, or the fault, and the connection.
-fn told_by(
-    alloc: Global,
-    conn: Connection<MemStore>,
-    migrates: bool,
-) -> Result<(String, Connection<MemStore>), AllocError> {
-    match open_tables(alloc, conn, migrates) {
-        Ok(shelf) => {
-            let (told, shelf) = look(alloc, shelf)?;
-            Ok((told, shelf.release()))
+/// Opens the store or migrates it to the newest version. Returns what is seen then, or the fault, and the store.
+fn told_by(alloc: Global, store: Store, migrates: bool) -> Result<(String, Store), AllocError> {
+    match store.open(alloc, migrates) {
+        Ok(mut tables) => {
+            let told = look(alloc, &mut tables)?;
+            Ok((told, tables.release()))
         }
-        Err((fault, conn)) => Ok((fault_told(alloc, fault)?, conn)),
+        Err((fault, store)) => Ok((fault_told(alloc, fault)?, store)),
     }
 }
 
 /// Adds what is printed for a store that is opened or migrated in turn.
 fn in_turn(
     alloc: Global,
-    conn: Connection<MemStore>,
+    store: Store,
     turns: &[(&str, bool)],
     all: &mut Vec<String>,
 ) -> Result<(), AllocError> {
-    let mut conn = conn;
+    let mut store = store;
     for (what, migrates) in turns {
-        let (told, back) = told_by(alloc, conn, *migrates)?;
+        let (told, back) = told_by(alloc, store, *migrates)?;
         all.push(format!(in alloc; "{what}: {told}")?)?;
-        conn = back;
+        store = back;
     }
     Ok(())
 }
 
 /// Returns a store with the tables of version 1 and the rows of every version, or none if a statement is refused.
-fn begun(alloc: Global) -> Result<Option<Connection<MemStore>>, AllocError> {
-    let mut conn = Connection::open_in_memory(alloc)?;
-    if are_run(&mut conn, &TABLES) && are_run(&mut conn, &ROWS) {
-        Ok(Some(conn))
+fn begun(alloc: Global) -> Result<Option<Store>, AllocError> {
+    let mut store = Store::new(alloc)?;
+    if are_run(&mut store, &TABLES) && are_run(&mut store, &ROWS) {
+        Ok(Some(store))
     } else {
         Ok(None)
     }
 }
 
 /// Returns the store after these statements too, or none if one of them is refused.
-fn behind(
-    store: Option<Connection<MemStore>>,
-    statements: &[&str],
-) -> Option<Connection<MemStore>> {
-    let mut conn = store?;
-    if are_run(&mut conn, statements) {
-        Some(conn)
+fn behind(store: Option<Store>, statements: &[&str]) -> Option<Store> {
+    let mut store = store?;
+    if are_run(&mut store, statements) {
+        Some(store)
     } else {
         None
     }
@@ -200,12 +185,12 @@ fn behind(
 /// Adds what is printed for a store, if it was made.
 fn print_store(
     alloc: Global,
-    made: Option<Connection<MemStore>>,
+    made: Option<Store>,
     turns: &[(&str, bool)],
     all: &mut Vec<String>,
 ) -> Result<(), AllocError> {
     match made {
-        Some(conn) => in_turn(alloc, conn, turns, all),
+        Some(store) => in_turn(alloc, store, turns, all),
         None => Ok(all.push(String::from_str(alloc, "the statements were refused")?)?),
     }
 }

@@ -1,11 +1,11 @@
 //! Stores that are made and opened.
 
-use crate::tables::{begun, make_tables, open_tables};
-use hub_core::{Shelf, ShelfFault};
-use hub_store::{OpenFault, SqlShelf};
-use sqlite::{Alter, Connection};
+use crate::world::begun_in_tables;
+use hub_core::ShelfFault;
+use hub_store::OpenFault;
 use std::alloc::{AllocError, Global};
 use trying_hub::key_of;
+use trying_shelves::{Store, Tables};
 
 /// Returns the name of a fault.
 pub fn fault_told(alloc: Global, fault: OpenFault) -> Result<String, AllocError> {
@@ -19,47 +19,46 @@ pub fn fault_told(alloc: Global, fault: OpenFault) -> Result<String, AllocError>
 
 /// Returns how opening a store in memory ends, after these statements.
 fn told_of(alloc: Global, statements: &str, migrates: bool) -> Result<String, AllocError> {
-    let mut conn = Connection::open_in_memory(alloc)?;
-    if let Err(_) = conn.execute_batch(statements) {
+    let mut store = Store::new(alloc)?;
+    if !store.are_run(statements) {
         return String::from_str(alloc, "the statements were refused");
     }
-    match open_tables(alloc, conn, migrates) {
+    match store.open(alloc, migrates) {
         Ok(_) => String::from_str(alloc, "opened"),
         Err((fault, _)) => fault_told(alloc, fault),
     }
 }
 
-/// Returns the words for whether the shelf has the row with which it began.
-fn describe_content<S: Alter>(shelf: &mut SqlShelf<S>) -> &'static str {
-    match shelf.person_by_key(&key_of(1)) {
+/// Returns the words for whether the tables have the row with which they began.
+fn describe_content(tables: Tables) -> &'static str {
+    match tables.person_by_key(&key_of(1)) {
         Ok(Some(_)) => "person 1 is there",
         Ok(None) => "person 1 is missing",
         Err(_) => "the tables failed",
     }
 }
 
-/// Makes tables over the connection that a refused opening gave back. Returns the outcome.
+/// Makes tables in the store that a refused opening gave back. Returns the outcome.
 fn made_after_refusal(alloc: Global) -> Result<&'static str, AllocError> {
-    match open_tables(alloc, Connection::open_in_memory(alloc)?, false) {
+    match Store::new(alloc)?.open(alloc, false) {
         Ok(_) => Ok("opened"),
-        Err((_, conn)) => match make_tables(alloc, conn) {
+        Err((_, store)) => match store.make(alloc) {
             Ok(_) => Ok("made"),
             Err(_) => Ok("not made"),
         },
     }
 }
 
-/// Makes tables again over the connection of a store, which must be refused. Returns whether the store's rows are
-/// there.
+/// Makes tables again in a store that has them, which must be refused. Returns whether the store's rows are there.
 fn made_twice(alloc: Global) -> Result<&'static str, AllocError> {
-    let Some(shelf) = begun(alloc)? else {
+    let Some(tables) = begun_in_tables(alloc)? else {
         return Ok("not made");
     };
-    match make_tables(alloc, shelf.release()) {
+    match tables.release().make(alloc) {
         Ok(_) => Ok("made again"),
         Err((ShelfFault::NoMemory, _)) => Ok("no memory"),
-        Err((ShelfFault::Failed, conn)) => match open_tables(alloc, conn, false) {
-            Ok(mut again) => Ok(describe_content(&mut again)),
+        Err((ShelfFault::Failed, store)) => match store.open(alloc, false) {
+            Ok(again) => Ok(describe_content(again)),
             Err(_) => Ok("not opened"),
         },
     }
@@ -67,11 +66,11 @@ fn made_twice(alloc: Global) -> Result<&'static str, AllocError> {
 
 /// Opens a store that was released. Returns whether the store's rows are there.
 fn opened_again(alloc: Global, migrates: bool) -> Result<&'static str, AllocError> {
-    let Some(shelf) = begun(alloc)? else {
+    let Some(tables) = begun_in_tables(alloc)? else {
         return Ok("not made");
     };
-    match open_tables(alloc, shelf.release(), migrates) {
-        Ok(mut again) => Ok(describe_content(&mut again)),
+    match tables.release().open(alloc, migrates) {
+        Ok(again) => Ok(describe_content(again)),
         Err(_) => Ok("not opened"),
     }
 }

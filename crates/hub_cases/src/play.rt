@@ -2,14 +2,12 @@
 
 use crate::block::Block;
 use crate::counted::counts;
-use crate::failing::Failing;
 use crate::steps::limit_steps;
-use crate::world::{lines_of, requests_of};
-use crate::{tables, told};
-use hub::Hub;
-use hub_core::Shelf;
+use crate::watched::run_failing;
+use crate::world::{begun_in_memory, begun_in_tables, lines_of, moment_at, requests_of};
 use std::alloc::{AllocError, Global};
 use trying_hub::{first_shelf, key_of};
+use trying_shelves::{Asks, ask, replies_text};
 
 /// More calls of the shelf than a case makes.
 const MOST_CALLS: u64 = 10_000;
@@ -20,12 +18,12 @@ fn replies(
     lines: &[&str],
     but: Option<usize>,
 ) -> Result<Option<Vec<String>>, AllocError> {
-    let Some(shelf) = first_shelf(alloc, key_of(1))? else {
+    let Some(mut hub) = begun_in_memory(alloc)? else {
         return Ok(None);
     };
     let asked = requests_of(alloc, lines, but)?;
-    match Hub::new(shelf).run(alloc, &asked) {
-        Ok(list) => Ok(Some(told::replies(alloc, &list)?)),
+    match hub.run(alloc, &asked) {
+        Ok(list) => Ok(Some(replies_text(alloc, &list)?)),
         Err(_) => Ok(None),
     }
 }
@@ -40,19 +38,27 @@ fn replies_failing(
         return Ok(None);
     };
     let asked = requests_of(alloc, lines, None)?;
-    let mut hub = Hub::new(Failing {
-        shelf,
-        calls,
-        failures: 0,
-    });
-    let outcome = hub.run(alloc, &asked);
-    if hub.into_shelf().failures() == 0 {
+    match run_failing(alloc, shelf, &asked, calls) {
+        Some(list) => Ok(Some(replies_text(alloc, &list)?)),
+        None => Ok(None),
+    }
+}
+
+/// Returns the answers to the requests over tables that are released and opened again after each. Returns none if the
+/// tables failed or the memory doesn't suffice.
+fn replies_over_tables(alloc: Global, lines: &[&str]) -> Result<Option<Vec<String>>, AllocError> {
+    let Some(mut tables) = begun_in_tables(alloc)? else {
         return Ok(None);
+    };
+    let mut told = Vec::new(alloc);
+    for (i, line) in lines.iter().enumerate() {
+        told.push(ask(&mut tables, alloc, line, moment_at(i))?)?;
+        match tables.opened_anew(alloc) {
+            Some(again) => tables = again,
+            None => return Ok(None),
+        }
     }
-    match outcome {
-        Ok(list) => Ok(Some(told::replies(alloc, &list)?)),
-        Err(_) => Ok(None),
-    }
+    Ok(Some(told))
 }
 
 /// Returns whether all except for one are the same.
@@ -95,7 +101,7 @@ fn failed_in_turn(alloc: Global, lines: &[&str]) -> Result<&'static str, AllocEr
 
 /// Returns the words for whether the tables answer as the shelf in memory did.
 fn over_tables(alloc: Global, lines: &[&str], told: &[String]) -> Result<&'static str, AllocError> {
-    match tables::replies(alloc, lines)? {
+    match replies_over_tables(alloc, lines)? {
         Some(others) if others.iter().eq(told.iter()) => Ok("the same over tables"),
         Some(_) => Ok("other answers over tables"),
         None => Ok("the tables failed"),

@@ -1,14 +1,8 @@
 //! The hub over tables whose statements may take only so many steps.
 
-use crate::tables::begun;
-use crate::told::reply;
-use crate::world::requests_of;
-use hub::{Hub, Key};
-use hub_core::{ListShelf, Request};
-use hub_store::SqlShelf;
-use sqlite::MemStore;
+use crate::world::{begun_in_memory, begun_in_tables, requests_of};
 use std::alloc::{AllocError, Global};
-use trying_hub::{first_shelf, key_of};
+use trying_shelves::{Asked, Asks, Lists, Tables, reply_text};
 
 /// More steps than a statement of a case takes.
 const MOST_STEPS: u64 = 100_000;
@@ -25,14 +19,11 @@ const LOOKS: [&str; 8] = [
     "p6|View|1",
 ];
 
-/// A moment, the key of the caller, and the request.
-type Asked = (i64, Key, Request);
-
 /// Tables and a hub in memory that are asked the same, except for what the tables gave up.
 #[derive(Drop)]
 struct Trial {
-    tables: SqlShelf<MemStore>,
-    plain: Hub<ListShelf>,
+    tables: Tables,
+    plain: Lists,
     /// How many requests were given up.
     interruptions: u64,
     /// How many answers of the tables differed.
@@ -42,24 +33,21 @@ struct Trial {
 /// Returns the answer of the tables within so many steps a statement; 0 is no limit.
 fn answer_within(
     alloc: Global,
-    mut tables: SqlShelf<MemStore>,
+    tables: Tables,
     steps: u64,
     asked: &Asked,
-) -> Result<(String, SqlShelf<MemStore>), AllocError> {
-    tables.limit_steps(steps);
-    let mut hub = Hub::new(tables);
+) -> Result<(String, Tables), AllocError> {
+    let mut tables = tables.with_step_limit(steps);
     let (now, key, request) = asked;
-    let told = reply(alloc, &hub.answer(alloc, *now, key, request))?;
-    let mut again = hub.into_shelf();
-    again.limit_steps(0);
-    Ok((told, again))
+    let told = reply_text(alloc, &tables.answer(alloc, *now, key, request))?;
+    Ok((told, tables.with_step_limit(0)))
 }
 
 impl Trial {
     /// Counts a difference if the answer of the tables isn't that of the hub in memory.
     fn compare(&mut self, alloc: Global, told: &str, asked: &Asked) -> Result<(), AllocError> {
         let (now, key, request) = asked;
-        let other = reply(alloc, &self.plain.answer(alloc, *now, key, request))?;
+        let other = reply_text(alloc, &self.plain.answer(alloc, *now, key, request))?;
         if other.as_str() != told {
             self.differences = self.differences.saturating_add(1);
         }
@@ -132,15 +120,15 @@ fn try_limit(
     world: &[Asked],
     asked: &[Asked],
 ) -> Result<Option<Trial>, AllocError> {
-    let Some(tables) = begun(alloc)? else {
+    let Some(tables) = begun_in_tables(alloc)? else {
         return Ok(None);
     };
-    let Some(shelf) = first_shelf(alloc, key_of(1))? else {
+    let Some(plain) = begun_in_memory(alloc)? else {
         return Ok(None);
     };
     let trial = Trial {
         tables,
-        plain: Hub::new(shelf),
+        plain,
         interruptions: 0,
         differences: 0,
     };

@@ -1,43 +1,39 @@
 //! The rows in which the tables hold a report.
 
 use crate::block::Block;
-use crate::tables::begun;
-use crate::world::{lines_of, requests_of};
-use hub::Hub;
-use hub_store::SqlShelf;
-use sqlite::{Connection, MemStore};
+use crate::world::{begun_in_tables, lines_of, requests_of};
 use std::alloc::{AllocError, Global};
+use trying_shelves::{Asks, Store, Tables};
 
 /// Returns the tables, once these are posted after the requests of the world, or none if they aren't made.
 pub fn post_all(
     alloc: Global,
     world: &Block,
     posts: &[&str],
-) -> Result<Option<SqlShelf<MemStore>>, AllocError> {
+) -> Result<Option<Tables>, AllocError> {
     let mut block = Block::new(alloc);
     for post in posts {
         block.add(post)?;
     }
-    let Some(shelf) = begun(alloc)? else {
+    let Some(mut tables) = begun_in_tables(alloc)? else {
         return Ok(None);
     };
-    let mut hub = Hub::new(shelf);
     let asked = requests_of(alloc, &lines_of(alloc, world, &block)?, None)?;
-    match hub.run(alloc, &asked) {
-        Ok(_) => Ok(Some(hub.into_shelf())),
+    match tables.run(alloc, &asked) {
+        Ok(_) => Ok(Some(tables)),
         Err(_) => Ok(None),
     }
 }
 
 /// Returns the names of the lines, in the order of their incidents and places.
-fn names(alloc: Global, mut conn: Connection<MemStore>) -> Result<String, AllocError> {
-    let Ok(rows) = conn.query_all("SELECT name FROM item ORDER BY incident, place", &[]) else {
+fn names(alloc: Global, mut store: Store) -> Result<String, AllocError> {
+    let query = "SELECT name FROM item ORDER BY incident, place";
+    let Some(names) = store.column(alloc, query)? else {
         return String::from_str(alloc, "the tables failed");
     };
-    let count = rows.len();
+    let count = names.len();
     let mut all = format!(in alloc; "{count} lines:")?;
-    for row in &rows {
-        let name: String = row.get(0).unwrap_or(String::new(alloc));
+    for name in &names {
         all.push_str(" ")?;
         all.push_str(name.as_str())?;
     }
@@ -47,7 +43,7 @@ fn names(alloc: Global, mut conn: Connection<MemStore>) -> Result<String, AllocE
 /// Returns what is printed for a report of two events.
 pub fn describe(alloc: Global, world: &Block) -> Result<String, AllocError> {
     match post_all(alloc, world, &["p2|Post|3|-||DOC2"])? {
-        Some(shelf) => names(alloc, shelf.release()),
+        Some(tables) => names(alloc, tables.release()),
         None => String::from_str(alloc, "not posted"),
     }
 }

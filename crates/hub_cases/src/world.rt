@@ -1,11 +1,9 @@
-//! The requests with which each case begins.
+//! The requests of each case, their moments, and the hubs that are asked.
 
 use crate::block::Block;
-use hub::Key;
-use hub_core::Request;
 use std::alloc::{AllocError, Global};
-use trying::number_of;
-use trying_hub::{Fields, key_of, request_of};
+use trying_hub::{first_rows, key_of};
+use trying_shelves::{Asked, Lists, Tables, asked_of};
 
 /// The moment of the first request, in seconds since 1970. Each comes a second after the one before, unless its line
 /// names another moment.
@@ -30,27 +28,9 @@ pub fn lines_of<'a>(
     Ok(lines)
 }
 
-/// Returns the key by which the caller is known.
-fn caller(word: &str) -> Key {
-    match word.split_once('p') {
-        Some((_, number)) => Key::Digest(key_of(number_of(number))),
-        None => Key::Absent,
-    }
-}
-
-/// Returns the caller's key, and the moment if one is named: `p4`, or `p4 at 1717200000`.
-fn who_and_when(words: &str) -> (Key, Option<i64>) {
-    match words.split_once(" at ") {
-        Some((who, moment)) => (caller(who), moment.parse::<i64>().ok()),
-        None => (caller(words), None),
-    }
-}
-
-/// Returns the moment, the key and the request of a line. The moment is `now` if the line names none.
-fn asked_of(alloc: Global, line: &str, now: i64) -> Result<(i64, Key, Request), AllocError> {
-    let mut fields = Fields::new(line);
-    let (key, moment) = who_and_when(fields.word());
-    Ok((moment.unwrap_or(now), key, request_of(alloc, &mut fields)?))
+/// Returns the moment of the request at this place, if its line names none.
+pub fn moment_at(place: usize) -> i64 {
+    FIRST_MOMENT.saturating_add(i64::try_from(place).unwrap_or(0))
 }
 
 /// Returns the requests of these lines, except for one.
@@ -58,14 +38,22 @@ pub fn requests_of(
     alloc: Global,
     lines: &[&str],
     but: Option<usize>,
-) -> Result<Vec<(i64, Key, Request)>, AllocError> {
+) -> Result<Vec<Asked>, AllocError> {
     let mut asked = Vec::new(alloc);
-    let mut now = FIRST_MOMENT;
     for (i, line) in lines.iter().enumerate() {
         if but != Some(i) {
-            asked.push(asked_of(alloc, line, now)?)?;
+            asked.push(asked_of(alloc, line, moment_at(i))?)?;
         }
-        now = now.saturating_add(1);
     }
     Ok(asked)
+}
+
+/// Returns the hub in memory with organisation 1 and person 1, or none if it wasn't made.
+pub fn begun_in_memory(alloc: Global) -> Result<Option<Lists>, AllocError> {
+    Ok(Lists::with(alloc, &first_rows(alloc, key_of(1))?).ok())
+}
+
+/// Returns the same over new tables.
+pub fn begun_in_tables(alloc: Global) -> Result<Option<Tables>, AllocError> {
+    Ok(Tables::with(alloc, &first_rows(alloc, key_of(1))?).ok())
 }

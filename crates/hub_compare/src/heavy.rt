@@ -10,13 +10,14 @@
 //! 78th. So 15 are kept in the end: 3,900,000.
 
 use crate::fault::{Fault, agree};
-use crate::shelves::new_lists;
+use crate::reads::excerpt_of;
 use crate::world::World;
 use circle::directory::Role;
-use hub_core::{ListShelf, Shelf};
+use hub_core::ListShelf;
 use iodef_tree::Path;
 use kept_documents::KeptDocuments;
 use std::alloc::{AllocError, Global};
+use trying_shelves::Kept;
 
 /// The greatest weight of the kept documents: 15 of these reports, and not 16.
 pub const MOST_WEIGHT: usize = 4_000_000;
@@ -56,22 +57,14 @@ fn reports(alloc: Global) -> Result<World, Fault> {
     Ok(world)
 }
 
-/// Returns the shelf with the reports, none of which is kept.
-fn new_shelf(alloc: Global) -> Result<KeptDocuments<ListShelf, MOST_WEIGHT>, Fault> {
-    let edits = reports(alloc)?.into_edits()?;
-    match KeptDocuments::new(alloc, new_lists(alloc, edits.as_slice())?) {
-        Ok(kept) => Ok(kept),
-        Err((refused, _)) => Err(Fault::from(refused)),
-    }
-}
+/// The shelf of these reports.
+type Heavy = KeptDocuments<ListShelf, MOST_WEIGHT>;
 
 /// Asks for the report once. Fails if the kept documents weigh more than they may.
-fn ask(shelf: &mut KeptDocuments<ListShelf, MOST_WEIGHT>, incident: u32) -> Result<(), Fault> {
-    let (Some(case), Some(standing)) = (shelf.case(incident)?, shelf.standing(1, incident, 0)?)
-    else {
+fn ask(shelf: &mut Heavy, incident: u32) -> Result<(), Fault> {
+    let Some(excerpt) = excerpt_of(shelf, 1, incident, 0)? else {
         return Err(Fault::Differs("a case or a standing that is missing"));
     };
-    let excerpt = shelf.excerpt(incident, case, standing)?;
     agree(excerpt.is_some(), "an excerpt that is missing")?;
     agree(
         shelf.weight() <= MOST_WEIGHT,
@@ -79,13 +72,20 @@ fn ask(shelf: &mut KeptDocuments<ListShelf, MOST_WEIGHT>, incident: u32) -> Resu
     )
 }
 
-/// Returns the weight of the kept documents after each report was asked for twice.
-pub fn weight_in_the_end(alloc: Global) -> Result<usize, Fault> {
-    let mut shelf = new_shelf(alloc)?;
+/// Asks for each report twice.
+fn ask_all(shelf: &mut Heavy) -> Result<(), Fault> {
     for place in 0..REPORTS {
         let incident = place.saturating_add(1);
-        ask(&mut shelf, incident)?;
-        ask(&mut shelf, incident)?;
+        ask(shelf, incident)?;
+        ask(shelf, incident)?;
     }
+    Ok(())
+}
+
+/// Returns the weight of the kept documents after each report was asked for twice.
+pub fn weight_in_the_end(alloc: Global) -> Result<usize, Fault> {
+    let edits = reports(alloc)?.into_edits()?;
+    let mut shelf = Kept::<MOST_WEIGHT>::with(alloc, edits.as_slice())?.into_shelf();
+    ask_all(&mut shelf)?;
     Ok(shelf.weight())
 }

@@ -2,16 +2,12 @@
 
 use crate::fault::{Fault, agree};
 use crate::replies::{same_document, same_excerpt, same_groups};
-use crate::shelves::MOST_WEIGHT;
 use crate::world::{KEYS, key_of};
-use hub_core::{ListShelf, Shelf};
-use hub_store::SqlShelf;
-use kept_documents::KeptDocuments;
+use circle::directory::Person;
+use hub_core::{Shelf, ShelfFault};
 use policy::{Case, Gate, Permission, Standing};
-use sqlite::MemStore;
+use redact::Excerpt;
 use std::alloc::Global;
-
-type Tables = SqlShelf<MemStore>;
 
 /// How many incidents are read, and for how many persons their standings.
 const INCIDENTS: usize = 6;
@@ -57,29 +53,42 @@ fn same_standing(one: &Standing, other: &Standing) -> bool {
         && one.now == other.now
 }
 
+/// Compares the groups of the person.
+fn agree_on_groups<A: Shelf, B: Shelf>(
+    lists: &mut A,
+    tables: &mut B,
+    person: &Person,
+) -> Result<(), Fault> {
+    let groups = lists.groups_of(person)?;
+    let others = tables.groups_of(person)?;
+    agree(
+        same_groups(groups.as_slice(), others.as_slice()),
+        "the groups of a person",
+    )
+}
+
 /// Compares the person of this key, and its groups.
-fn agree_on_key(lists: &mut ListShelf, tables: &mut Tables, key: &[u8; 32]) -> Result<(), Fault> {
+fn agree_on_key<A: Shelf, B: Shelf>(
+    lists: &mut A,
+    tables: &mut B,
+    key: &[u8; 32],
+) -> Result<(), Fault> {
     let found = lists.person_by_key(key)?;
     let other = tables.person_by_key(key)?;
     agree(found == other, "the person of a key")?;
-    if let Some(person) = &found {
-        let groups = lists.groups_of(person)?;
-        let others = tables.groups_of(person)?;
-        agree(
-            same_groups(groups.as_slice(), others.as_slice()),
-            "the groups of a person",
-        )?;
+    match &found {
+        Some(person) => agree_on_groups(lists, tables, person),
+        None => Ok(()),
     }
-    Ok(())
 }
 
 /// The moment of the standings.
 const NOW: i64 = 1_000;
 
 /// Compares the person's standing to the incident, if it is there.
-fn agree_on_standing(
-    lists: &mut ListShelf,
-    tables: &mut Tables,
+fn agree_on_standing<A: Shelf, B: Shelf>(
+    lists: &mut A,
+    tables: &mut B,
     person: u32,
     incident: u32,
 ) -> Result<(), Fault> {
@@ -94,56 +103,85 @@ fn agree_on_standing(
     agree(alike, "a standing")
 }
 
-/// Compares the case of the incident, its document, and the standings of persons to it.
-fn agree_on_incident(
-    alloc: Global,
-    lists: &mut ListShelf,
-    tables: &mut Tables,
+/// Compares what the incident is judged by.
+fn agree_on_case<A: Shelf, B: Shelf>(
+    lists: &mut A,
+    tables: &mut B,
     incident: u32,
 ) -> Result<(), Fault> {
     let (Some(one), Some(other)) = (lists.case(incident)?, tables.case(incident)?) else {
         return Err(Fault::Differs("a case that is missing"));
     };
-    agree(same_case(&one, &other), "a case")?;
+    agree(same_case(&one, &other), "a case")
+}
+
+/// Compares the document of the incident.
+fn agree_on_document<A: Shelf, B: Shelf>(
+    alloc: Global,
+    lists: &mut A,
+    tables: &mut B,
+    incident: u32,
+) -> Result<(), Fault> {
     let (Some(one), Some(other)) = (lists.document(incident)?, tables.document(incident)?) else {
         return Err(Fault::Differs("a document that is missing"));
     };
-    agree(same_document(alloc, &one, &other)?, "a document")?;
+    agree(same_document(alloc, &one, &other)?, "a document")
+}
+
+/// Compares the case of the incident, its document, and the standings of persons to it.
+fn agree_on_incident<A: Shelf, B: Shelf>(
+    alloc: Global,
+    lists: &mut A,
+    tables: &mut B,
+    incident: u32,
+) -> Result<(), Fault> {
+    agree_on_case(lists, tables, incident)?;
+    agree_on_document(alloc, lists, tables, incident)?;
     for person in 0..PERSONS {
         agree_on_standing(lists, tables, person, incident)?;
     }
     Ok(())
 }
 
+/// Returns none if the case or the standing is missing; else what the person is served of the incident, or none.
+pub fn excerpt_of<Sh: Shelf>(
+    shelf: &mut Sh,
+    person: u32,
+    incident: u32,
+    now: i64,
+) -> Result<Option<Option<Excerpt>>, ShelfFault> {
+    let (Some(case), Some(standing)) = (
+        shelf.case(incident)?,
+        shelf.standing(person, incident, now)?,
+    ) else {
+        return Ok(None);
+    };
+    Ok(Some(shelf.excerpt(incident, case, standing)?))
+}
+
 /// Compares the excerpt of the incident for a person, if both are there.
-fn agree_on_excerpt(
+fn agree_on_excerpt<A: Shelf, B: Shelf>(
     alloc: Global,
-    lists: &mut ListShelf,
-    kept: &mut KeptDocuments<ListShelf, MOST_WEIGHT>,
+    lists: &mut A,
+    kept: &mut B,
     person: u32,
     incident: u32,
 ) -> Result<(), Fault> {
-    let (Some(case), Some(standing)) = (
-        lists.case(incident)?,
-        lists.standing(person, incident, NOW)?,
-    ) else {
+    let Some(one) = excerpt_of(lists, person, incident, NOW)? else {
         return Ok(());
     };
-    let one = lists.excerpt(incident, case, standing)?;
-    let (Some(case), Some(standing)) = (kept.case(incident)?, kept.standing(person, incident, NOW)?)
-    else {
+    let Some(other) = excerpt_of(kept, person, incident, NOW)? else {
         return Err(Fault::Differs("a case or a standing that is missing"));
     };
-    let other = kept.excerpt(incident, case, standing)?;
     agree(same_excerpt(alloc, &one, &other)?, "an excerpt")
 }
 
 /// Compares the excerpts of the shelf in memory with those of the one that keeps documents, which by then has some of
 /// them.
-pub fn agree_on_excerpts(
+fn agree_on_excerpts<A: Shelf, B: Shelf>(
     alloc: Global,
-    lists: &mut ListShelf,
-    kept: &mut KeptDocuments<ListShelf, MOST_WEIGHT>,
+    lists: &mut A,
+    kept: &mut B,
 ) -> Result<(), Fault> {
     let entries = lists.incidents_after(0, u32::MAX)?;
     for entry in entries.iter().take(INCIDENTS) {
@@ -155,10 +193,10 @@ pub fn agree_on_excerpts(
 }
 
 /// Compares the contents of both shelves.
-pub fn agree_on_reads(
+fn agree_on_reads<A: Shelf, B: Shelf>(
     alloc: Global,
-    lists: &mut ListShelf,
-    tables: &mut Tables,
+    lists: &mut A,
+    tables: &mut B,
 ) -> Result<(), Fault> {
     for number in 0..KEYS {
         agree_on_key(lists, tables, &key_of(number))?;
@@ -170,4 +208,15 @@ pub fn agree_on_reads(
         agree_on_incident(alloc, lists, tables, entry.number)?;
     }
     Ok(())
+}
+
+/// Compares what the shelf in memory has with the tables, and with the shelf that keeps documents.
+pub fn agree_on_shelves<A: Shelf, B: Shelf, C: Shelf>(
+    alloc: Global,
+    lists: &mut A,
+    tables: &mut B,
+    kept: &mut C,
+) -> Result<(), Fault> {
+    agree_on_reads(alloc, lists, tables)?;
+    agree_on_excerpts(alloc, lists, kept)
 }

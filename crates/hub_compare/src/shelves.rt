@@ -2,75 +2,30 @@
 
 use crate::asked::Asked;
 use crate::fault::{Fault, agree};
-use crate::reads::{agree_on_excerpts, agree_on_reads};
+use crate::reads::agree_on_shelves;
 use crate::replies::same_reply;
-use hub::Hub;
-use hub_core::{Edit, ListShelf, Reply, Shelf};
-use hub_store::SqlShelf;
-use kept_documents::KeptDocuments;
-use sqlite::{Connection, MemStore};
+use hub_core::{Edit, Reply};
 use std::alloc::Global;
+use trying_shelves::{Asks, Kept, Lists, Tables};
 
 /// The greatest weight of the documents that the third shelf keeps, so small that one takes the place of another.
-pub const MOST_WEIGHT: usize = 8192;
+const MOST_WEIGHT: usize = 8192;
 
 /// The hub over the shelf in memory, over SQL tables in memory, and over a shelf in memory that keeps documents.
 #[derive(Drop)]
 pub struct Shelves {
-    lists: Hub<ListShelf>,
-    tables: Hub<SqlShelf<MemStore>>,
-    kept: Hub<KeptDocuments<ListShelf, MOST_WEIGHT>>,
-}
-
-/// Returns a shelf in memory with these rows.
-pub fn new_lists(alloc: Global, edits: &[Edit]) -> Result<ListShelf, Fault> {
-    let mut lists = ListShelf::new(alloc);
-    lists.apply(edits)?;
-    Ok(lists)
-}
-
-/// Returns the same, which keeps documents.
-fn new_kept(alloc: Global, edits: &[Edit]) -> Result<KeptDocuments<ListShelf, MOST_WEIGHT>, Fault> {
-    match KeptDocuments::new(alloc, new_lists(alloc, edits)?) {
-        Ok(kept) => Ok(kept),
-        Err((refused, _)) => Err(Fault::from(refused)),
-    }
-}
-
-/// Returns new SQL tables without rows.
-fn new_tables(alloc: Global) -> Result<SqlShelf<MemStore>, Fault> {
-    let conn = Connection::open_in_memory(alloc)?;
-    if !conn.is_autocommit() {
-        return Err(Fault::Differs("a new connection in a transaction"));
-    }
-    match SqlShelf::create(alloc, conn) {
-        Ok(shelf) => Ok(shelf),
-        Err((fault, _)) => Err(Fault::from(fault)),
-    }
-}
-
-/// Returns the tables, released and opened again.
-fn opened_anew(alloc: Global, shelf: SqlShelf<MemStore>) -> Result<SqlShelf<MemStore>, Fault> {
-    agree(shelf.failures() == 0, "how often the tables failed")?;
-    let conn = shelf.release();
-    if !conn.is_autocommit() {
-        return Err(Fault::Differs("a connection given back in a transaction"));
-    }
-    match SqlShelf::open(alloc, conn) {
-        Ok(shelf) => Ok(shelf),
-        Err(_) => Err(Fault::Differs("tables that weren't opened")),
-    }
+    lists: Lists,
+    tables: Tables,
+    kept: Kept<MOST_WEIGHT>,
 }
 
 impl Shelves {
     /// Makes the shelves with these rows.
     pub fn new(alloc: Global, edits: &[Edit]) -> Result<Shelves, Fault> {
-        let mut tables = new_tables(alloc)?;
-        tables.apply(edits)?;
         Ok(Shelves {
-            lists: Hub::new(new_lists(alloc, edits)?),
-            tables: Hub::new(tables),
-            kept: Hub::new(new_kept(alloc, edits)?),
+            lists: Lists::with(alloc, edits)?,
+            tables: Tables::with(alloc, edits)?,
+            kept: Kept::with(alloc, edits)?,
         })
     }
 
@@ -95,12 +50,14 @@ impl Shelves {
             tables,
             kept,
         } = self;
-        let tables = opened_anew(alloc, tables.into_shelf())?;
-        Ok(Shelves {
-            lists,
-            tables: Hub::new(tables),
-            kept,
-        })
+        match tables.opened_anew(alloc) {
+            Some(tables) => Ok(Shelves {
+                lists,
+                tables,
+                kept,
+            }),
+            None => Err(Fault::Differs("tables that failed, or weren't opened anew")),
+        }
     }
 
     /// Compares the contents of the shelves.
@@ -110,12 +67,11 @@ impl Shelves {
             tables,
             kept,
         } = self;
-        let (mut lists, mut tables, mut kept) = (
-            lists.into_shelf(),
-            tables.into_shelf(),
-            kept.into_shelf(),
-        );
-        agree_on_reads(alloc, &mut lists, &mut tables)?;
-        agree_on_excerpts(alloc, &mut lists, &mut kept)
+        agree_on_shelves(
+            alloc,
+            &mut lists.into_shelf(),
+            &mut tables.into_shelf(),
+            &mut kept.into_shelf(),
+        )
     }
 }

@@ -1,5 +1,5 @@
 //! Answers the cases on standard input, one a line, and prints each answer. It prints a line that begins with `#` as it
-//! is. `<3*0,>` means `0,0,0,` in a line.
+//! is, and skips an empty one. `<3*0,>` means `0,0,0,` in a line.
 //!
 //! A case is ROLE ORG|FACTS|REQUEST|FIELD|FIELD.. with the fields of the request in their order: who asks (always
 //! person 2), the facts that the shelf found, and the request.
@@ -35,22 +35,11 @@ mod world;
 
 use std::alloc::{AllocError, Global};
 use std::io;
-use std::io::Read;
-use trying::written_out;
+use trying::{print_answers, written_out};
 
 fn main(rt: HostRuntime) -> io::Result<()> {
     let alloc = rt.alloc();
-    let mut cases = String::new(alloc);
-    rt.reader().read_to_string(&mut cases)?;
-    for line in cases.lines() {
-        if line.starts_with('#') {
-            println!(rt; "{line}")?;
-        } else {
-            let answer = answer(alloc, line)?;
-            println!(rt; "{answer}")?;
-        }
-    }
-    Ok(())
+    print_answers(&rt, |line| answer(alloc, line))
 }
 
 fn answer(alloc: Global, line: &str) -> Result<String, AllocError> {

@@ -1,45 +1,24 @@
 //! The test world: five organisations, six persons, two communities and a group.
 
 use circle::command::RowEdit;
-use circle::directory::{Account, Community, Group, GroupMember, Membership, Org, Person, Role};
+use circle::directory::{Community, Group, GroupMember, Membership, Role};
 use circle::name::Name;
 use circle::releasability::Releasability;
 use hub_core::Edit;
 use std::alloc::{AllocError, Global};
-use trying_hub::key_of;
+use trying_hub::{key_of, put_org, put_person};
 
-/// Returns an edit that puts an organisation. If there is no text, returns an edit that changes nothing.
-fn put_org(alloc: Global, number: u32, name: &str) -> Result<Edit, AllocError> {
-    Ok(Edit::Directory(match Name::of(alloc, name)? {
-        Some(name) => RowEdit::PutOrg(Org { number, name }),
-        None => RowEdit::Suspend(0),
-    }))
-}
+/// Number, organisation, name and role.
+const PERSONS: &[(u32, u32, &str, Role)] = &[
+    (1, 1, "p1", Role::Administrator),
+    (2, 2, "p2", Role::Coordinator),
+    (3, 3, "p3", Role::Coordinator),
+    (4, 4, "p4", Role::Reader),
+    (5, 5, "p5", Role::Coordinator),
+    (6, 3, "p6", Role::Reader),
+];
 
-fn put_person(
-    alloc: Global,
-    number: u32,
-    org: u32,
-    name: &str,
-    role: Role,
-) -> Result<Edit, AllocError> {
-    let key = key_of(number);
-    Ok(Edit::Directory(match Name::of(alloc, name)? {
-        Some(name) => {
-            let person = Person {
-                number,
-                org,
-                name,
-                role,
-                active: true,
-                nominated: false,
-            };
-            RowEdit::PutAccount(Account { person, key })
-        }
-        None => RowEdit::Suspend(0),
-    }))
-}
-
+/// Returns an edit that puts a community. If the name is out of the limits, returns an edit that changes nothing.
 fn put_community(alloc: Global, number: u32, name: &str) -> Result<Edit, AllocError> {
     Ok(Edit::Directory(match Name::of(alloc, name)? {
         Some(name) => RowEdit::PutCommunity(Community { number, name }),
@@ -62,13 +41,11 @@ fn put_group(alloc: Global, number: u32, owner: u32, name: &str) -> Result<Edit,
     ))
 }
 
-fn put_persons(alloc: Global, edits: &mut Vec<Edit>) -> Result<(), AllocError> {
-    edits.push(put_person(alloc, 1, 1, "p1", Role::Administrator)?)?;
-    edits.push(put_person(alloc, 2, 2, "p2", Role::Coordinator)?)?;
-    edits.push(put_person(alloc, 3, 3, "p3", Role::Coordinator)?)?;
-    edits.push(put_person(alloc, 4, 4, "p4", Role::Reader)?)?;
-    edits.push(put_person(alloc, 5, 5, "p5", Role::Coordinator)?)?;
-    edits.push(put_person(alloc, 6, 3, "p6", Role::Reader)?)?;
+fn push_persons(edits: &mut Vec<Edit>, alloc: Global) -> Result<(), AllocError> {
+    for &(number, org, name, role) in PERSONS {
+        let key = key_of(number);
+        edits.push(put_person(alloc, number, org, name, role, key)?)?;
+    }
     Ok(())
 }
 
@@ -78,7 +55,7 @@ pub fn world(alloc: Global) -> Result<Vec<Edit>, AllocError> {
     for (number, name) in [(1, "Hub"), (2, "Src"), (3, "Mem"), (4, "Far"), (5, "Cli")] {
         edits.push(put_org(alloc, number, name)?)?;
     }
-    put_persons(alloc, &mut edits)?;
+    push_persons(&mut edits, alloc)?;
     edits.push(put_community(alloc, 1, "east")?)?;
     edits.push(put_community(alloc, 2, "west")?)?;
     for (community, org) in [(1, 2), (1, 3), (2, 4)] {

@@ -1,6 +1,5 @@
 //! The request in the bytes of a message, in words.
 
-use crate::bytes::bytes_of;
 use crate::commands::command;
 use hub::Key;
 use hub_core::{
@@ -9,6 +8,7 @@ use hub_core::{
 };
 use hub_http::request_of;
 use std::alloc::{AllocError, Global};
+use trying::bytes_of;
 use trying_policy::kind_of;
 
 /// The longest document that is printed whole, in bytes.

@@ -1,6 +1,6 @@
-//! Answers the cases on standard input, one a line, and prints each answer. A line that begins with `#` is printed as
-//! it is. In the output `\r` and `\n` mean CR and LF. They do so too in the bytes of a request, where `\x41` is any
-//! byte (`\x5c` the backslash) and `<3*a:b\r\n>` is three times what follows the star.
+//! Answers the cases on standard input, one a line, and prints each answer. It prints a line that begins with `#` as it
+//! is, and skips an empty one. In the output `\r` and `\n` mean CR and LF. They do so too in the bytes of a request,
+//! where `\x41` is any byte (`\x5c` the backslash) and `<3*a:b\r\n>` is three times what follows the star.
 //!
 //! A request: `asked|BYTES`, answered by the key and the request, or by the first fault of the bytes.
 //!
@@ -35,7 +35,6 @@
 #![tactic(auto)]
 
 mod asked;
-mod bytes;
 mod commands;
 mod content;
 mod replies;
@@ -48,7 +47,7 @@ use hub::Hub;
 use hub_core::ListShelf;
 use std::alloc::{AllocError, Global};
 use std::io;
-use std::io::Read;
+use trying::print_answers;
 use trying_hub::{ABC, first_shelf};
 
 fn answer(alloc: Global, hub: &mut Hub<ListShelf>, line: &str) -> Result<String, AllocError> {
@@ -64,19 +63,9 @@ fn answer(alloc: Global, hub: &mut Hub<ListShelf>, line: &str) -> Result<String,
 
 fn main(rt: HostRuntime) -> io::Result<()> {
     let alloc = rt.alloc();
-    let mut table = String::new(alloc);
-    rt.reader().read_to_string(&mut table)?;
     let Some(shelf) = first_shelf(alloc, ABC)? else {
         return Ok(());
     };
     let mut hub = Hub::new(shelf);
-    for line in table.lines() {
-        if line.starts_with('#') {
-            println!(rt; "{line}")?;
-        } else {
-            let answer = answer(alloc, &mut hub, line)?;
-            println!(rt; "{answer}")?;
-        }
-    }
-    Ok(())
+    print_answers(&rt, |line| answer(alloc, &mut hub, line))
 }

@@ -1,6 +1,5 @@
 //! Serves a request over memory, in the way that the line names.
 
-use crate::bytes::bytes_of;
 use crate::content::content;
 use crate::streams::{Disturbed, Drip, Full, Narrow};
 use crate::written::shown_bytes;
@@ -8,6 +7,7 @@ use hub::Hub;
 use hub_core::ListShelf;
 use hub_http::{ServeFault, Served, serve_one};
 use std::alloc::{AllocError, Global};
+use trying::bytes_of;
 
 /// The moment of each request, in seconds since 1970.
 pub const NOW: i64 = 1_700_000_000;

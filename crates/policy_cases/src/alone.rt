@@ -2,14 +2,13 @@
 
 use crate::labels::{compared, read_label};
 use crate::line::Line;
-use crate::served::SOURCE;
 use crate::verdicts::{describe_clearance, given_back, groups_given_back, passed};
 use iodef_tree::Path;
 use marking::is_incident;
 use policy::{Gate, MomentFault, Standing, includes, read_moment};
 use std::alloc::Global;
 use trying_policy::{
-    Unfit, arranged_of, case_of, grantee_of, handling_of, passage_of, said, standing_of,
+    SOURCE, Unfit, arranged_of, case_of, grantee_of, handling_of, passage_of, said, standing_of,
 };
 
 fn truth(alloc: Global, holds: bool) -> Result<String, Unfit> {

@@ -13,30 +13,13 @@ mod verdicts;
 
 use std::alloc::{AllocError, Global};
 use std::io;
-use std::io::Read;
+use trying::print_answers;
 use trying_policy::Report;
 
 fn main(rt: HostRuntime) -> io::Result<()> {
-    let mut lines = String::new(rt.alloc());
-    rt.reader().read_to_string(&mut lines)?;
-    answer_all(&rt, lines.as_str())
-}
-
-fn answer_all(rt: &HostRuntime, lines: &str) -> io::Result<()> {
+    let alloc = rt.alloc();
     let mut report = Report::new();
-    for line in lines.lines() {
-        if line.starts_with('#') {
-            println!(rt; "{line}")?;
-        } else if !line.is_empty() {
-            print_answer(rt, &mut report, line)?;
-        }
-    }
-    Ok(())
-}
-
-fn print_answer(rt: &HostRuntime, report: &mut Report, line: &str) -> io::Result<()> {
-    let answer = answer(report, rt.alloc(), line)?;
-    println!(rt; "{answer}")
+    print_answers(&rt, |line| answer(&mut report, alloc, line))
 }
 
 /// Returns the answer of a line, or why there is none.

@@ -1,11 +1,10 @@
 //! A search that is fed lines one at a time.
 
 use crate::rows::line_of;
-use crate::served::Asker;
 use iodef_tree::{Document, Line, OutlineFault};
 use redact::{Probe, Want};
 use std::alloc::{AllocError, Global};
-use trying_policy::Unfit;
+use trying_policy::{Asker, Unfit};
 
 /// Returns the text, or none if it is empty.
 fn text_of(alloc: Global, word: &str) -> Result<Option<String>, AllocError> {

@@ -1,10 +1,10 @@
 //! A pass that is fed lines one at a time.
 
-use crate::served::{Asker, show};
+use crate::served::show;
 use iodef_tree::{Document, Kind, Line, OutlineFault, Text};
 use redact::RowPass;
 use std::alloc::Global;
-use trying_policy::{Unfit, number_of, said};
+use trying_policy::{Asker, Unfit, number_of, said};
 
 /// Returns what the pass answers to one more line.
 fn answer_of(pass: &mut RowPass, line: Line) -> Result<&'static str, Unfit> {

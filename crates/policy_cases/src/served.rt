@@ -9,45 +9,18 @@ use crate::line::Line;
 use crate::rows::served_by_lines;
 use crate::verdicts::verdicts;
 use iodef_tree::{Document, Path};
-use policy::{Case, Rule, Standing};
 use redact::{Excerpt, excerpt, finds, is_listed};
-use std::alloc::{AllocError, Global};
-use trying_policy::{Unfit, case_of, said, standing_of};
-
-/// The source of each case.
-pub const SOURCE: u32 = 2;
-
-/// The reader who asks about a report, and the case by which it is judged.
-#[derive(Drop)]
-pub struct Asker {
-    pub standing: Standing,
-    pub case: Case,
-}
+use std::alloc::Global;
+use trying_policy::{Asker, Unfit, said, served_text};
 
 /// Returns the reader and the case of the line.
 pub fn asker_of(alloc: Global, line: &Line<'_>) -> Result<Asker, Unfit> {
-    Ok(Asker {
-        standing: standing_of(alloc, line.first)?,
-        case: case_of(alloc, SOURCE, line.second, line.third.unwrap_or(""))?,
-    })
-}
-
-fn push_pair(told: &mut String, alloc: Global, place: &Path, rule: Rule) -> Result<(), AllocError> {
-    let pointer = place.print(alloc)?;
-    let rule = rule.name();
-    let pair = format!(in alloc; " {pointer}:{rule}")?;
-    told.push_str(pair.as_str())
+    Asker::of(alloc, line.first, line.second, line.third.unwrap_or(""))
 }
 
 /// Returns how many classes are visible, the document, and each withheld pair.
 pub fn show(alloc: Global, excerpt: &Excerpt) -> Result<String, Unfit> {
-    let classes = excerpt.classes;
-    let text = excerpt.document.text(alloc)?;
-    let mut told = format!(in alloc; "{classes} {text}")?;
-    for (place, rule) in &excerpt.withheld {
-        push_pair(&mut told, alloc, place, *rule)?;
-    }
-    Ok(told)
+    Ok(served_text(alloc, excerpt.classes, &excerpt.document, &excerpt.withheld)?)
 }
 
 fn serve(alloc: Global, document: &Document, asker: &Asker) -> Result<String, Unfit>

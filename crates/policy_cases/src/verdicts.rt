@@ -4,11 +4,10 @@ ghost use Rattle.std.specs.Prelude.{◌≡◌, None};
 ghost use Rattle.iodef_tree.specs.Paths.{located};
 ghost use Rattle.marking.specs.Marks.{first_bad_marking};
 
-use crate::served::Asker;
 use iodef_tree::{Document, Path};
 use policy::{Case, DecideFault, Gate, Standing, Verdict, clearance, decide, passes};
 use std::alloc::{AllocError, Global};
-use trying_policy::{Unfit, gate_word, permission_word};
+use trying_policy::{Asker, Unfit, gate_word, permission_word};
 
 pub fn describe_clearance(alloc: Global, standing: &Standing) -> Result<String, Unfit> {
     let (handling, rule) = clearance(standing);

@@ -1,11 +1,11 @@
 //! The words of a start.
 
 use crate::place::Place;
-use crate::texts::bytes_of;
 use std::alloc::{AllocError, Global};
 use std::env::{Args, Env, FillError};
 use std::io::ErrorKind;
 use std::{env, io};
+use trying::bytes_of;
 
 /// The program's name and the words behind it.
 #[derive(Drop)]

@@ -1,10 +1,10 @@
 //! The lines of a case.
 
-use crate::requests::asked_by;
-use crate::steps::Asked;
+use crate::content::MOMENT;
 use crate::stores::Way;
 use std::alloc::{AllocError, Global};
 use trying::number_of;
+use trying_shelves::{Asked, asked_by};
 
 #[derive(Drop)]
 pub struct Block {
@@ -68,6 +68,6 @@ impl Block {
     }
 
     pub fn requests(&self) -> Result<Vec<Asked>, AllocError> {
-        asked_by(self.alloc, &self.requests)
+        asked_by(self.alloc, &self.requests, MOMENT)
     }
 }

@@ -3,13 +3,13 @@
 use crate::block::Block;
 use crate::due::{Due, due_of};
 use crate::files::{Kept, NEVER};
-use crate::lists::{are_made, begun};
-use crate::steps::{Asked, Steps};
+use crate::lists::are_made;
+use crate::steps::Steps;
 use crate::stops::{Case, Stops};
 use crate::stores::{Way, run_statements};
-use hub::Hub;
-use hub_core::{Edit, ListShelf};
+use hub_core::Edit;
 use std::alloc::{AllocError, Global};
+use trying_shelves::{Asked, Lists};
 
 /// The first rows and the requests with which each case begins.
 #[derive(Clone, Copy)]
@@ -47,11 +47,11 @@ impl World<'_> {
 
     /// Returns the hub in memory with the content of the store that is taken, or none if one of the requests isn't
     /// made.
-    fn hub(&self, alloc: Global, way: Way, asked: &[Asked]) -> Option<Hub<ListShelf>> {
+    fn hub(&self, alloc: Global, way: Way, asked: &[Asked]) -> Option<Lists> {
         if let Way::Make = way {
-            return begun(alloc, &[]);
+            return Lists::with(alloc, &[]).ok();
         }
-        let mut hub = begun(alloc, self.rows)?;
+        let mut hub = Lists::with(alloc, self.rows).ok()?;
         let is_made = are_made(alloc, &mut hub, self.asked);
         let is_made = is_made && (matches!(way, Way::Open) || are_made(alloc, &mut hub, asked));
         if is_made { Some(hub) } else { None }

@@ -1,9 +1,8 @@
 //! The lines of the table.
 //!
-//! The first block sets up the organisations, persons and groups: one request a line, WHO|REQUEST|FIELD|FIELD.. with
-//! the fields in the request's order; WHO is `p4` for person 4, or `nobody`. `requests` of `trying_hub` says what a
-//! field may say. These requests come before those of each later block. The store begins with organisation 1 and its
-//! administrator, person 1.
+//! The first block sets up the organisations, persons and groups: one request a line, WHO|REQUEST|FIELD|FIELD.. as
+//! `asked` of `trying_shelves` reads it. `requests` of `trying_hub` says what a field may say. These requests come
+//! before those of each later block. The store begins with organisation 1 and its administrator, person 1.
 //!
 //! A block of requests is a case that asks them. A block with the line `create` makes a store. A block with lines
 //! `sql|STATEMENT` migrates the store that these statements make, of the version of a line `version|NUMBER`; its
@@ -11,9 +10,9 @@
 
 use crate::block::Block;
 use crate::case::World;
-use crate::steps::Asked;
 use hub_core::Edit;
 use std::alloc::{AllocError, Global};
+use trying_shelves::Asked;
 
 /// What the lines so far have set up.
 #[derive(Drop)]

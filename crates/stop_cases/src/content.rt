@@ -1,11 +1,16 @@
 //! The content of a hub, as its callers read it.
 
-use crate::requests::{LATER, MOMENT};
-use crate::told::reply;
-use hub::{Hub, Key};
-use hub_core::{Request, Shelf};
+use hub::Key;
+use hub_core::Request;
 use std::alloc::{AllocError, Global};
 use trying_hub::key_of;
+use trying_shelves::{Asks, reply_text};
+
+/// The moment of readings, and of each request whose line names none, in seconds since 1970.
+pub const MOMENT: i64 = 1_700_000_000;
+
+/// A later moment of readings.
+const LATER: i64 = 1_700_001_000;
 
 /// How many persons the cases have.
 const PERSONS: u32 = 6;
@@ -28,15 +33,15 @@ fn readings(alloc: Global) -> Result<Vec<Reading>, AllocError> {
     Ok(all)
 }
 
-fn push_told<Sh: Shelf>(
+fn push_told<A: Asks>(
     all: &mut String,
     alloc: Global,
-    hub: &mut Hub<Sh>,
+    hub: &mut A,
     key: &Key,
     readings: &[Reading],
 ) -> Result<(), AllocError> {
     for (now, request) in readings {
-        let told = reply(alloc, &hub.answer(alloc, *now, key, request))?;
+        let told = reply_text(alloc, &hub.answer(alloc, *now, key, request))?;
         all.push_str("; ")?;
         all.push_str(told.as_str())?;
     }
@@ -44,7 +49,7 @@ fn push_told<Sh: Shelf>(
 }
 
 /// Returns the replies to all persons of the cases.
-pub fn content<Sh: Shelf>(alloc: Global, hub: &mut Hub<Sh>) -> Result<String, AllocError> {
+pub fn content<A: Asks>(alloc: Global, hub: &mut A) -> Result<String, AllocError> {
     let readings = readings(alloc)?;
     let mut all = String::new(alloc);
     for person in 1..=PERSONS {

@@ -2,11 +2,10 @@
 
 use crate::content::content;
 use crate::lists::is_made;
-use crate::steps::{Asked, Steps};
+use crate::steps::Steps;
 use crate::stores::Way;
-use hub::Hub;
-use hub_core::{Edit, ListShelf, Shelf};
 use std::alloc::{AllocError, Global};
+use trying_shelves::{Asked, Asks, Lists};
 
 /// What is due for some steps.
 #[derive(Drop)]
@@ -18,12 +17,7 @@ pub struct Due {
 }
 
 impl Due {
-    fn push(
-        &mut self,
-        alloc: Global,
-        is_change: bool,
-        hub: &mut Hub<ListShelf>,
-    ) -> Result<(), AllocError> {
+    fn push(&mut self, alloc: Global, is_change: bool, hub: &mut Lists) -> Result<(), AllocError> {
         self.changes.push(is_change)?;
         self.told.push(content(alloc, hub)?)?;
         Ok(())
@@ -32,7 +26,7 @@ impl Due {
     fn push_asked(
         &mut self,
         alloc: Global,
-        mut hub: Hub<ListShelf>,
+        mut hub: Lists,
         asked: &[Asked],
     ) -> Result<(), AllocError> {
         for (now, key, request) in asked {
@@ -52,7 +46,7 @@ impl Due {
 }
 
 /// Returns what is due if the store isn't taken yet, and if it is.
-fn of_taking(alloc: Global, way: Way, hub: &mut Hub<ListShelf>) -> Result<Due, AllocError> {
+fn of_taking(alloc: Global, way: Way, hub: &mut Lists) -> Result<Due, AllocError> {
     let mut due = Due {
         told: Vec::new(alloc),
         changes: Vec::new(alloc),
@@ -69,19 +63,12 @@ fn of_taking(alloc: Global, way: Way, hub: &mut Hub<ListShelf>) -> Result<Due, A
     Ok(due)
 }
 
-/// Returns the hub with these rows added.
-fn with_rows(hub: Hub<ListShelf>, rows: &[Edit]) -> Hub<ListShelf> {
-    let mut shelf = hub.into_shelf();
-    let _ = shelf.apply(rows);
-    Hub::new(shelf)
-}
-
 /// Returns what is due for steps, by a hub with the content of the store that is taken.
-pub fn due_of(alloc: Global, steps: &Steps<'_>, hub: Hub<ListShelf>) -> Result<Due, AllocError> {
+pub fn due_of(alloc: Global, steps: &Steps<'_>, hub: Lists) -> Result<Due, AllocError> {
     let mut hub = hub;
     let mut due = of_taking(alloc, steps.way, &mut hub)?;
     if !steps.rows.is_empty() {
-        hub = with_rows(hub, steps.rows);
+        hub = hub.with_rows(steps.rows)?;
         due.push(alloc, true, &mut hub)?;
     }
     due.push_asked(alloc, hub, steps.asked)?;

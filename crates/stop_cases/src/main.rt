@@ -45,11 +45,9 @@ mod due;
 mod files;
 mod found;
 mod lists;
-mod requests;
 mod steps;
 mod stops;
 mod stores;
-mod told;
 
 use cases::Cases;
 use std::io;

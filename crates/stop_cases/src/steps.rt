@@ -3,15 +3,13 @@
 use crate::files::{Kept, NEVER, Stopping, take_calls};
 use crate::stores::{Stored, Way, leave, shelf_in};
 use circle::refusal::Code;
-use hub::{Hub, Key};
-use hub_core::{Edit, Reply, Request, Shelf};
+use hub::Hub;
+use hub_core::{Edit, Reply, Shelf};
 use hub_store::SqlShelf;
 use sqlite::Alter;
 use sqlite_disk::Files;
 use std::alloc::{AllocError, Global};
-
-/// A moment, in seconds since 1970, the key of the caller, and the request.
-pub type Asked = (i64, Key, Request);
+use trying_shelves::{Asked, Asks};
 
 /// The steps: a store is taken, gets the rows that a hub begins with, if there are any, and is asked.
 #[derive(Clone, Copy)]
@@ -53,7 +51,7 @@ fn end_play(done: usize, is_begun: bool, is_closed: bool, files: Files<Stopping>
 }
 
 /// Returns how many requests are answered before the first that is given up.
-fn count_answered<Sh: Shelf>(alloc: Global, hub: &mut Hub<Sh>, asked: &[Asked]) -> usize {
+fn count_answered<A: Asks>(alloc: Global, hub: &mut A, asked: &[Asked]) -> usize {
     for (i, (now, key, request)) in asked.iter().enumerate() {
         if is_given_up(&hub.answer(alloc, *now, key, request)) {
             return i;

@@ -6,6 +6,7 @@ use hub_store::{OpenFault, SqlShelf};
 use sqlite::{Alter, Connection, FileStore, Options};
 use sqlite_disk::Files;
 use std::alloc::{AllocError, Global};
+use trying_shelves::{are_run, make_tables, open_tables};
 
 pub type Stored = FileStore<Stopping>;
 
@@ -84,43 +85,16 @@ fn open_fault(fault: ShelfFault) -> OpenFault {
     }
 }
 
-/// Makes new tables over the connection. Returns the connection if they aren't made.
-fn make_tables<S: Alter + Drop>(
-    alloc: Global,
-    conn: Connection<S>,
-) -> Result<SqlShelf<S>, (OpenFault, Connection<S>)> {
-    if !conn.is_autocommit() {
-        return Err((OpenFault::Failed, conn));
-    }
-    match SqlShelf::create(alloc, conn) {
-        Ok(shelf) => Ok(shelf),
-        Err((fault, conn)) => Err((open_fault(fault), conn)),
-    }
-}
-
-/// Opens the tables of the connection, or migrates them to the newest version. Returns the shelf over them.
-fn open_tables<S: Alter + Drop>(
-    alloc: Global,
-    conn: Connection<S>,
-    migrates: bool,
-) -> Result<SqlShelf<S>, (OpenFault, Connection<S>)> {
-    if !conn.is_autocommit() {
-        return Err((OpenFault::Failed, conn));
-    }
-    if migrates {
-        SqlShelf::migrate(alloc, conn)
-    } else {
-        SqlShelf::open(alloc, conn)
-    }
-}
-
 fn taken<S: Alter + Drop>(
     alloc: Global,
     conn: Connection<S>,
     way: Way,
 ) -> Result<SqlShelf<S>, (OpenFault, Connection<S>)> {
     match way {
-        Way::Make => make_tables(alloc, conn),
+        Way::Make => match make_tables(alloc, conn) {
+            Ok(shelf) => Ok(shelf),
+            Err((fault, conn)) => Err((open_fault(fault), conn)),
+        },
         Way::Open => open_tables(alloc, conn, false),
         Way::Migrate(_) => open_tables(alloc, conn, true),
     }
@@ -141,11 +115,6 @@ pub fn shelf_in(
         Ok(shelf) => Ok(shelf),
         Err((fault, conn)) => Err((Some(fault), cut_off(conn))),
     }
-}
-
-/// Returns whether all statements were run.
-fn are_run<S: Alter + Drop>(conn: &mut Connection<S>, statements: &str) -> bool {
-    conn.execute_batch(statements).is_ok()
 }
 
 /// Returns the files of a connection, closed, after these statements; none if one is refused.

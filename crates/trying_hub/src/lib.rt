@@ -3,7 +3,7 @@
 //!
 //! The rooms: `fields`: [`Fields`], the fields of a line; `requests`: [`request_of`], the request that they name;
 //! `documents`: bodies by name; `commands`: [`command_of`], the directory's, and names of roles and commands; `rows`:
-//! [`first_rows`], [`first_shelf`]; `refusals`: [`refusal_text`].
+//! [`first_rows`], [`first_shelf`], [`put_org`], [`put_person`]; `refusals`: [`refusal_text`].
 //!
 //! The words have no contracts: one would say the same words again, and the programs' `stdout` shows what they make.
 #![tactic(auto)]
@@ -19,4 +19,4 @@ pub use commands::{command_name, command_of, key_of, role_name, role_of};
 pub use fields::Fields;
 pub use refusals::refusal_text;
 pub use requests::request_of;
-pub use rows::{ABC, first_rows, first_shelf};
+pub use rows::{ABC, first_rows, first_shelf, put_org, put_person};

@@ -1,24 +1,29 @@
-//! A shelf one of whose calls fails.
+//! A shelf that counts how often it is asked whether a report meets a want. One of its calls may fail.
 
 ghost use Rattle.std.specs.Prelude.{◌≡◌, ◌<◌, ◌+◌, IfErr, OnOk};
 ghost use Rattle.hub_core.specs.Shelves.{HasCause, last_count};
 
 use circle::directory::Person;
-use hub_core::{Edit, Entry, Facts, JoinedGroup, Request, Shelf, ShelfFault};
+use hub::Hub;
+use hub_core::{Edit, Entry, Facts, JoinedGroup, ListShelf, Reply, Request, Shelf, ShelfFault};
 use iodef_tree::Document;
 use policy::{Case, Standing};
 use redact::{Excerpt, Want};
+use std::alloc::Global;
+use trying_shelves::{Asked, answer_over, run_over};
 
 /// A shelf that has its calls answered by another one. After so many calls, one fails and does nothing.
 #[derive(Drop)]
-pub struct Failing<Sh: Shelf> {
-    pub shelf: Sh,
+struct Watched<Sh: Shelf> {
+    shelf: Sh,
     /// How many calls are answered before the one that fails.
-    pub calls: u64,
-    pub failures: u64,
+    calls: u64,
+    failures: u64,
+    /// How often it was asked whether an incident meets a want.
+    searches: u64,
 }
 
-impl<Sh: Shelf> Failing<Sh> {
+impl<Sh: Shelf> Watched<Sh> {
     /// Counts down to the call that fails. Fails for that one, and for every call at the last value of the count.
     fn ask(&mut self) -> Result<(), ShelfFault>
         ensures shelf { self.new.shelf ≡ self.old.shelf }
@@ -53,7 +58,7 @@ impl<Sh: Shelf> Failing<Sh> {
     }
 }
 
-impl<Sh: Shelf> Shelf for Failing<Sh> {
+impl<Sh: Shelf> Shelf for Watched<Sh> {
     ghost use Rattle.std.specs.Prelude.{◌≡◌};
 
     ghost has = { λ f s. Sh.has f.shelf s };
@@ -115,6 +120,7 @@ impl<Sh: Shelf> Shelf for Failing<Sh> {
         standing: Standing,
         want: Want,
     ) -> Result<bool, ShelfFault> {
+        self.searches = self.searches.saturating_add(1);
         self.ask()?;
         let met = self.shelf.meets(incident, case, standing, want);
         self.count_failure(met)
@@ -143,4 +149,43 @@ impl<Sh: Shelf> Shelf for Failing<Sh> {
         let made = self.shelf.apply(edits);
         self.count_failure(made)
     }
+}
+
+/// Fails one call of the shelf, after so many others. Returns the replies to the requests, or none if no call failed or
+/// the memory doesn't suffice.
+pub fn run_failing(
+    alloc: Global,
+    shelf: ListShelf,
+    asked: &[Asked],
+    calls: u64,
+) -> Option<Vec<Reply>> {
+    let mut hub = Hub::new(Watched {
+        shelf,
+        calls,
+        failures: 0,
+        searches: 0,
+    });
+    let outcome = run_over(&mut hub, alloc, asked);
+    if hub.into_shelf().failures == 0 {
+        return None;
+    }
+    outcome.ok()
+}
+
+/// Returns for how many reports the request asks the shelf whether they meet a want, and the shelf.
+pub fn searches_of(alloc: Global, shelf: ListShelf, asked: &Asked) -> (u64, ListShelf) {
+    let mut hub = Hub::new(Watched {
+        shelf,
+        calls: u64::MAX,
+        failures: 0,
+        searches: 0,
+    });
+    let (now, key, request) = asked;
+    answer_over(&mut hub, alloc, *now, key, request);
+    let Watched {
+        shelf,
+        searches,
+        ..
+    } = hub.into_shelf();
+    (searches, shelf)
 }

@@ -97,7 +97,8 @@ fn trace(alloc: Global, text: &str) -> Result<String, AllocError> {
     Ok(all)
 }
 
-pub fn reply(alloc: Global, reply: &Reply) -> Result<String, AllocError> {
+/// Returns the reply in words, as `done` or `revision 2`; a refusal by its code and detail.
+pub fn reply_text(alloc: Global, reply: &Reply) -> Result<String, AllocError> {
     match reply {
         Reply::Done => String::from_str(alloc, "done"),
         Reply::Numbers(found) => numbers(alloc, found.as_slice()),
@@ -114,10 +115,11 @@ pub fn reply(alloc: Global, reply: &Reply) -> Result<String, AllocError> {
     }
 }
 
-pub fn replies(alloc: Global, list: &[Reply]) -> Result<Vec<String>, AllocError> {
+/// Returns each of the replies in words.
+pub fn replies_text(alloc: Global, list: &[Reply]) -> Result<Vec<String>, AllocError> {
     let mut all = Vec::new(alloc);
     for one in list {
-        all.push(reply(alloc, one)?)?;
+        all.push(reply_text(alloc, one)?)?;
     }
     Ok(all)
 }

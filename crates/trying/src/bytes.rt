@@ -1,7 +1,8 @@
-//! The bytes of a line.
+//! The bytes that a text in a line means. The functions have no contracts: the program's `stdout` shows what they
+//! return.
 
+use crate::lines::written_out;
 use std::alloc::{AllocError, Global};
-use trying::written_out;
 
 /// Returns the byte of two hexadecimal digits, or 0.
 fn byte_of(digits: &[u8]) -> u8 {
@@ -12,7 +13,7 @@ fn byte_of(digits: &[u8]) -> u8 {
     }
 }
 
-/// Adds what follows a backslash.
+/// Adds the bytes of a piece behind a backslash.
 fn push_escaped(all: &mut Vec<u8>, piece: &[u8]) -> Result<(), AllocError> {
     let (byte, rest) = match piece {
         [b'r', rest @ ..] => (b'\r', rest),
@@ -24,10 +25,12 @@ fn push_escaped(all: &mut Vec<u8>, piece: &[u8]) -> Result<(), AllocError> {
     all.extend_from_slice(rest)
 }
 
-pub fn bytes_of(alloc: Global, line: &str) -> Result<Vec<u8>, AllocError> {
-    let line = written_out(alloc, line)?;
+/// Returns the bytes of a text, after `<3*ab>` in it is written out. `\r` and `\n` mean CR and LF, and `\x41` is the
+/// byte of these two hexadecimal digits. Any other backslash becomes `?`.
+pub fn bytes_of(alloc: Global, text: &str) -> Result<Vec<u8>, AllocError> {
+    let text = written_out(alloc, text)?;
     let mut all = Vec::new(alloc);
-    let mut pieces = line.as_str().split('\\');
+    let mut pieces = text.as_str().split('\\');
     if let Some(first) = pieces.next() {
         all.extend_from_slice(first.as_bytes())?;
     }
