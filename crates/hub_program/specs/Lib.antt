@@ -1,8 +1,9 @@
-pub mod Lines
-pub mod Mark
-pub mod Status
-pub mod Faults
-pub mod Keys
-pub mod FirstRows
-pub mod Serving
-pub mod Replies
+pub use Rattle.hub_service.specs.Lines
+pub use Rattle.hub_service.specs.Mark
+pub use Rattle.hub_service.specs.Status
+pub use Rattle.hub_service.specs.Faults
+pub use Rattle.hub_service.specs.Keys
+pub use Rattle.hub_service.specs.FirstRows
+pub use Rattle.hub_service.specs.Serving
+pub use Rattle.hub_service.specs.Replies
+pub mod Openings

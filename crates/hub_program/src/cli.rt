@@ -1,12 +1,10 @@
 //! The command line.
 
 use crate::commands::{explanation, init, mark, migrate, serve, view};
-use crate::fault::Fault;
-use crate::output::{end_with, tell};
-use crate::status::Status;
 use crate::words::{Asked, command_line, read_words, usage_of_other_words};
 use clap::Error;
 use clap::error::ErrorKind;
+use hub_service::{Fault, Status, end_with, tell};
 use std::alloc::Global;
 use std::env::Args;
 use std::io;

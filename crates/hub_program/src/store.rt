@@ -1,9 +1,8 @@
 //! The store in a file.
 ghost use Rattle.std.specs.Prelude.{◌≡◌, false, IfOk};
-ghost use Rattle.hub_program.specs.Faults.{told_of_shelf, told_of_opening};
+ghost use Rattle.hub_program.specs.Openings.{told_of_opening};
 
-use crate::fault::{Fault, Reason};
-use hub_core::ShelfFault;
+use hub_service::{Fault, Reason};
 use hub_store::{OpenFault, SqlShelf};
 use kept_documents::{KeptDocuments, MOST_WEIGHT};
 use sqlite::{Alter, Connection, Error, ErrorCode, File, FileStore};
@@ -15,16 +14,6 @@ use std::os::unix::fs::OpenOptionsExt;
 
 /// The hub's tables in a file.
 pub type FileShelf = SqlShelf<FileStore<File>>;
-
-/// Returns the fault for a shelf's fault.
-pub fn shelf_fault(fault: ShelfFault) -> Fault
-    ensures { result ≡ told_of_shelf fault }
-{
-    match fault {
-        ShelfFault::NoMemory => Fault::NoMemory,
-        ShelfFault::Failed => Fault::Failed,
-    }
-}
 
 /// Returns the fault for a store that isn't opened.
 pub fn open_fault(fault: OpenFault) -> Fault

@@ -1,9 +1,9 @@
-//! Starts the program for the cases on standard input, one a line, and prints the outcome of each. A line that begins
+//! Starts the programs for the cases on standard input, one a line, and prints the outcome of each. A line that begins
 //! with `#` is printed as it is; the cases behind it begin with no store. In a line `\n`, `\r` and `\x41` mean LF, CR
 //! and any byte, `<3*ab>` means `ababab`, and a field `@NAME` means the file NAME in `data/`.
 //!
 //! A start: `WAY|WORDS|INPUT`. Words have a space between them, `""` is the empty word, `STORE` the file of the store,
-//! and `PORT` a port that is free. WAY is one of
+//! and `PORT` a port that is free. They start `iodef-hub`, or `iodef-redact` if that is the first. WAY is one of
 //!
 //! - `run`: the input is given whole, and all output is taken;
 //! - `cut`: reading fails behind the input; `starved`: there is no memory for reading behind it;

@@ -112,7 +112,7 @@ fn ended_by(
     let mut hub = new_hub(alloc)?;
     let mut errors = Output::new(alloc, true);
     let status = serve_count(alloc, listener, count, &mut hub, clock, &mut errors);
-    Ok(ended(alloc, status, b"", &errors.written)?)
+    Ok(ended(alloc, status.code(), b"", &errors.written)?)
 }
 
 /// Serves callers over a hub in memory. Returns the outcome, and the reply to each.

@@ -6,22 +6,40 @@ use crate::streams::{Ending, Input, Output};
 use crate::texts::{field_of, fields_of};
 use crate::told::{ended, push_reply};
 use crate::words::{args_of, no_args};
-use hub_program::{Status, cli_start};
 use std::alloc::{AllocError, Global};
 use std::env::Args;
 use std::io;
 use std::net::{Ipv4Addr, TcpListener, TcpStream};
 use std::str::from_utf8;
 
-/// Starts the program, as all cases do. Returns its status.
+/// A program that is started.
+#[derive(Clone, Copy)]
+enum Program {
+    Hub,
+    Redact,
+}
+
+/// Returns the program that a field of words names, which is `iodef-hub` if none is named, and the words behind it.
+fn program_of(field: &str) -> (Program, &str) {
+    match field.strip_prefix("iodef-redact") {
+        Some(words) => (Program::Redact, words),
+        None => (Program::Hub, field),
+    }
+}
+
+/// Starts a program, as all cases do. Returns its exit status.
 fn begin(
     rt: &HostRuntime,
+    program: Program,
     words: io::Result<Args>,
     input: &mut Input<'_>,
     output: &mut Calling<'_>,
     errors: &mut Output,
-) -> Status {
-    cli_start(rt, words, input, output, errors)
+) -> u8 {
+    match program {
+        Program::Hub => hub_program::cli_start(rt, words, input, output, errors).code(),
+        Program::Redact => redact_program::cli_start(rt, words, input, output, errors).code(),
+    }
 }
 
 /// Returns a port that nobody has, which is held until the listener is dropped, and its number.
@@ -34,7 +52,7 @@ fn held_port(rt: &HostRuntime) -> io::Result<(TcpListener, u16)> {
 /// Returns how the program ended, with `PORT` for the number of the port.
 fn told_of(
     alloc: Global,
-    status: Status,
+    status: u8,
     output: &Calling<'_>,
     errors: &Output,
 ) -> Result<String, AllocError> {
@@ -66,7 +84,8 @@ fn start_at(
     rest: &str,
 ) -> io::Result<String> {
     let alloc = rt.alloc();
-    let (words, input) = rest.split_once('|').unwrap_or((rest, ""));
+    let (field, input) = rest.split_once('|').unwrap_or((rest, ""));
+    let (program, words) = program_of(field);
     let bytes = field_of(rt, input)?;
     let (ending, takes, tells) = streams_of(way);
     let mut input = Input {
@@ -80,11 +99,11 @@ fn start_at(
     } else {
         args_of(alloc, place, port, words)
     };
-    let status = begin(rt, args, &mut input, &mut output, &mut errors);
+    let status = begin(rt, program, args, &mut input, &mut output, &mut errors);
     Ok(told_of(alloc, status, &output, &errors)?)
 }
 
-/// Starts the program in this way. Returns the outcome.
+/// Starts a program in this way. Returns the outcome.
 pub fn start(rt: &HostRuntime, place: &Place, way: &str, rest: &str) -> io::Result<String> {
     let (listener, port) = held_port(rt)?;
     if way == "taken" {
@@ -114,7 +133,7 @@ fn served(
     };
     let mut output = Calling::new(rt, port, requests, true);
     let mut errors = Output::new(alloc, true);
-    let status = begin(rt, args, &mut input, &mut output, &mut errors);
+    let status = begin(rt, Program::Hub, args, &mut input, &mut output, &mut errors);
     let told = told_of(alloc, status, &output, &errors)?;
     Ok((told, output.callers))
 }

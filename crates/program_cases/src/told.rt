@@ -1,6 +1,5 @@
 //! The outcome of a case, as it is printed.
 
-use hub_program::Status;
 use std::alloc::{AllocError, Global};
 use std::str::from_utf8;
 
@@ -26,20 +25,19 @@ pub fn push_printed(all: &mut String, output: &[u8]) -> Result<(), AllocError> {
     push_output(all, "> ", output, usize::MAX)
 }
 
+/// The exit status of words that are no command line.
+const USAGE: u8 = 2;
+
 /// Returns how the program ended, its output and its standard error.
 pub fn ended(
     alloc: Global,
-    status: Status,
+    status: u8,
     output: &[u8],
     errors: &[u8],
 ) -> Result<String, AllocError> {
-    let code = status.code();
-    let mut all = format!(in alloc; "status {code}\n")?;
+    let mut all = format!(in alloc; "status {status}\n")?;
     push_printed(&mut all, output)?;
-    let most = match status {
-        Status::Usage => 1,
-        Status::Done | Status::Refused | Status::Failed => usize::MAX,
-    };
+    let most = if status == USAGE { 1 } else { usize::MAX };
     push_output(&mut all, "! ", errors, most)?;
     Ok(all)
 }

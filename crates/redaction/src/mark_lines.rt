@@ -1,4 +1,4 @@
-//! The label of each class of a report. The crate `hub_program` prints the same lines; neither crate uses the other,
+//! The label of each class of a report. The crate `hub_service` prints the same lines; neither crate uses the other,
 //! and the tables of both have the same lines.
 ghost use Rattle.std.specs.Prelude.{◌≡◌, ◌++◌, string_bytes, OnOk, codes};
 ghost use Rattle.json.specs.Print.{quoted};

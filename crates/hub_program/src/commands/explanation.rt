@@ -1,10 +1,9 @@
 //! `explain`: why a person sees a class of an incident, or doesn't.
 
 use crate::asking::ask;
-use crate::fault::Fault;
-use crate::status::Status;
 use circle::text::Text;
 use hub_core::{Explain, Request};
+use hub_service::{Fault, Status};
 use std::io::{Read, Write};
 
 /// Prints the explanation for the administrator whose key is the first line of the input.

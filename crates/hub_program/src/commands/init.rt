@@ -1,14 +1,10 @@
 //! `init`: a store with one organisation and its administrator.
 ghost use Rattle.std.specs.Prelude.{◌≡◌, false};
 
-use crate::fault::Fault;
-use crate::first_rows::put_first_rows;
-use crate::keys::digest_of;
-use crate::output::print;
-use crate::status::Status;
-use crate::store::{close, connect_or_make, shelf_fault};
+use crate::store::{close, connect_or_make};
 use circle::name::Name;
 use hub_core::ShelfFault;
+use hub_service::{Fault, Status, digest_of, print, put_first_rows, shelf_fault};
 use hub_store::SqlShelf;
 use sqlite::{Alter, Connection};
 use std::alloc::Global;

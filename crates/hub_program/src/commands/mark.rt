@@ -1,10 +1,8 @@
 //! `mark`: the labels of a report on standard input.
 
-use crate::fault::Fault;
-use crate::input::read_input;
-use crate::mark::{MarkFault, Selection, mark_text};
-use crate::output::{end_with, print, tell};
-use crate::status::Status;
+use hub_service::{
+    Fault, MarkFault, Selection, Status, end_with, mark_text, print, read_input, tell,
+};
 use iodef_tree::{Path, PathFault};
 use std::alloc::Global;
 use std::io::{Read, Write};

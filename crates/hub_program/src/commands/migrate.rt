@@ -1,10 +1,8 @@
 //! `migrate`: bringing a store's tables to the newest version.
 ghost use Rattle.std.specs.Prelude.{◌≡◌, false};
 
-use crate::fault::Fault;
-use crate::output::print;
-use crate::status::Status;
 use crate::store::{close, connect, open_fault};
+use hub_service::{Fault, Status, print};
 use hub_store::{NEWEST, SqlShelf};
 use sqlite::{Alter, Connection};
 use std::alloc::Global;

@@ -1,12 +1,9 @@
 //! `serve`: connections over a socket.
 
-use crate::fault::Fault;
-use crate::listen::serve_count;
-use crate::output::print;
-use crate::status::Status;
 use crate::store::{close, open_kept};
 use hub::Hub;
 use hub_core::Shelf;
+use hub_service::{Fault, Status, print, serve_count};
 use std::io::Write;
 use std::net::{Ipv4Addr, TcpListener};
 

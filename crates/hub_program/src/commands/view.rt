@@ -1,9 +1,8 @@
 //! `view`: what a reader may see of an incident.
 
 use crate::asking::ask;
-use crate::fault::Fault;
-use crate::status::Status;
 use hub_core::Request;
+use hub_service::{Fault, Status};
 use std::io::{Read, Write};
 
 /// Prints the reply's body for the reader whose key is the first line of the input.
