@@ -1,5 +1,6 @@
 //! The facts that the shelf found, by words.
 
+use crate::told::push_flagged;
 use circle::command::CircleFacts;
 use circle::text::Text;
 use hub_core::{Facts, IncidentFacts};
@@ -71,46 +72,64 @@ pub fn facts_of(alloc: Global, words: &str) -> Result<Facts, AllocError> {
     })
 }
 
-fn push_if(all: &mut String, holds: bool, word: &str) -> Result<(), AllocError> {
-    if holds {
-        all.push_str(word)?;
-    }
-    Ok(())
-}
-
 fn told_circle(alloc: Global, facts: &CircleFacts) -> Result<String, AllocError> {
     let count = facts.count;
     let mut all = format!(in alloc; "count={count}")?;
-    push_if(&mut all, facts.exists, " exists")?;
-    push_if(&mut all, facts.may_extend, " may_extend")?;
-    push_if(&mut all, facts.owner, " owner")?;
-    push_if(&mut all, facts.target_is_owner, " target_is_owner")?;
-    push_if(&mut all, facts.own_person, " own_person")?;
-    push_if(&mut all, facts.stands, " stands")?;
+    let words = [
+        (facts.exists, " exists"),
+        (facts.may_extend, " may_extend"),
+        (facts.owner, " owner"),
+        (facts.target_is_owner, " target_is_owner"),
+        (facts.own_person, " own_person"),
+        (facts.stands, " stands"),
+    ];
+    push_flagged(&mut all, &words)?;
     Ok(all)
 }
 
-/// Returns the facts by the same words.
-pub fn describe_facts(alloc: Global, facts: &Facts) -> Result<String, AllocError> {
-    let mut all = told_circle(alloc, &facts.circle)?;
-    if let Some(known) = &facts.incident {
-        let (source, revision, ident) = (known.source, known.revision, known.ident.as_str());
-        let words = format!(in alloc; " known={source},{revision},{ident}")?;
-        all.push_str(words.as_str())?;
-    }
-    if let Some(document) = &facts.document {
-        let text = document.text(alloc)?;
-        all.push_str(" document=")?;
-        all.push_str(text.as_str())?;
-    }
-    if let Some(posted) = facts.posted {
-        all.push_str(format!(in alloc; " posted={posted}")?.as_str())?;
-    }
+fn push_known(alloc: Global, all: &mut String, known: &IncidentFacts) -> Result<(), AllocError> {
+    let (source, revision, ident) = (known.source, known.revision, known.ident.as_str());
+    let words = format!(in alloc; " known={source},{revision},{ident}")?;
+    all.push_str(words.as_str())
+}
+
+fn push_document(alloc: Global, all: &mut String, document: &Document) -> Result<(), AllocError> {
+    let text = document.text(alloc)?;
+    all.push_str(" document=")?;
+    all.push_str(text.as_str())
+}
+
+fn push_posted(alloc: Global, all: &mut String, posted: u32) -> Result<(), AllocError> {
+    let words = format!(in alloc; " posted={posted}")?;
+    all.push_str(words.as_str())
+}
+
+fn push_counts(alloc: Global, all: &mut String, facts: &Facts) -> Result<(), AllocError> {
     let (gates, recipients) = (facts.gates, facts.recipients);
     let permissions = facts.permissions;
     let words = format!(in alloc;
         " gates={gates} recipients={recipients} permissions={permissions}"
     )?;
-    all.push_str(words.as_str())?;
+    all.push_str(words.as_str())
+}
+
+/// Adds the facts behind those of the circle.
+fn push_facts(alloc: Global, all: &mut String, facts: &Facts) -> Result<(), AllocError> {
+    if let Some(known) = &facts.incident {
+        push_known(alloc, all, known)?;
+    }
+    if let Some(document) = &facts.document {
+        push_document(alloc, all, document)?;
+    }
+    if let Some(posted) = facts.posted {
+        push_posted(alloc, all, posted)?;
+    }
+    push_counts(alloc, all, facts)
+}
+
+/// Returns the facts by the same words.
+pub fn describe_facts(alloc: Global, facts: &Facts) -> Result<String, AllocError> {
+    let mut all = told_circle(alloc, &facts.circle)?;
+    push_facts(alloc, &mut all, facts)?;
     Ok(all)
 }

@@ -1,6 +1,6 @@
 //! What a shelf returns, as text.
 
-use crate::told::{named_text, permitted_text};
+use crate::told::{named_text, permitted_text, push_flagged};
 use circle::directory::Person;
 use hub_core::{Entry, JoinedGroup};
 use iodef_tree::Document;
@@ -47,13 +47,6 @@ pub fn case(alloc: Global, case: Option<Case>) -> Result<String, AllocError> {
     }
 }
 
-fn push_if(all: &mut String, holds: bool, word: &str) -> Result<(), AllocError> {
-    if holds {
-        all.push_str(word)?;
-    }
-    Ok(())
-}
-
 fn push_numbers(
     alloc: Global,
     all: &mut String,
@@ -62,7 +55,8 @@ fn push_numbers(
 ) -> Result<(), AllocError> {
     all.push_str(name)?;
     for number in numbers {
-        all.push_str(format!(in alloc; " {number}")?.as_str())?;
+        let word = format!(in alloc; " {number}")?;
+        all.push_str(word.as_str())?;
     }
     Ok(())
 }
@@ -77,37 +71,42 @@ fn community_word(community: bool, peer: bool) -> &'static str {
     }
 }
 
+/// Adds what holds between the reader and the incident.
+fn push_relations(all: &mut String, standing: &Standing) -> Result<(), AllocError> {
+    let words = [
+        (standing.source, " source"),
+        (standing.person, " person"),
+        (standing.nominated, " nominated"),
+        (standing.addressed, " addressed"),
+        (standing.client, " client"),
+        (true, community_word(standing.community, standing.peer)),
+        (standing.connected, " connected"),
+    ];
+    push_flagged(all, &words)?;
+    match standing.arrangement {
+        Some(handling) => push_flagged(all, &[(true, " arranged "), (true, handling.name())]),
+        None => Ok(()),
+    }
+}
+
+/// Adds the reader's groups and communities, and the moment if it isn't 0.
+fn push_lists(alloc: Global, all: &mut String, standing: &Standing) -> Result<(), AllocError> {
+    push_numbers(alloc, all, ", groups", standing.groups.as_slice())?;
+    push_numbers(alloc, all, ", active", standing.active_groups.as_slice())?;
+    push_numbers(alloc, all, ", communities", standing.communities.as_slice())?;
+    let now = standing.now;
+    if now == 0 {
+        return Ok(());
+    }
+    let words = format!(in alloc; ", now {now}")?;
+    all.push_str(words.as_str())
+}
+
 fn standing_found(alloc: Global, standing: &Standing) -> Result<String, AllocError> {
     let (who, org) = (standing.who, standing.org);
     let mut all = format!(in alloc; "{who} of {org}")?;
-    push_if(&mut all, standing.source, " source")?;
-    push_if(&mut all, standing.person, " person")?;
-    push_if(&mut all, standing.nominated, " nominated")?;
-    push_if(&mut all, standing.addressed, " addressed")?;
-    push_if(&mut all, standing.client, " client")?;
-    all.push_str(community_word(standing.community, standing.peer))?;
-    push_if(&mut all, standing.connected, " connected")?;
-    if let Some(handling) = standing.arrangement {
-        all.push_str(" arranged ")?;
-        all.push_str(handling.name())?;
-    }
-    push_numbers(alloc, &mut all, ", groups", standing.groups.as_slice())?;
-    push_numbers(
-        alloc,
-        &mut all,
-        ", active",
-        standing.active_groups.as_slice(),
-    )?;
-    push_numbers(
-        alloc,
-        &mut all,
-        ", communities",
-        standing.communities.as_slice(),
-    )?;
-    if standing.now != 0 {
-        let now = standing.now;
-        all.push_str(format!(in alloc; ", now {now}")?.as_str())?;
-    }
+    push_relations(&mut all, standing)?;
+    push_lists(alloc, &mut all, standing)?;
     Ok(all)
 }
 
@@ -140,8 +139,10 @@ fn group(alloc: Global, group: &JoinedGroup) -> Result<String, AllocError> {
     let name = group.name.as_str();
     let releasability = group.releasability.as_str();
     let mut all = format!(in alloc; " {number} of {owner} '{name}' '{releasability}'")?;
-    push_if(&mut all, group.active, " active")?;
-    push_if(&mut all, group.extend, " extend")?;
+    push_flagged(
+        &mut all,
+        &[(group.active, " active"), (group.extend, " extend")],
+    )?;
     Ok(all)
 }
 
@@ -153,14 +154,20 @@ pub fn groups(alloc: Global, groups: &[JoinedGroup]) -> Result<String, AllocErro
     Ok(all)
 }
 
-pub fn person(alloc: Global, person: Option<Person>) -> Result<String, AllocError> {
-    let Some(person) = person else {
-        return none(alloc);
-    };
+fn person_found(alloc: Global, person: &Person) -> Result<String, AllocError> {
     let (number, org) = (person.number, person.org);
     let (name, role) = (person.name.as_str(), role_name(person.role));
     let mut all = format!(in alloc; "{number} of {org} {name} {role}")?;
-    push_if(&mut all, person.active, " active")?;
-    push_if(&mut all, person.nominated, " nominated")?;
+    push_flagged(
+        &mut all,
+        &[(person.active, " active"), (person.nominated, " nominated")],
+    )?;
     Ok(all)
+}
+
+pub fn person(alloc: Global, person: Option<Person>) -> Result<String, AllocError> {
+    match person {
+        None => none(alloc),
+        Some(person) => person_found(alloc, &person),
+    }
 }

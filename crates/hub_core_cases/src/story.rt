@@ -40,6 +40,22 @@ fn found<S: Shelf>(
     Ok(describe_facts(alloc, &facts)?)
 }
 
+/// Runs a request of this person. Returns only its facts, or the answer.
+fn request_by<S: Shelf>(
+    alloc: Global,
+    shelf: &mut S,
+    actor: &Person,
+    words: &str,
+    facts_alone: bool,
+) -> Result<String, ShelfFault> {
+    let request = request_of(alloc, &mut Fields::new(words))?;
+    if facts_alone {
+        found(alloc, shelf, actor, &request)
+    } else {
+        ask(alloc, shelf, actor, &request)
+    }
+}
+
 /// Runs a request of a person. Returns only its facts, or the answer.
 fn request<S: Shelf>(
     alloc: Global,
@@ -48,15 +64,9 @@ fn request<S: Shelf>(
     facts_alone: bool,
 ) -> Result<String, ShelfFault> {
     let (number, rest) = words.split_once(' ').unwrap_or((words, ""));
-    let Some(actor) = person(shelf, number_of(number))? else {
-        return Ok(String::from_str(alloc, "nobody")?);
-    };
-    let mut fields = Fields::new(rest);
-    let request = request_of(alloc, &mut fields)?;
-    if facts_alone {
-        found(alloc, shelf, &actor, &request)
-    } else {
-        ask(alloc, shelf, &actor, &request)
+    match person(shelf, number_of(number))? {
+        Some(actor) => request_by(alloc, shelf, &actor, rest, facts_alone),
+        None => Ok(String::from_str(alloc, "nobody")?),
     }
 }
 
@@ -74,37 +84,42 @@ fn joined_groups<S: Shelf>(
     }
 }
 
-/// Returns what the shelf has of an incident or of a person.
-fn read<S: Shelf>(
+fn standing<S: Shelf>(
     alloc: Global,
     shelf: &mut S,
-    what: &str,
+    number: u32,
     words: &str,
-) -> Result<Option<String>, ShelfFault> {
-    let (first, second) = words.split_once(' ').unwrap_or((words, ""));
-    let (number, other) = (number_of(first), number_of(second));
-    Ok(Some(match what {
-        "case" => seen::case(alloc, shelf.case(number)?)?,
-        "standing" => {
-            let (incident, now) = second.split_once(' ').unwrap_or((second, ""));
-            let now = now.parse::<i64>().unwrap_or(0);
-            seen::standing(alloc, shelf.standing(number, number_of(incident), now)?)?
-        }
-        "document" => seen::document(alloc, shelf.document(number)?)?,
-        "entries" => seen::entries(alloc, &shelf.incidents_after(number, other)?)?,
-        "groups" => joined_groups(alloc, shelf, number)?,
-        "person" => seen::person(alloc, person(shelf, number)?)?,
-        "failures" => format!(in alloc; "{}", shelf.failures())?,
-        _ => return Ok(None),
-    }))
+) -> Result<String, ShelfFault> {
+    let (incident, now) = words.split_once(' ').unwrap_or((words, ""));
+    let now = now.parse::<i64>().unwrap_or(0);
+    Ok(seen::standing(alloc, shelf.standing(number, number_of(incident), now)?)?)
 }
 
+fn entries<S: Shelf>(
+    alloc: Global,
+    shelf: &mut S,
+    after: u32,
+    most: u32,
+) -> Result<String, ShelfFault> {
+    let entries = shelf.incidents_after(after, most)?;
+    Ok(seen::entries(alloc, &entries)?)
+}
+
+/// Returns what the shelf has of an incident or of a person, or the answer to a request.
 fn step<S: Shelf>(alloc: Global, shelf: &mut S, words: &str) -> Result<String, ShelfFault> {
     let (what, rest) = words.split_once(' ').unwrap_or((words, ""));
-    match read(alloc, shelf, what, rest)? {
-        Some(answer) => Ok(answer),
-        None if what == "facts" => request(alloc, shelf, rest, true),
-        None => request(alloc, shelf, words, false),
+    let (first, second) = rest.split_once(' ').unwrap_or((rest, ""));
+    let number = number_of(first);
+    match what {
+        "case" => Ok(seen::case(alloc, shelf.case(number)?)?),
+        "standing" => standing(alloc, shelf, number, second),
+        "document" => Ok(seen::document(alloc, shelf.document(number)?)?),
+        "entries" => entries(alloc, shelf, number, number_of(second)),
+        "groups" => joined_groups(alloc, shelf, number),
+        "person" => Ok(seen::person(alloc, person(shelf, number)?)?),
+        "failures" => Ok(format!(in alloc; "{}", shelf.failures())?),
+        "facts" => request(alloc, shelf, rest, true),
+        _ => request(alloc, shelf, words, false),
     }
 }
 
@@ -112,22 +127,37 @@ fn founded<S: Shelf>(shelf: &mut S, edits: &[Edit]) -> Result<(), ShelfFault> {
     shelf.apply(edits)
 }
 
-/// Returns the answer to each step. Steps and answers have a semicolon between them.
-pub fn answer(alloc: Global, steps: &str) -> Result<String, AllocError> {
-    let mut shelf = ListShelf::new(alloc);
-    let edits = world(alloc)?;
-    let mut all = String::new(alloc);
-    if let Err(fault) = founded(&mut shelf, &edits) {
-        return told::fault(alloc, fault);
+/// Adds the answer to a step.
+fn push_answer<S: Shelf>(
+    alloc: Global,
+    shelf: &mut S,
+    all: &mut String,
+    words: &str,
+) -> Result<(), AllocError> {
+    if !all.is_empty() {
+        all.push_str(" ; ")?;
     }
+    let answer = match step(alloc, shelf, words) {
+        Ok(answer) => answer,
+        Err(fault) => told::fault(alloc, fault)?,
+    };
+    all.push_str(answer.as_str())
+}
+
+fn answers<S: Shelf>(alloc: Global, shelf: &mut S, steps: &str) -> Result<String, AllocError> {
+    let mut all = String::new(alloc);
     for words in steps.split(';') {
-        if !all.is_empty() {
-            all.push_str(" ; ")?;
-        }
-        match step(alloc, &mut shelf, words.trim()) {
-            Ok(answer) => all.push_str(answer.as_str())?,
-            Err(fault) => all.push_str(told::fault(alloc, fault)?.as_str())?,
-        }
+        push_answer(alloc, shelf, &mut all, words.trim())?;
     }
     Ok(all)
+}
+
+/// Returns the answer to each step. Steps and answers have a semicolon between them.
+pub fn answer(alloc: Global, steps: &str) -> Result<String, AllocError> {
+    let edits = world(alloc)?;
+    let mut shelf = ListShelf::new(alloc);
+    match founded(&mut shelf, &edits) {
+        Ok(()) => answers(alloc, &mut shelf, steps),
+        Err(fault) => told::fault(alloc, fault),
+    }
 }

@@ -9,6 +9,16 @@ use iodef_tree::Path;
 use policy::Grantee;
 use std::alloc::{AllocError, Global};
 
+/// Adds each of these words whose flag is true.
+pub fn push_flagged(all: &mut String, words: &[(bool, &str)]) -> Result<(), AllocError> {
+    for &(holds, word) in words {
+        if holds {
+            all.push_str(word)?;
+        }
+    }
+    Ok(())
+}
+
 /// Returns the grantee of a permission, and its end if it has one.
 pub fn permitted_text(
     alloc: Global,

@@ -39,34 +39,44 @@ use iodef_tree::Path;
 use std::alloc::Global;
 use trying_policy::{Report, Unfit};
 
+/// Returns the labels at a path of the report.
+fn sited_at(report: &Report, alloc: Global, pointer: &str) -> Result<String, Unfit> {
+    let document = report.document()?;
+    let path = Path::parse(alloc, pointer)?;
+    sited(alloc, document, &path)
+}
+
+/// Returns the answer to a reader about the report.
+fn answer_of_report(report: &Report, alloc: Global, line: &Line<'_>) -> Result<String, Unfit> {
+    let document = report.document()?;
+    let asker = asker_of(alloc, line)?;
+    answer_to(alloc, document, &asker, line)
+}
+
+/// Returns at which line of the report a search is sure, and what it answers at the end.
+fn probe(report: &Report, alloc: Global, line: &Line<'_>) -> Result<String, Unfit> {
+    let probe = probe_of(alloc, asker_of(alloc, line)?, line.fourth, line.fifth)?;
+    probed(alloc, report.document()?, probe)
+}
+
+/// Returns what a search answers to the lines.
+fn seek(alloc: Global, line: &Line<'_>) -> Result<String, Unfit> {
+    let needle = line.fifth.unwrap_or("");
+    let probe = probe_of(alloc, asker_of(alloc, line)?, needle, None)?;
+    sought(alloc, probe, line.fourth)
+}
+
 /// Returns the answer of a line. The report is the one of the last line with one.
 pub fn answer(report: &mut Report, alloc: Global, line: &str) -> Result<String, Unfit> {
     let line = Line::of(line)?;
     match line.kind {
         "report" => report.read(alloc, line.first),
         "marks" => marked(alloc, report.document()?),
-        "site" => {
-            let document = report.document()?;
-            sited(alloc, document, &Path::parse(alloc, line.first)?)
-        }
-        "decide" | "excerpt" | "kept" | "listed" | "find" => {
-            let document = report.document()?;
-            answer_to(alloc, document, &asker_of(alloc, &line)?, &line)
-        }
+        "site" => sited_at(report, alloc, line.first),
+        "decide" | "excerpt" | "kept" | "listed" | "find" => answer_of_report(report, alloc, &line),
         "feed" => feed_words(alloc, asker_of(alloc, &line)?, line.fourth),
-        "probe" => {
-            let probe = probe_of(alloc, asker_of(alloc, &line)?, line.fourth, line.fifth)?;
-            probed(alloc, report.document()?, probe)
-        }
-        "seek" => {
-            let probe = probe_of(
-                alloc,
-                asker_of(alloc, &line)?,
-                line.fifth.unwrap_or(""),
-                None,
-            )?;
-            sought(alloc, probe, line.fourth)
-        }
+        "probe" => probe(report, alloc, &line),
+        "seek" => seek(alloc, &line),
         _ => answer_alone(alloc, &line),
     }
 }

@@ -1,6 +1,6 @@
 //! A search that is fed lines one at a time.
 
-use crate::rows::line_of;
+use crate::rows::{line_of, push_part, with_end};
 use iodef_tree::{Document, Line, OutlineFault};
 use redact::{Probe, Want};
 use std::alloc::{AllocError, Global};
@@ -58,24 +58,49 @@ fn sure_at(probe: &mut Probe, lines: Vec<Line>) -> Result<Option<usize>, Unfit> 
     Ok(sure)
 }
 
+/// Returns the number of the first line of a document at which the search is sure.
+fn sure_in(alloc: Global, document: &Document, probe: &mut Probe) -> Result<Option<usize>, Unfit> {
+    sure_at(probe, document.outline(alloc)?)
+}
+
+/// Returns at which line the search is sure, and what it answers at the end.
+fn sure_text(alloc: Global, sure: Option<usize>, end: &str) -> Result<String, AllocError> {
+    match sure {
+        Some(number) => format!(in alloc; "sure at line {number}, {end}"),
+        None => format!(in alloc; "never sure, {end}"),
+    }
+}
+
 /// Returns at which line of a document the search is sure, and what it answers at the end.
 pub fn probed(alloc: Global, document: &Document, mut probe: Probe) -> Result<String, Unfit> {
-    let sure = sure_at(&mut probe, document.outline(alloc)?)?;
-    let finish = finish_of(probe)?;
-    match sure {
-        Some(number) => Ok(format!(in alloc; "sure at line {number}, {finish}")?),
-        None => Ok(format!(in alloc; "never sure, {finish}")?),
+    let sure = sure_in(alloc, document, &mut probe);
+    let end = finish_of(probe);
+    Ok(sure_text(alloc, sure?, end?)?)
+}
+
+/// Adds what the search answers to one more line.
+fn push_answer(
+    alloc: Global,
+    told: &mut String,
+    probe: &mut Probe,
+    word: &str,
+) -> Result<(), Unfit> {
+    let answer = answer_of(probe.feed(line_of(alloc, word)?))?;
+    push_part(told, answer)
+}
+
+/// Returns what the search answers to each of these lines.
+fn answers_of(alloc: Global, probe: &mut Probe, words: &str) -> Result<String, Unfit> {
+    let mut told = String::new(alloc);
+    for word in words.split_whitespace() {
+        push_answer(alloc, &mut told, probe, word)?;
     }
+    Ok(told)
 }
 
 /// Returns what the search answers to each of these lines, which have spaces between them, and at the end.
 pub fn sought(alloc: Global, mut probe: Probe, words: &str) -> Result<String, Unfit> {
-    let mut told = String::new(alloc);
-    for word in words.split_whitespace() {
-        let line = line_of(alloc, word)?;
-        told.push_str(answer_of(probe.feed(line))?)?;
-        told.push_str("; ")?;
-    }
-    let finish = finish_of(probe)?;
-    Ok(format!(in alloc; "{told}at the end {finish}")?)
+    let answers = answers_of(alloc, &mut probe, words);
+    let end = finish_of(probe);
+    with_end(alloc, answers?.as_str(), end?)
 }

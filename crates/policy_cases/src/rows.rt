@@ -64,16 +64,43 @@ pub fn line_of(alloc: Global, word: &str) -> Result<Line, Unfit> {
     })
 }
 
+/// Adds what the pass answers to one more line.
+fn push_answer(
+    alloc: Global,
+    told: &mut String,
+    pass: &mut RowPass,
+    word: &str,
+) -> Result<(), Unfit> {
+    let answer = answer_of(pass, line_of(alloc, word)?)?;
+    push_part(told, answer)
+}
+
+/// Adds an answer of a list.
+pub fn push_part(told: &mut String, answer: &str) -> Result<(), Unfit> {
+    told.push_str(answer)?;
+    Ok(told.push_str("; ")?)
+}
+
+/// Returns what the pass answers to each of these lines, which have spaces between them.
+fn answers_of(alloc: Global, pass: &mut RowPass, words: &str) -> Result<String, Unfit> {
+    let mut told = String::new(alloc);
+    for word in words.split_whitespace() {
+        push_answer(alloc, &mut told, pass, word)?;
+    }
+    Ok(told)
+}
+
+/// Returns the answers to the lines, and what is given at the end.
+pub fn with_end(alloc: Global, answers: &str, end: &str) -> Result<String, Unfit> {
+    Ok(format!(in alloc; "{answers}at the end {end}")?)
+}
+
 /// Returns what a pass answers to each of these lines, which have spaces between them, and at the end.
 pub fn feed_words(alloc: Global, asker: Asker, words: &str) -> Result<String, Unfit> {
     let Asker { standing, case } = asker;
     let mut pass = RowPass::new(alloc, case, standing)?;
-    let mut told = String::new(alloc);
-    for word in words.split_whitespace() {
-        let line = line_of(alloc, word)?;
-        told.push_str(answer_of(&mut pass, line)?)?;
-        told.push_str("; ")?;
-    }
-    let finish = finish_of(alloc, pass)?;
-    Ok(format!(in alloc; "{told}at the end {finish}")?)
+    // the pass ends before any fault is returned: each return beside it would prove its drop once more
+    let answers = answers_of(alloc, &mut pass, words);
+    let end = finish_of(alloc, pass);
+    with_end(alloc, answers?.as_str(), end?.as_str())
 }

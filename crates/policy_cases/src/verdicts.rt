@@ -5,7 +5,7 @@ ghost use Rattle.iodef_tree.specs.Paths.{located};
 ghost use Rattle.marking.specs.Marks.{first_bad_marking};
 
 use iodef_tree::{Document, Path};
-use policy::{Case, DecideFault, Gate, Standing, Verdict, clearance, decide, passes};
+use policy::{Case, DecideFault, Gate, Permission, Standing, Verdict, clearance, decide, passes};
 use std::alloc::{AllocError, Global};
 use trying_policy::{Asker, Unfit, gate_word, permission_word};
 
@@ -75,18 +75,37 @@ pub fn verdicts(
     Ok(told)
 }
 
+fn push_gates(alloc: Global, told: &mut String, gates: &[Gate]) -> Result<(), AllocError> {
+    for gate in gates {
+        let word = gate_word(alloc, gate)?;
+        push_part(told, word.as_str())?;
+    }
+    Ok(())
+}
+
+fn push_permissions(
+    alloc: Global,
+    told: &mut String,
+    permissions: &[Permission],
+) -> Result<(), AllocError> {
+    for permission in permissions {
+        let word = permission_word(alloc, permission)?;
+        push_part(told, word.as_str())?;
+    }
+    Ok(())
+}
+
+fn push_part(told: &mut String, word: &str) -> Result<(), AllocError> {
+    told.push_str("; ")?;
+    Ok(told.push_str(word)?)
+}
+
 /// Returns the gates and permissions that a case gives back.
 pub fn given_back(alloc: Global, case: Case) -> Result<String, AllocError> {
     let source = case.source;
     let mut told = format!(in alloc; "source {source}")?;
-    for gate in &case.gates.into_vec() {
-        told.push_str("; ")?;
-        told.push_str(gate_word(alloc, gate)?.as_str())?;
-    }
-    for permission in &case.permissions.into_vec() {
-        told.push_str("; ")?;
-        told.push_str(permission_word(alloc, permission)?.as_str())?;
-    }
+    push_gates(alloc, &mut told, &case.gates.into_vec())?;
+    push_permissions(alloc, &mut told, &case.permissions.into_vec())?;
     Ok(told)
 }
 

@@ -42,6 +42,13 @@ fn plainly(alloc: Global, world: World) -> Result<Option<Excerpt>, AllocError> {
     excerpt_if_marked(alloc, &document, &world.case, &world.standing)
 }
 
+fn feed_all(pass: &mut RowPass, lines: Vec<Line>) -> Result<(), OutlineFault> {
+    for line in lines {
+        pass.feed(line)?;
+    }
+    Ok(())
+}
+
 /// Returns what `RowPass` serves. Fails if it refuses a line.
 fn by_lines(alloc: Global, world: World) -> Result<Option<Excerpt>, OutlineFault> {
     let World {
@@ -49,11 +56,12 @@ fn by_lines(alloc: Global, world: World) -> Result<Option<Excerpt>, OutlineFault
         case,
         standing,
     } = world;
+    let lines = document.outline(alloc)?;
     let mut pass = RowPass::new(alloc, case, standing)?;
-    for line in document.outline(alloc)? {
-        pass.feed(line)?;
+    match feed_all(&mut pass, lines) {
+        Ok(()) => pass.finish(),
+        Err(fault) => Err(fault),
     }
-    pass.finish()
 }
 
 fn same_pair(alloc: Global, one: &(Path, Rule), other: &(Path, Rule)) -> Result<bool, AllocError> {
@@ -102,15 +110,28 @@ fn agree_on(
     }
 }
 
-/// Returns whether both serve the same in the case of this seed.
-pub fn agree_by_lines(alloc: Global, tally: &mut Tally, seed: u64) -> Result<bool, AllocError> {
-    let (Some(first), Some(second)) = (world_at(alloc, seed)?, world_at(alloc, seed)?) else {
+/// Returns whether `RowPass` serves the same as was served in the case of this seed.
+fn agree_with(
+    alloc: Global,
+    tally: &mut Tally,
+    seed: u64,
+    plain: &Option<Excerpt>,
+) -> Result<bool, AllocError> {
+    let Some(world) = world_at(alloc, seed)? else {
         return Ok(false);
     };
-    let plain = plainly(alloc, first)?;
-    match by_lines(alloc, second) {
-        Ok(rows) => agree_on(alloc, tally, &plain, &rows),
+    match by_lines(alloc, world) {
+        Ok(rows) => agree_on(alloc, tally, plain, &rows),
         Err(OutlineFault::NoMemory) => Err(AllocError),
         Err(OutlineFault::BadOutline) => Ok(false),
     }
+}
+
+/// Returns whether both serve the same in the case of this seed.
+pub fn agree_by_lines(alloc: Global, tally: &mut Tally, seed: u64) -> Result<bool, AllocError> {
+    let Some(world) = world_at(alloc, seed)? else {
+        return Ok(false);
+    };
+    let plain = plainly(alloc, world)?;
+    agree_with(alloc, tally, seed, &plain)
 }

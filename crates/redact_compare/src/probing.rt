@@ -62,6 +62,14 @@ fn probe_of(alloc: Global, world: World, looked: Looked) -> Result<Probe, AllocE
     Probe::new(alloc, case, standing, want_of(alloc, looked)?)
 }
 
+/// Returns the search of the case of this seed, if its report is read.
+fn probe_at(alloc: Global, seed: u64, looked: Looked) -> Result<Option<Probe>, AllocError> {
+    match world_at(alloc, seed)? {
+        Some(world) => Ok(Some(probe_of(alloc, world, looked)?)),
+        None => Ok(None),
+    }
+}
+
 /// The case by which a whole report is judged, the reader, and the want.
 #[derive(Clone, Copy)]
 struct Judging<'a> {
@@ -152,10 +160,12 @@ fn is_right(
     mut probe: Probe,
     lines: &[Line],
 ) -> Result<bool, OutlineFault> {
-    let Some(sure) = sure_lines(tally, dice, judging, &mut probe, lines)? else {
+    let sure = sure_lines(tally, dice, judging, &mut probe, lines);
+    let end = probe.finish();
+    let Some(sure) = sure? else {
         return Ok(false);
     };
-    let end = probe.finish()?;
+    let end = end?;
     tally.count("lines at which a search is sure", sure);
     tally.note("searches sure before the last line", sure > 1);
     tally.note("searches met at the end alone", end && sure == 0);
@@ -163,22 +173,34 @@ fn is_right(
     Ok(judging.meets_if_marked(lines)? == Some(end))
 }
 
-/// Returns whether a search by lines of the case of this seed is right.
-pub fn is_sure_rightly(alloc: Global, tally: &mut Tally, seed: u64) -> Result<bool, AllocError> {
-    let (Some(first), Some(second)) = (world_at(alloc, seed)?, world_at(alloc, seed)?) else {
-        return Ok(false);
-    };
+/// Returns whether a search by lines of the case of this seed is right, by that case again.
+fn is_right_about(
+    alloc: Global,
+    tally: &mut Tally,
+    seed: u64,
+    again: &World,
+) -> Result<bool, OutlineFault> {
     let mut dice = Dice::new(seed ^ OTHER);
     let looked = looked_for(&mut dice);
     let judging = Judging {
         alloc,
-        case: &second.case,
-        standing: &second.standing,
+        case: &again.case,
+        standing: &again.standing,
         looked,
     };
-    let probe = probe_of(alloc, first, looked)?;
-    let lines = second.document.outline(alloc)?;
-    match is_right(tally, &mut dice, &judging, probe, &lines) {
+    let lines = again.document.outline(alloc)?;
+    match probe_at(alloc, seed, looked)? {
+        Some(probe) => is_right(tally, &mut dice, &judging, probe, &lines),
+        None => Ok(false),
+    }
+}
+
+/// Returns whether a search by lines of the case of this seed is right.
+pub fn is_sure_rightly(alloc: Global, tally: &mut Tally, seed: u64) -> Result<bool, AllocError> {
+    let Some(world) = world_at(alloc, seed)? else {
+        return Ok(false);
+    };
+    match is_right_about(alloc, tally, seed, &world) {
         Ok(right) => Ok(right),
         Err(OutlineFault::NoMemory) => Err(AllocError),
         Err(OutlineFault::BadOutline) => Ok(false),
