@@ -1,7 +1,7 @@
 //! Two worlds in which the same is asked.
 
 use crate::asking::asked_by;
-use crate::world::{World, in_lists, in_tables};
+use crate::world::{Place, World, world_in};
 use std::alloc::{AllocError, Global};
 use std::str::from_utf8;
 use trying_shelves::{Asked, Either};
@@ -23,6 +23,13 @@ struct Pair<'a> {
     asked: &'a [Asked],
 }
 
+/// The shelves of the two worlds, of which at least one is over tables.
+const OVER_TABLES: [(Place, Place); 3] = [
+    (Place::Tables, Place::Memory),
+    (Place::Memory, Place::Tables),
+    (Place::Tables, Place::Tables),
+];
+
 /// Returns the bytes after the head of a reply, as text.
 fn body_of(reply: &[u8]) -> &str {
     let text = from_utf8(reply).unwrap_or("not UTF-8");
@@ -43,44 +50,71 @@ fn describe(alloc: Global, one: &[u8], other: &[u8]) -> Result<String, AllocErro
     }
 }
 
-/// Returns the line for each request to both hubs, or none if one of them wasn't made.
-fn told_by_hubs(
+/// Returns the line for a request to both hubs.
+fn line_of(
     alloc: Global,
-    first: Option<Either>,
-    other: Option<Either>,
+    first: &mut Either,
+    other: &mut Either,
+    asked: &Asked,
+) -> Result<String, AllocError> {
+    let (one, two) = first.told_beside(other, alloc, asked)?;
+    describe(alloc, &one, &two)
+}
+
+/// Returns the line for each request to both hubs.
+fn lines_of(
+    alloc: Global,
+    first: &mut Either,
+    other: &mut Either,
     asked: &[Asked],
-) -> Result<Option<Vec<String>>, AllocError> {
-    let (Some(mut first), Some(mut other)) = (first, other) else {
-        return Ok(None);
-    };
+) -> Result<Vec<String>, AllocError> {
     let mut lines = Vec::new(alloc);
     for one in asked {
-        let (one, two) = first.told_beside(&mut other, alloc, one)?;
-        lines.push(describe(alloc, &one, &two)?)?;
+        lines.push(line_of(alloc, first, other, one)?)?;
     }
-    Ok(Some(lines))
+    Ok(lines)
 }
 
 impl<'a> Pair<'a> {
-    fn told_in_memory(&self, alloc: Global) -> Result<Option<Vec<String>>, AllocError> {
-        let first = in_lists(alloc, self.first)?;
-        told_by_hubs(alloc, first, in_lists(alloc, self.other)?, self.asked)
+    /// Returns the line for each request to a hub and to the other world, or none if that one isn't made.
+    fn lines_with(
+        &self,
+        alloc: Global,
+        first: &mut Either,
+        place: Place,
+    ) -> Result<Option<Vec<String>>, AllocError> {
+        match world_in(alloc, place, self.other)? {
+            Some(mut other) => lines_of(alloc, first, &mut other, self.asked).map(Some),
+            None => Ok(None),
+        }
+    }
+
+    /// Returns the line for each request to both worlds over these shelves, or none if one of them isn't made.
+    fn lines_in(
+        &self,
+        alloc: Global,
+        first: Place,
+        other: Place,
+    ) -> Result<Option<Vec<String>>, AllocError> {
+        match world_in(alloc, first, self.first)? {
+            Some(mut first) => self.lines_with(alloc, &mut first, other),
+            None => Ok(None),
+        }
     }
 
     /// Returns whether the lines are the same if the first world is in tables, the other, or both.
     fn is_told_over_tables(&self, alloc: Global, told: &[String]) -> Result<bool, AllocError> {
-        let first = in_tables(alloc, self.first)?;
-        let mixed = told_by_hubs(alloc, first, in_lists(alloc, self.other)?, self.asked)?;
-        let first = in_lists(alloc, self.first)?;
-        let turned = told_by_hubs(alloc, first, in_tables(alloc, self.other)?, self.asked)?;
-        let first = in_tables(alloc, self.first)?;
-        let both = told_by_hubs(alloc, first, in_tables(alloc, self.other)?, self.asked)?;
-        Ok(is_told(&mixed, told) && is_told(&turned, told) && is_told(&both, told))
+        for (first, other) in OVER_TABLES {
+            if !is_told(&self.lines_in(alloc, first, other)?, told) {
+                return Ok(false);
+            }
+        }
+        Ok(true)
     }
 
     /// Returns the line for each request, and whether it is the same over tables.
     fn lines(&self, alloc: Global) -> Result<Vec<String>, AllocError> {
-        let Some(mut lines) = self.told_in_memory(alloc)? else {
+        let Some(mut lines) = self.lines_in(alloc, Place::Memory, Place::Memory)? else {
             return one_line(alloc, "a world wasn't made");
         };
         let last = if self.is_told_over_tables(alloc, &lines)? {

@@ -46,16 +46,26 @@ pub struct Question {
     request: Request,
 }
 
+fn push_question(
+    alloc: Global,
+    all: &mut Vec<Question>,
+    incident: u32,
+    line: &'static str,
+) -> Result<(), AllocError> {
+    let request = request_of(alloc, &mut Fields::new(line))?;
+    all.push(Question {
+        line,
+        incident,
+        request,
+    })?;
+    Ok(())
+}
+
 /// Returns all questions of a reader.
 pub fn questions(alloc: Global) -> Result<Vec<Question>, AllocError> {
     let mut all = Vec::new(alloc);
     for (incident, line) in LINES {
-        let request = request_of(alloc, &mut Fields::new(line))?;
-        all.push(Question {
-            line,
-            incident,
-            request,
-        })?;
+        push_question(alloc, &mut all, incident, line)?;
     }
     Ok(all)
 }
@@ -75,18 +85,45 @@ pub fn answers(
     reader: Reader<'_>,
     questions: &[Question],
 ) -> Result<Vec<Vec<u8>>, Fault> {
+    let mut hub = Hub::new(shelf_of(alloc, world)?);
+    answers_by(alloc, &mut hub, world, reader, questions)
+}
+
+/// Returns a shelf with the rows of a world.
+fn shelf_of(alloc: Global, world: &World) -> Result<ListShelf, Fault> {
+    let edits = edits_of(alloc, world)?;
     let mut shelf = ListShelf::new(alloc);
-    shelf.apply(&edits_of(alloc, world)?)?;
-    let mut hub = Hub::new(shelf);
+    shelf.apply(&edits)?;
+    Ok(shelf)
+}
+
+/// Returns the bytes of the replies of a hub.
+fn answers_by<Sh: Shelf>(
+    alloc: Global,
+    hub: &mut Hub<Sh>,
+    world: &World,
+    reader: Reader<'_>,
+    questions: &[Question],
+) -> Result<Vec<Vec<u8>>, Fault> {
     let key = Key::Digest(key_of(reader.who));
     let mut replies = Vec::new(alloc);
     for question in questions {
-        if is_asked(world, reader, question) {
-            let reply = hub.answer(alloc, MOMENT, &key, &question.request);
-            replies.push(reply_bytes(alloc, &reply)?)?;
+        let reply = if is_asked(world, reader, question) {
+            answer_by(alloc, hub, &key, &question.request)?
         } else {
-            replies.push(Vec::new(alloc))?;
-        }
+            Vec::new(alloc)
+        };
+        replies.push(reply)?;
     }
     Ok(replies)
+}
+
+fn answer_by<Sh: Shelf>(
+    alloc: Global,
+    hub: &mut Hub<Sh>,
+    key: &Key,
+    request: &Request,
+) -> Result<Vec<u8>, AllocError> {
+    let reply = hub.answer(alloc, MOMENT, key, request);
+    reply_bytes(alloc, &reply)
 }

@@ -201,6 +201,31 @@ fn turn_directory(dice: &mut Dice, circle: &mut Circle) -> Result<(), AllocError
     }
 }
 
+/// Changes a row, of the incident at this place or of the directory. Returns which premise doesn't hold then.
+fn turn_row(
+    dice: &mut Dice,
+    after: &mut World,
+    reader: Reader<'_>,
+    at: usize,
+) -> Result<Option<&'static str>, AllocError> {
+    let roll = dice.roll(12);
+    match roll {
+        0..=3 => return turn_permission(dice, after, reader, at),
+        4 | 5 => return turn_recipient(dice, after, reader, at),
+        _ => {}
+    }
+    let circle = &mut after.circle;
+    match roll {
+        6 | 7 => other_person(dice, circle, reader),
+        8 => other_arrangement(dice, circle, reader),
+        9 | 10 => other_membership(dice, circle, reader),
+        _ => {
+            turn_directory(dice, circle)?;
+            Ok(Some(DIRECTORY))
+        }
+    }
+}
+
 /// Returns a change of a row, of the incident at this place or of the directory.
 pub fn other_rows(
     dice: &mut Dice,
@@ -209,18 +234,7 @@ pub fn other_rows(
     at: usize,
 ) -> Result<Option<Change>, AllocError> {
     let mut after = world.clone()?;
-    let circle = &mut after.circle;
-    let left_out = match dice.roll(12) {
-        0..=3 => turn_permission(dice, &mut after, reader, at)?,
-        4 | 5 => turn_recipient(dice, &mut after, reader, at)?,
-        6 | 7 => other_person(dice, circle, reader)?,
-        8 => other_arrangement(dice, circle, reader)?,
-        9 | 10 => other_membership(dice, circle, reader)?,
-        _ => {
-            turn_directory(dice, circle)?;
-            Some(DIRECTORY)
-        }
-    };
+    let left_out = turn_row(dice, &mut after, reader, at)?;
     Ok(Some(Change {
         world: after,
         step: ROWS,

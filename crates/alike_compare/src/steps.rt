@@ -106,6 +106,52 @@ fn label_at(report: &Report, place: usize) -> u32 {
         .map_or(0, |class| plain_label(class.label))
 }
 
+/// Whether a world was changed.
+#[derive(Clone, Copy)]
+enum Turn {
+    /// It is as before, or changed in a way that isn't compared.
+    None,
+    /// It was changed, and this premise doesn't hold, if there is one.
+    Made(Option<&'static str>),
+}
+
+/// Returns the change that a turn made of a world.
+fn change_by(turn: Turn, after: World, step: &'static str) -> Option<Change> {
+    match turn {
+        Turn::None => None,
+        Turn::Made(left_out) => Some(Change {
+            world: after,
+            step,
+            left_out,
+        }),
+    }
+}
+
+/// Puts other plain lines in a class.
+fn turn_lines(
+    alloc: Global,
+    dice: &mut Dice,
+    after: &mut World,
+    world: &World,
+    reader: Reader<'_>,
+    at: usize,
+) -> Result<Turn, AllocError> {
+    let ident = after.next_ident();
+    let (Some(report), Some(other)) = (world.reports.get(at), after.reports.get_mut(at)) else {
+        return Ok(Turn::None);
+    };
+    let place = any_place(alloc, dice, reader, report)?;
+    rewrite(dice, other, place, ident);
+    let is_hidden = reader.hidden(report, place).is_some();
+    let is_kept = label_at(report, place) == label_at(other, place);
+    Ok(match (is_hidden, is_kept) {
+        (true, true) => Turn::Made(None),
+        (false, true) => Turn::Made(Some(CLASS_SEEN)),
+        (true, false) => Turn::Made(Some(LABEL)),
+        (false, false) => Turn::None,
+    })
+}
+
 /// Returns a change that puts other plain lines in a class.
 pub fn other_lines(
     alloc: Global,
@@ -115,25 +161,8 @@ pub fn other_lines(
     at: usize,
 ) -> Result<Option<Change>, AllocError> {
     let mut after = world.clone()?;
-    let ident = after.next_ident();
-    let (Some(report), Some(other)) = (world.reports.get(at), after.reports.get_mut(at)) else {
-        return Ok(None);
-    };
-    let place = any_place(alloc, dice, reader, report)?;
-    rewrite(dice, other, place, ident);
-    let is_hidden = reader.hidden(report, place).is_some();
-    let is_kept = label_at(report, place) == label_at(other, place);
-    let left_out = match (is_hidden, is_kept) {
-        (true, true) => None,
-        (false, true) => Some(CLASS_SEEN),
-        (true, false) => Some(LABEL),
-        (false, false) => return Ok(None),
-    };
-    Ok(Some(Change {
-        world: after,
-        step: LINES,
-        left_out,
-    }))
+    let turn = turn_lines(alloc, dice, &mut after, world, reader, at)?;
+    Ok(change_by(turn, after, LINES))
 }
 
 /// Returns whether no class of the same name follows this one in the class that holds both.
@@ -226,6 +255,30 @@ fn left_out_of_cut(
     })
 }
 
+/// Puts in, takes out or exchanges a class, with all classes below it, their gates and permissions.
+fn turn_class(
+    alloc: Global,
+    dice: &mut Dice,
+    after: &mut World,
+    world: &World,
+    reader: Reader<'_>,
+    at: usize,
+) -> Result<Turn, AllocError> {
+    let ident = after.next_ident();
+    let (Some(report), Some(other)) = (world.reports.get(at), after.reports.get_mut(at)) else {
+        return Ok(Turn::None);
+    };
+    let place = any_place(alloc, dice, reader, report)?;
+    let Some(cut) = any_cut(alloc, dice, report, place)? else {
+        return Ok(Turn::None);
+    };
+    other.classes = exchange(alloc, &report.classes, &cut)?;
+    if cut.from == 0 {
+        other.ident = ident;
+    }
+    Ok(Turn::Made(left_out_of_cut(alloc, reader, report, other, &cut)?))
+}
+
 /// Returns a change that puts in, takes out or exchanges a class, with all classes below it, their gates and
 /// permissions.
 pub fn other_class(
@@ -236,24 +289,8 @@ pub fn other_class(
     at: usize,
 ) -> Result<Option<Change>, AllocError> {
     let mut after = world.clone()?;
-    let ident = after.next_ident();
-    let (Some(report), Some(other)) = (world.reports.get(at), after.reports.get_mut(at)) else {
-        return Ok(None);
-    };
-    let place = any_place(alloc, dice, reader, report)?;
-    let Some(cut) = any_cut(alloc, dice, report, place)? else {
-        return Ok(None);
-    };
-    other.classes = exchange(alloc, &report.classes, &cut)?;
-    if cut.from == 0 {
-        other.ident = ident;
-    }
-    let left_out = left_out_of_cut(alloc, reader, report, other, &cut)?;
-    Ok(Some(Change {
-        world: after,
-        step: CLASSES,
-        left_out,
-    }))
+    let turn = turn_class(alloc, dice, &mut after, world, reader, at)?;
+    Ok(change_by(turn, after, CLASSES))
 }
 
 /// Returns another report in place of one, or the same with another community, root gate, recipients and revision.
@@ -303,6 +340,30 @@ fn exchange_report(
     Ok((Some(other), Some(at)))
 }
 
+/// Changes anything in an incident.
+fn turn_incident(
+    alloc: Global,
+    dice: &mut Dice,
+    after: &mut World,
+    reader: Reader<'_>,
+    at: usize,
+) -> Result<Turn, AllocError> {
+    let (before, place) = exchange_report(alloc, dice, after, at)?;
+    let now = place.and_then(|place| after.reports.get(place));
+    if now.map_or(false, |report| reader.is_source(report)) {
+        return Ok(Turn::None);
+    }
+    let was_served = before
+        .as_ref()
+        .map_or(false, |report| reader.is_served(report));
+    let is_served = now.map_or(false, |report| reader.is_served(report));
+    Ok(Turn::Made(if was_served || is_served {
+        Some(SERVED)
+    } else {
+        None
+    }))
+}
+
 /// Returns a change of anything in an incident, which may be missing before or after.
 pub fn other_incident(
     alloc: Global,
@@ -312,23 +373,6 @@ pub fn other_incident(
     at: usize,
 ) -> Result<Option<Change>, AllocError> {
     let mut after = world.clone()?;
-    let (before, place) = exchange_report(alloc, dice, &mut after, at)?;
-    let now = place.and_then(|place| after.reports.get(place));
-    if now.map_or(false, |report| reader.is_source(report)) {
-        return Ok(None);
-    }
-    let was_served = before
-        .as_ref()
-        .map_or(false, |report| reader.is_served(report));
-    let is_served = now.map_or(false, |report| reader.is_served(report));
-    let left_out = if was_served || is_served {
-        Some(SERVED)
-    } else {
-        None
-    };
-    Ok(Some(Change {
-        world: after,
-        step: INCIDENTS,
-        left_out,
-    }))
+    let turn = turn_incident(alloc, dice, &mut after, reader, at)?;
+    Ok(change_by(turn, after, INCIDENTS))
 }

@@ -133,10 +133,9 @@ impl Cases {
     fn before(&mut self, line: &str) -> Result<String, Unfit> {
         let alloc = self.alloc;
         let bytes = bytes_of(alloc, line)?;
-        let Some(mut hub) = hub_behind(alloc, &self.before)? else {
+        let Some(out) = written_behind(alloc, &self.before, &bytes)? else {
             return said(alloc, "no hub");
         };
-        let out = written(alloc, &mut hub, &bytes)?;
         self.before.push(bytes)?;
         said(alloc, body_of(&out))
     }
@@ -168,17 +167,43 @@ impl Cases {
         }
         let own = asked_by(alloc, &self.block, MOMENT)?;
         self.block = Vec::new(alloc);
-        let Some(world) = &self.world else {
-            self.world = Some(own);
-            return Ok(None);
-        };
-        let Some(list) = List::of(alloc, world, &own)? else {
-            return Ok(Some(String::from_str(alloc, "no world")?));
-        };
-        let list = &list;
-        let in_lists = self.sweep.report(alloc, &InLists { list })?;
-        let in_tables = self.sweep.report(alloc, &InTables { list })?;
-        let both = format!(in alloc; "in memory {in_lists}\nin tables {in_tables}")?;
-        Ok(Some(both))
+        match &self.world {
+            Some(world) => run_list(alloc, &mut self.sweep, world, &own).map(Some),
+            None => {
+                self.world = Some(own);
+                Ok(None)
+            }
+        }
     }
+}
+
+/// Returns what a hub writes for these bytes after those requests, or none if there is no hub.
+fn written_behind(
+    alloc: Global,
+    before: &[Vec<u8>],
+    bytes: &[u8],
+) -> Result<Option<Vec<u8>>, AllocError> {
+    match hub_behind(alloc, before)? {
+        Some(mut hub) => written(alloc, &mut hub, bytes).map(Some),
+        None => Ok(None),
+    }
+}
+
+/// Runs a list over both shelves. Returns what is printed for it.
+fn run_list(
+    alloc: Global,
+    sweep: &mut Sweep,
+    world: &[Asked],
+    own: &[Asked],
+) -> Result<String, AllocError> {
+    match List::of(alloc, world, own)? {
+        Some(list) => run_both(alloc, sweep, &list),
+        None => String::from_str(alloc, "no world"),
+    }
+}
+
+fn run_both(alloc: Global, sweep: &mut Sweep, list: &List<'_>) -> Result<String, AllocError> {
+    let in_lists = sweep.report(alloc, &InLists { list })?;
+    let in_tables = sweep.report(alloc, &InTables { list })?;
+    format!(in alloc; "in memory {in_lists}\nin tables {in_tables}")
 }

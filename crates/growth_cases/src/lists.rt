@@ -80,12 +80,22 @@ fn due_but(
     own: &[Asked],
     but: Option<usize>,
 ) -> Result<Option<Due>, AllocError> {
-    let Some(mut hub) = in_lists(alloc, world)? else {
-        return Ok(None);
-    };
-    let replies = replies_but(alloc, &mut hub, own, but)?;
-    let content = content(alloc, &mut hub, &keys(alloc)?)?;
-    Ok(Some(Due { replies, content }))
+    match in_lists(alloc, world)? {
+        Some(mut hub) => due_of(alloc, &mut hub, own, but).map(Some),
+        None => Ok(None),
+    }
+}
+
+/// Returns what is due by a hub in memory, which isn't asked one of the requests.
+fn due_of<A: Asks>(
+    alloc: Global,
+    hub: &mut A,
+    own: &[Asked],
+    but: Option<usize>,
+) -> Result<Due, AllocError> {
+    let replies = replies_but(alloc, hub, own, but)?;
+    let content = content(alloc, hub, &keys(alloc)?)?;
+    Ok(Due { replies, content })
 }
 
 /// Returns what is due if nothing is given up, and what is due if each request is.
@@ -149,7 +159,25 @@ impl<'a> List<'a> {
         }
     }
 
-    /// Returns what is wrong with these replies and with the hub's content after them, or none if nothing is.
+    /// Returns what isn't due of these replies and of the hub's content after them, or none if all is.
+    fn not_due<A: Asks>(
+        &self,
+        alloc: Global,
+        hub: &mut A,
+        replies: &[Reply],
+        due: &Due,
+    ) -> Result<Option<String>, AllocError> {
+        if let Some(i) = first_not_due(alloc, replies, due)? {
+            return Ok(Some(format!(in alloc; "reply {i}, from 0 on, isn't the one that is due")?));
+        }
+        let has = content(alloc, hub, &self.keys)?;
+        if has.as_slice() == due.content.as_slice() {
+            return Ok(None);
+        }
+        Ok(Some(String::from_str(alloc, "another content")?))
+    }
+
+    /// Returns what is wrong with these replies and with the hub after them, or none if nothing is.
     fn fault<A: Asks + Drop>(
         &self,
         alloc: Global,
@@ -157,17 +185,12 @@ impl<'a> List<'a> {
         replies: &[Reply],
         due: &Due,
     ) -> Result<Option<String>, AllocError> {
-        if let Some(i) = first_not_due(alloc, replies, due)? {
-            return Ok(Some(format!(in alloc; "reply {i}, from 0 on, isn't the one that is due")?));
+        let not_due = self.not_due(alloc, &mut hub, replies, due);
+        let failures = hub.failures();
+        match not_due? {
+            None if failures > 0 => Ok(Some(String::from_str(alloc, "a failure of the shelf")?)),
+            not_due => Ok(not_due),
         }
-        let has = content(alloc, &mut hub, &self.keys)?;
-        if has.as_slice() != due.content.as_slice() {
-            return Ok(Some(String::from_str(alloc, "another content")?));
-        }
-        if hub.failures() > 0 {
-            return Ok(Some(String::from_str(alloc, "a failure of the shelf")?));
-        }
-        Ok(None)
     }
 
     /// Runs the list over a hub that has the world. Returns the outcome.

@@ -69,21 +69,33 @@ fn sweep_of(words: &[String]) -> Sweep {
     }
 }
 
+/// Prints what is printed for a line.
+fn print_line(rt: &HostRuntime, cases: &mut Cases, line: &str) -> io::Result<()> {
+    if line.starts_with('#') {
+        return println!(rt; "{line}");
+    }
+    match cases.told_of(line)? {
+        Some(told) => println!(rt; "{told}"),
+        None => Ok(()),
+    }
+}
+
+/// Prints what is printed for each line. Returns the growths that were refused.
+fn print_all(rt: &HostRuntime, mut cases: Cases, table: &str) -> io::Result<Sweep> {
+    for line in table.lines() {
+        print_line(rt, &mut cases, line)?;
+    }
+    Ok(cases.sweep)
+}
+
 fn main(rt: HostRuntime) -> io::Result<()> {
     let alloc = rt.alloc();
     let words: Vec<String> = env::args(&rt)?.skip(1).collect(alloc)?;
     let mut table = String::new(alloc);
     rt.reader().read_to_string(&mut table)?;
-    let mut cases = Cases::new(alloc, sweep_of(&words));
-    for line in table.lines() {
-        if line.starts_with('#') {
-            println!(rt; "{line}")?;
-        } else if let Some(told) = cases.told_of(line)? {
-            println!(rt; "{told}")?;
-        }
-    }
+    let sweep = print_all(&rt, Cases::new(alloc, sweep_of(&words)), table.as_str())?;
     if !words.is_empty() {
-        let (growths, runs) = (cases.sweep.growths, cases.sweep.runs);
+        let (growths, runs) = (sweep.growths, sweep.runs);
         println!(rt; "{growths} growths refused in {runs} runs")?;
     }
     Ok(())

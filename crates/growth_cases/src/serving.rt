@@ -50,16 +50,26 @@ impl<'a> Serving<'a> {
         before: &'a [Vec<u8>],
         bytes: &'a [u8],
     ) -> Result<Option<Serving<'a>>, AllocError> {
-        let Some(mut hub) = hub_behind(alloc, before)? else {
-            return Ok(None);
-        };
-        let keys = keys_shown(alloc)?;
-        let first = written(alloc, &mut hub, bytes)?;
-        let content = content(alloc, &mut hub, &keys)?;
-        let second = written(alloc, &mut hub, bytes)?;
+        match hub_behind(alloc, before)? {
+            Some(mut hub) => Serving::by(alloc, &mut hub, before, bytes).map(Some),
+            None => Ok(None),
+        }
+    }
+
+    /// Makes the request, and what is due for it by a hub that answered those before it.
+    fn by(
+        alloc: Global,
+        hub: &mut Lists,
+        before: &'a [Vec<u8>],
+        bytes: &'a [u8],
+    ) -> Result<Serving<'a>, AllocError> {
         let refused = Reply::Refused(Refusal::bare(alloc, Code::F2));
         let given_up = reply_bytes(alloc, &refused)?;
-        Ok(Some(Serving {
+        let keys = keys_shown(alloc)?;
+        let first = written(alloc, hub, bytes)?;
+        let content = content(alloc, hub, &keys)?;
+        let second = written(alloc, hub, bytes)?;
+        Ok(Serving {
             before,
             bytes,
             keys,
@@ -67,7 +77,7 @@ impl<'a> Serving<'a> {
             second,
             given_up,
             content,
-        }))
+        })
     }
 
     fn outcome(&self, served: Result<Served, ServeFault>, out: &[u8]) -> Outcome {
@@ -113,16 +123,9 @@ impl<'a> Serving<'a> {
         }
         self.due(alloc)
     }
-}
 
-impl Trial for Serving<'_> {
-    fn run(&self, alloc: Global, n: u32) -> Result<Met, AllocError> {
-        let Some(mut hub) = hub_behind(alloc, self.before)? else {
-            return Ok(Met {
-                refused: false,
-                told: None,
-            });
-        };
+    /// Serves the request by a hub that answered those before it, with the n-th growth refused.
+    fn run_by(&self, alloc: Global, hub: &mut Lists, n: u32) -> Result<Met, AllocError> {
         let mut out: Vec<u8> = Vec::with_capacity(alloc, ROOM)?;
         arm(alloc, n);
         let served = hub.serve(alloc, self.bytes, &mut out, MOMENT);
@@ -134,7 +137,19 @@ impl Trial for Serving<'_> {
                 told: None,
             });
         }
-        let told = Some(self.describe(alloc, &mut hub, outcome)?);
+        let told = Some(self.describe(alloc, hub, outcome)?);
         Ok(Met { refused, told })
+    }
+}
+
+impl Trial for Serving<'_> {
+    fn run(&self, alloc: Global, n: u32) -> Result<Met, AllocError> {
+        match hub_behind(alloc, self.before)? {
+            Some(mut hub) => self.run_by(alloc, &mut hub, n),
+            None => Ok(Met {
+                refused: false,
+                told: None,
+            }),
+        }
     }
 }

@@ -48,10 +48,18 @@ pub fn hub_behind(alloc: Global, before: &[Vec<u8>]) -> Result<Option<Lists>, Al
     let Ok(mut hub) = Lists::with(alloc, &first_rows(alloc, ABC)?) else {
         return Ok(None);
     };
-    for bytes in before {
-        written(alloc, &mut hub, bytes)?;
+    // no return by `?` while there is a hub: each would prove its drop once more
+    match ask_all(alloc, &mut hub, before) {
+        Ok(()) => Ok(Some(hub)),
+        Err(refused) => Err(refused),
     }
-    Ok(Some(hub))
+}
+
+fn ask_all(alloc: Global, hub: &mut Lists, requests: &[Vec<u8>]) -> Result<(), AllocError> {
+    for bytes in requests {
+        written(alloc, hub, bytes)?;
+    }
+    Ok(())
 }
 
 /// Returns the bytes after the head of a reply.
@@ -70,16 +78,26 @@ pub struct Bytes<'a> {
     pub bytes: &'a [u8],
 }
 
+/// Returns what a hub answers, and what it then has.
+fn describe_by(
+    alloc: Global,
+    hub: &mut Lists,
+    key: &Key,
+    request: &Request,
+) -> Result<String, AllocError> {
+    let reply = hub.answer(alloc, MOMENT, key, request);
+    let bytes = reply_bytes(alloc, &reply)?;
+    let has = content(alloc, hub, &keys_shown(alloc)?)?;
+    let (body, has) = (body_of(&bytes), str::from_utf8(&has).unwrap_or("no text"));
+    format!(in alloc; "{body}\n{has}")
+}
+
 impl Bytes<'_> {
     fn describe(&self, alloc: Global, key: &Key, request: &Request) -> Result<String, AllocError> {
-        let Some(mut hub) = hub_behind(alloc, self.before)? else {
-            return String::from_str(alloc, "no hub");
-        };
-        let reply = hub.answer(alloc, MOMENT, key, request);
-        let bytes = reply_bytes(alloc, &reply)?;
-        let has = content(alloc, &mut hub, &keys_shown(alloc)?)?;
-        let (body, has) = (body_of(&bytes), str::from_utf8(&has).unwrap_or("no text"));
-        format!(in alloc; "{body}\n{has}")
+        match hub_behind(alloc, self.before)? {
+            Some(mut hub) => describe_by(alloc, &mut hub, key, request),
+            None => String::from_str(alloc, "no hub"),
+        }
     }
 }
 

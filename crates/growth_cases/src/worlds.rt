@@ -5,6 +5,16 @@ use std::alloc::{AllocError, Global};
 use trying_hub::{first_rows, key_of};
 use trying_shelves::{Asked, Asks, Lists, Tables};
 
+/// Asks these requests. Returns whether one of them is refused.
+fn is_refused<A: Asks>(alloc: Global, hub: &mut A, world: &[Asked]) -> Result<bool, AllocError> {
+    let replies = hub.run(alloc, world)?;
+    Ok(
+        replies
+            .iter()
+            .any(|reply| matches!(reply, Reply::Refused(_))),
+    )
+}
+
 /// Asks these requests. Returns the hub, or none if it wasn't made or refuses one of them.
 fn populate<A: Asks + Drop>(
     alloc: Global,
@@ -14,14 +24,11 @@ fn populate<A: Asks + Drop>(
     let Ok(mut hub) = begun else {
         return Ok(None);
     };
-    let replies = hub.run(alloc, world)?;
-    if replies
-        .iter()
-        .any(|reply| matches!(reply, Reply::Refused(_)))
-    {
-        return Ok(None);
+    match is_refused(alloc, &mut hub, world) {
+        Ok(false) => Ok(Some(hub)),
+        Ok(true) => Ok(None),
+        Err(refused) => Err(refused),
     }
-    Ok(Some(hub))
 }
 
 /// Returns the world in memory.

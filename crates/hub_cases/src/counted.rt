@@ -28,15 +28,30 @@ fn all_searches(alloc: Global, shelf: ListShelf, asked: &[Asked]) -> Result<Vec<
 
 /// Returns how many reports the shelf was asked about, for each page behind the lines of the world.
 pub fn counts(alloc: Global, lines: &[&str], world: usize) -> Result<String, AllocError> {
-    let mut told = String::from_str(alloc, "reports searched for each page:")?;
-    let Some(shelf) = first_shelf(alloc, key_of(1))? else {
-        return Ok(told);
+    let asked = requests_of(alloc, lines, None)?;
+    let all = match first_shelf(alloc, key_of(1))? {
+        Some(shelf) => all_searches(alloc, shelf, &asked)?,
+        None => Vec::new(alloc),
     };
-    let all = all_searches(alloc, shelf, &requests_of(alloc, lines, None)?)?;
-    for (searches, line) in all.iter().zip(lines.iter()).skip(world) {
-        if is_page(line) {
-            told.push_str(format!(in alloc; " {searches}")?.as_str())?;
+    describe(alloc, &all, lines, world)
+}
+
+fn describe(
+    alloc: Global,
+    all: &[u64],
+    lines: &[&str],
+    world: usize,
+) -> Result<String, AllocError> {
+    let mut told = String::from_str(alloc, "reports searched for each page:")?;
+    for (place, (searches, line)) in all.iter().zip(lines.iter()).enumerate() {
+        if place >= world && is_page(line) {
+            push_count(alloc, &mut told, *searches)?;
         }
     }
     Ok(told)
+}
+
+fn push_count(alloc: Global, told: &mut String, searches: u64) -> Result<(), AllocError> {
+    let text = format!(in alloc; " {searches}")?;
+    told.push_str(text.as_str())
 }

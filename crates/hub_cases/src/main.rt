@@ -43,40 +43,55 @@ mod watched;
 mod world;
 
 use block::Block;
-use std::io;
 use std::io::Read;
+use std::{io, mem};
 
-fn main(rt: HostRuntime) -> io::Result<()> {
-    let alloc = rt.alloc();
-    let mut table = String::new(alloc);
-    rt.reader().read_to_string(&mut table)?;
-    let mut world = Block::new(alloc);
-    let mut block = Block::new(alloc);
-    for line in table.lines() {
-        if line.is_empty() {
-            for told in play::answers(alloc, &world, &block)? {
-                println!(rt; "{told}")?;
-            }
-            if world.is_empty() {
-                world = block;
-            }
-            block = Block::new(alloc);
-        } else if line.starts_with('#') {
-            println!(rt; "{line}")?;
-        } else {
-            block.add(line)?;
-        }
-    }
-    for told in openings::all(alloc)? {
-        println!(rt; "{told}")?;
-    }
-    let told = stored_lines::describe(alloc, &world)?;
-    println!(rt; "{told}")?;
-    for told in missing_row::all(alloc, &world)? {
-        println!(rt; "{told}")?;
-    }
-    for told in old_store::all(alloc)? {
-        println!(rt; "{told}")?;
+fn print_all(rt: &HostRuntime, lines: &[String]) -> io::Result<()> {
+    for line in lines {
+        println!(rt; "{line}")?;
     }
     Ok(())
+}
+
+/// Reads a line of the table into the block, and prints the block if it ends here.
+fn read_line(rt: &HostRuntime, world: &mut Block, block: &mut Block, line: &str) -> io::Result<()> {
+    if line.starts_with('#') {
+        return println!(rt; "{line}");
+    }
+    if !line.is_empty() {
+        return Ok(block.add(line)?);
+    }
+    print_all(rt, &play::answers(rt.alloc(), world, block)?)?;
+    let last = mem::replace(block, Block::new(rt.alloc()));
+    if world.is_empty() {
+        *world = last;
+    }
+    Ok(())
+}
+
+/// Prints what is printed for each block. Returns the first one.
+fn print_blocks(rt: &HostRuntime, table: &str) -> io::Result<Block> {
+    let mut world = Block::new(rt.alloc());
+    let mut block = Block::new(rt.alloc());
+    for line in table.lines() {
+        read_line(rt, &mut world, &mut block, line)?;
+    }
+    Ok(world)
+}
+
+/// Prints what is printed after all blocks.
+fn print_stores(rt: &HostRuntime, world: &Block) -> io::Result<()> {
+    let alloc = rt.alloc();
+    print_all(rt, &openings::all(alloc)?)?;
+    let told = stored_lines::describe(alloc, world)?;
+    println!(rt; "{told}")?;
+    print_all(rt, &missing_row::all(alloc, world)?)?;
+    print_all(rt, &old_store::all(alloc)?)
+}
+
+fn main(rt: HostRuntime) -> io::Result<()> {
+    let mut table = String::new(rt.alloc());
+    rt.reader().read_to_string(&mut table)?;
+    let world = print_blocks(&rt, table.as_str())?;
+    print_stores(&rt, &world)
 }

@@ -72,11 +72,23 @@ fn told_behind(alloc: Global, world: &Block, loss: Loss) -> Result<Vec<String>, 
         return Ok(all);
     };
     for (i, line) in loss.asked.iter().enumerate() {
-        let told = ask(&mut tables, alloc, line, moment_at(i))?;
-        let name = loss.name;
-        all.push(format!(in alloc; "without {name}, {line}: {told}")?)?;
+        push_told(alloc, &mut all, &mut tables, loss.name, line, i)?;
     }
     Ok(all)
+}
+
+/// Adds what the tables without a row answer to the request at this place.
+fn push_told(
+    alloc: Global,
+    all: &mut Vec<String>,
+    tables: &mut Tables,
+    name: &str,
+    line: &str,
+    place: usize,
+) -> Result<(), AllocError> {
+    let told = ask(tables, alloc, line, moment_at(place))?;
+    all.push(format!(in alloc; "without {name}, {line}: {told}")?)?;
+    Ok(())
 }
 
 /// Returns what is printed for all losses.

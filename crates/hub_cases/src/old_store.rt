@@ -128,22 +128,43 @@ fn are_run(store: &mut Store, statements: &[&str]) -> bool {
 fn look(alloc: Global, tables: &mut Tables) -> Result<String, AllocError> {
     let mut told = String::new(alloc);
     for (i, line) in ASKED.iter().enumerate() {
-        let answer = ask(tables, alloc, line, moment_at(i))?;
-        told.push_str(if told.is_empty() { "" } else { "; " })?;
-        told.push_str(answer.as_str())?;
+        push_answer(alloc, &mut told, tables, line, i)?;
     }
     Ok(told)
 }
 
+fn push_answer(
+    alloc: Global,
+    told: &mut String,
+    tables: &mut Tables,
+    line: &str,
+    place: usize,
+) -> Result<(), AllocError> {
+    let answer = ask(tables, alloc, line, moment_at(place))?;
+    told.push_str(if told.is_empty() { "" } else { "; " })?;
+    told.push_str(answer.as_str())
+}
+
 /// Opens the store or migrates it to the newest version. Returns what is seen then, or the fault, and the store.
-fn told_by(alloc: Global, store: Store, migrates: bool) -> Result<(String, Store), AllocError> {
+fn told_by(alloc: Global, store: Store, migrates: bool) -> (Result<String, AllocError>, Store) {
     match store.open(alloc, migrates) {
         Ok(mut tables) => {
-            let told = look(alloc, &mut tables)?;
-            Ok((told, tables.release()))
+            let told = look(alloc, &mut tables);
+            (told, tables.release())
         }
-        Err((fault, store)) => Ok((fault_told(alloc, fault)?, store)),
+        Err((fault, store)) => (fault_told(alloc, fault), store),
     }
+}
+
+fn push_turn(
+    alloc: Global,
+    all: &mut Vec<String>,
+    what: &str,
+    told: Result<String, AllocError>,
+) -> Result<(), AllocError> {
+    let told = told?;
+    all.push(format!(in alloc; "{what}: {told}")?)?;
+    Ok(())
 }
 
 /// Adds what is printed for a store that is opened or migrated in turn.
@@ -155,8 +176,8 @@ fn in_turn(
 ) -> Result<(), AllocError> {
     let mut store = store;
     for (what, migrates) in turns {
-        let (told, back) = told_by(alloc, store, *migrates)?;
-        all.push(format!(in alloc; "{what}: {told}")?)?;
+        let (told, back) = told_by(alloc, store, *migrates);
+        push_turn(alloc, all, what, told)?;
         store = back;
     }
     Ok(())

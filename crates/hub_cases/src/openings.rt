@@ -133,18 +133,33 @@ const STORES: [(&str, &str); 13] = [
     ),
 ];
 
+/// Adds how opening a store ends, and migrating it.
+fn push_store(
+    alloc: Global,
+    all: &mut Vec<String>,
+    what: &str,
+    statements: &str,
+) -> Result<(), AllocError> {
+    let told = told_of(alloc, statements, false)?;
+    push(alloc, all, what, told.as_str())?;
+    let told = told_of(alloc, statements, true)?;
+    push(alloc, all, "migrated", told.as_str())
+}
+
+/// Adds what is printed for stores that the hub itself made.
+fn push_made(alloc: Global, all: &mut Vec<String>) -> Result<(), AllocError> {
+    push(alloc, all, "after NotOurs", made_after_refusal(alloc)?)?;
+    push(alloc, all, "made twice", made_twice(alloc)?)?;
+    push(alloc, all, "opened again", opened_again(alloc, false)?)?;
+    push(alloc, all, "migrated", opened_again(alloc, true)?)
+}
+
 /// Returns what is printed for stores that are made and opened.
 pub fn all(alloc: Global) -> Result<Vec<String>, AllocError> {
     let mut all = Vec::new(alloc);
     for (what, statements) in STORES {
-        let told = told_of(alloc, statements, false)?;
-        push(alloc, &mut all, what, told.as_str())?;
-        let told = told_of(alloc, statements, true)?;
-        push(alloc, &mut all, "migrated", told.as_str())?;
+        push_store(alloc, &mut all, what, statements)?;
     }
-    push(alloc, &mut all, "after NotOurs", made_after_refusal(alloc)?)?;
-    push(alloc, &mut all, "made twice", made_twice(alloc)?)?;
-    push(alloc, &mut all, "opened again", opened_again(alloc, false)?)?;
-    push(alloc, &mut all, "migrated", opened_again(alloc, true)?)?;
+    push_made(alloc, &mut all)?;
     Ok(all)
 }

@@ -7,7 +7,7 @@ use crate::watched::run_failing;
 use crate::world::{begun_in_memory, begun_in_tables, lines_of, moment_at, requests_of};
 use std::alloc::{AllocError, Global};
 use trying_hub::{first_shelf, key_of};
-use trying_shelves::{Asks, ask, replies_text};
+use trying_shelves::{Asks, Tables, ask, replies_text};
 
 /// More calls of the shelf than a case makes.
 const MOST_CALLS: u64 = 10_000;
@@ -52,13 +52,25 @@ fn replies_over_tables(alloc: Global, lines: &[&str]) -> Result<Option<Vec<Strin
     };
     let mut told = Vec::new(alloc);
     for (i, line) in lines.iter().enumerate() {
-        told.push(ask(&mut tables, alloc, line, moment_at(i))?)?;
+        push_answer(alloc, &mut told, &mut tables, line, i)?;
         match tables.opened_anew(alloc) {
             Some(again) => tables = again,
             None => return Ok(None),
         }
     }
     Ok(Some(told))
+}
+
+/// Adds the answer of tables to the request at this place.
+fn push_answer(
+    alloc: Global,
+    told: &mut Vec<String>,
+    tables: &mut Tables,
+    line: &str,
+    place: usize,
+) -> Result<(), AllocError> {
+    told.push(ask(tables, alloc, line, moment_at(place))?)?;
+    Ok(())
 }
 
 /// Returns whether all except for one are the same.
@@ -108,28 +120,56 @@ fn over_tables(alloc: Global, lines: &[&str], told: &[String]) -> Result<&'stati
     }
 }
 
+fn push(alloc: Global, answers: &mut Vec<String>, text: &str) -> Result<(), AllocError> {
+    answers.push(String::from_str(alloc, text)?)?;
+    Ok(())
+}
+
+/// Adds the answers behind those of the world, and how the tables answered.
+fn push_answers(
+    alloc: Global,
+    answers: &mut Vec<String>,
+    lines: &[&str],
+    told: &[String],
+    world: usize,
+) -> Result<(), AllocError> {
+    for reply in told.iter().skip(world) {
+        push(alloc, answers, reply.as_str())?;
+    }
+    push(alloc, answers, over_tables(alloc, lines, told)?)
+}
+
+/// Adds what else is printed for a block.
+fn push_outcomes(
+    alloc: Global,
+    answers: &mut Vec<String>,
+    lines: &[&str],
+    block: &Block,
+    world: usize,
+) -> Result<(), AllocError> {
+    if block.fails {
+        push(alloc, answers, failed_in_turn(alloc, lines)?)?;
+    }
+    if block.limits {
+        push(alloc, answers, limit_steps(alloc, lines, world)?)?;
+    }
+    if block.counts {
+        answers.push(counts(alloc, lines, world)?)?;
+    }
+    Ok(())
+}
+
 /// Returns what is printed for a block: the answer to each of its requests, and how the tables answered.
 pub fn answers(alloc: Global, world: &Block, block: &Block) -> Result<Vec<String>, AllocError> {
     let lines = lines_of(alloc, world, block)?;
     let mut answers = Vec::new(alloc);
-    let Some(told) = replies(alloc, &lines, None)? else {
-        answers.push(String::from_str(alloc, "no memory")?)?;
-        return Ok(answers);
-    };
-    let same = over_tables(alloc, &lines, &told)?;
-    for reply in told.into_iter().skip(world.lines.len()) {
-        answers.push(reply)?;
-    }
-    answers.push(String::from_str(alloc, same)?)?;
-    if block.fails {
-        answers.push(String::from_str(alloc, failed_in_turn(alloc, &lines)?)?)?;
-    }
-    if block.limits {
-        let told = limit_steps(alloc, &lines, world.lines.len())?;
-        answers.push(String::from_str(alloc, told)?)?;
-    }
-    if block.counts {
-        answers.push(counts(alloc, &lines, world.lines.len())?)?;
+    let count = world.lines.len();
+    match replies(alloc, &lines, None)? {
+        Some(told) => {
+            push_answers(alloc, &mut answers, &lines, &told, count)?;
+            push_outcomes(alloc, &mut answers, &lines, block, count)?;
+        }
+        None => push(alloc, &mut answers, "no memory")?,
     }
     Ok(answers)
 }

@@ -3,7 +3,24 @@
 use crate::block::Block;
 use crate::world::{begun_in_tables, lines_of, requests_of};
 use std::alloc::{AllocError, Global};
-use trying_shelves::{Asks, Store, Tables};
+use trying_shelves::{Asked, Asks, Store, Tables};
+
+/// Returns the requests of the world, and these posts behind them.
+fn requests_with(alloc: Global, world: &Block, posts: &[&str]) -> Result<Vec<Asked>, AllocError> {
+    let mut block = Block::new(alloc);
+    for post in posts {
+        block.add(post)?;
+    }
+    requests_of(alloc, &lines_of(alloc, world, &block)?, None)
+}
+
+/// Returns the tables after these requests, or none if the memory doesn't suffice.
+fn tables_after(alloc: Global, mut tables: Tables, asked: &[Asked]) -> Option<Tables> {
+    match tables.run(alloc, asked) {
+        Ok(_) => Some(tables),
+        Err(_) => None,
+    }
+}
 
 /// Returns the tables, once these are posted after the requests of the world, or none if they aren't made.
 pub fn post_all(
@@ -11,17 +28,10 @@ pub fn post_all(
     world: &Block,
     posts: &[&str],
 ) -> Result<Option<Tables>, AllocError> {
-    let mut block = Block::new(alloc);
-    for post in posts {
-        block.add(post)?;
-    }
-    let Some(mut tables) = begun_in_tables(alloc)? else {
-        return Ok(None);
-    };
-    let asked = requests_of(alloc, &lines_of(alloc, world, &block)?, None)?;
-    match tables.run(alloc, &asked) {
-        Ok(_) => Ok(Some(tables)),
-        Err(_) => Ok(None),
+    let asked = requests_with(alloc, world, posts)?;
+    match begun_in_tables(alloc)? {
+        Some(tables) => Ok(tables_after(alloc, tables, &asked)),
+        None => Ok(None),
     }
 }
 

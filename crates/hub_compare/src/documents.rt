@@ -148,6 +148,14 @@ fn unless(is_missing: bool, name: &'static str) -> &'static str {
     if is_missing { "other" } else { name }
 }
 
+fn joined(alloc: Global, pieces: &[&str]) -> Result<String, AllocError> {
+    let mut text = String::new(alloc);
+    for piece in pieces {
+        text.push_str(piece)?;
+    }
+    Ok(text)
+}
+
 fn incident(
     alloc: Global,
     dice: &mut Dice,
@@ -165,9 +173,27 @@ fn incident(
     let events = events(alloc, dice, wide)?;
     let flawed = with_flaw(alloc, dice, flaw)?;
     let own = label(dice);
-    format!(in alloc;
-        "{{\"{contact}\":{contacts},\"EventData\":[{events}],\"{time}\":\"g\",\"{id}\":{ident},\"{purpose}\":\"reporting\"{flawed}{own}}}"
-    )
+    let pieces = [
+        "{\"",
+        contact,
+        "\":",
+        contacts,
+        ",\"EventData\":[",
+        events.as_str(),
+        "],\"",
+        time,
+        "\":\"g\",\"",
+        id,
+        "\":",
+        ident,
+        ",\"",
+        purpose,
+        "\":\"reporting\"",
+        flawed.as_str(),
+        own,
+        "}",
+    ];
+    joined(alloc, &pieces)
 }
 
 /// Returns a body of an Incident for each of these IncidentIDs, with the flaw in the last; wide ones have two dozen
@@ -188,9 +214,16 @@ pub fn any_body(
     for (place, ident) in idents.iter().enumerate() {
         let is_last = place.saturating_add(1) == idents.len();
         let own = if is_last { flaw } else { Flaw::Nothing };
-        text.push_str(incident(alloc, dice, ident.as_str(), own, wide)?.as_str())?;
+        let incident = incident(alloc, dice, ident.as_str(), own, wide)?;
+        text.push_str(incident.as_str())?;
         text.push_str(if is_last { "]" } else { "," })?;
     }
+    push_members(dice, &mut text)?;
+    Ok(text)
+}
+
+/// Adds the members behind the Incidents.
+fn push_members(dice: &mut Dice, text: &mut String) -> Result<(), AllocError> {
     text.push_str(",\"version\":\"2.0\"")?;
     for member in [
         ",\"restriction\":\"public\"",
@@ -201,8 +234,7 @@ pub fn any_body(
             text.push_str(member)?;
         }
     }
-    text.push('}')?;
-    Ok(text)
+    text.push('}')
 }
 
 /// Returns the IncidentID of this number: a text, or a class.

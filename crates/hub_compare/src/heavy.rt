@@ -86,6 +86,8 @@ fn ask_all(shelf: &mut Heavy) -> Result<(), Fault> {
 pub fn weight_in_the_end(alloc: Global) -> Result<usize, Fault> {
     let edits = reports(alloc)?.into_edits()?;
     let mut shelf = Kept::<MOST_WEIGHT>::with(alloc, edits.as_slice())?.into_shelf();
-    ask_all(&mut shelf)?;
-    Ok(shelf.weight())
+    match ask_all(&mut shelf) {
+        Ok(()) => Ok(shelf.weight()),
+        Err(fault) => Err(fault),
+    }
 }

@@ -175,17 +175,28 @@ fn asked_by(who: u32, request: Request) -> Asked {
 
 /// Compares the first page of the incidents, a hundred of them, and the rest.
 fn agree_on_pages(alloc: Global, shelves: &mut Shelves) -> Result<(), Fault> {
-    for (after, count) in [(0, 100), (100, 12)] {
-        let asked = asked_by(COORDINATOR, Request::List { after });
-        let Reply::Incidents(entries) = shelves.reply(alloc, &asked)? else {
-            return Err(Fault::Differs("a page that is none"));
-        };
-        agree(
-            entries.as_slice().len() == count,
-            "how many incidents a page has",
-        )?;
+    agree_on_page(alloc, shelves, 0, 100)?;
+    agree_on_page(alloc, shelves, 100, 12)
+}
+
+/// Compares the page behind an incident, which must have so many.
+fn agree_on_page(
+    alloc: Global,
+    shelves: &mut Shelves,
+    after: u32,
+    count: usize,
+) -> Result<(), Fault> {
+    let asked = asked_by(COORDINATOR, Request::List { after });
+    let reply = shelves.reply(alloc, &asked)?;
+    match &reply {
+        Reply::Incidents(entries) => {
+            agree(
+                entries.as_slice().len() == count,
+                "how many incidents a page has",
+            )
+        }
+        _ => Err(Fault::Differs("a page that is none")),
     }
-    Ok(())
 }
 
 /// Returns the hubs over a world with room for one more of each kind.
@@ -211,12 +222,18 @@ fn agree_on_one_more(
     Ok(())
 }
 
+fn agree_on_replies(alloc: Global, tally: &mut Tally, shelves: &mut Shelves) -> Result<(), Fault> {
+    for time in 0..TIMES {
+        agree_on_one_more(alloc, tally, shelves, time)?;
+    }
+    agree_on_pages(alloc, shelves)
+}
+
 /// Compares the replies of all hubs to requests for one more: it is done, and from then on there is no room.
 pub fn agree_at_limits(alloc: Global, tally: &mut Tally) -> Result<(), Fault> {
     let mut shelves = nearly_full_hubs(alloc)?;
-    for time in 0..TIMES {
-        agree_on_one_more(alloc, tally, &mut shelves, time)?;
+    match agree_on_replies(alloc, tally, &mut shelves) {
+        Ok(()) => shelves.opened_anew(alloc)?.agree_on_content(alloc),
+        Err(fault) => Err(fault),
     }
-    agree_on_pages(alloc, &mut shelves)?;
-    shelves.opened_anew(alloc)?.agree_on_content(alloc)
 }

@@ -5,6 +5,7 @@ use crate::replies::{same_document, same_excerpt, same_groups};
 use crate::world::{KEYS, key_of};
 use circle::directory::Person;
 use hub_core::{Shelf, ShelfFault};
+use iodef_tree::Document;
 use policy::{Case, Gate, Permission, Standing};
 use redact::Excerpt;
 use std::alloc::Global;
@@ -85,6 +86,14 @@ fn agree_on_key<A: Shelf, B: Shelf>(
 /// The moment of the standings.
 const NOW: i64 = 1_000;
 
+fn same_standings(one: &Option<Standing>, other: &Option<Standing>) -> bool {
+    match (one, other) {
+        (Some(one), Some(other)) => same_standing(one, other),
+        (None, None) => true,
+        _ => false,
+    }
+}
+
 /// Compares the person's standing to the incident, if it is there.
 fn agree_on_standing<A: Shelf, B: Shelf>(
     lists: &mut A,
@@ -92,15 +101,9 @@ fn agree_on_standing<A: Shelf, B: Shelf>(
     person: u32,
     incident: u32,
 ) -> Result<(), Fault> {
-    let alike = match (
-        lists.standing(person, incident, NOW)?,
-        tables.standing(person, incident, NOW)?,
-    ) {
-        (Some(one), Some(other)) => same_standing(&one, &other),
-        (None, None) => true,
-        _ => false,
-    };
-    agree(alike, "a standing")
+    let one = lists.standing(person, incident, NOW)?;
+    let other = tables.standing(person, incident, NOW)?;
+    agree(same_standings(&one, &other), "a standing")
 }
 
 /// Compares what the incident is judged by.
@@ -109,10 +112,12 @@ fn agree_on_case<A: Shelf, B: Shelf>(
     tables: &mut B,
     incident: u32,
 ) -> Result<(), Fault> {
-    let (Some(one), Some(other)) = (lists.case(incident)?, tables.case(incident)?) else {
-        return Err(Fault::Differs("a case that is missing"));
-    };
-    agree(same_case(&one, &other), "a case")
+    let one = lists.case(incident)?;
+    let other = tables.case(incident)?;
+    match (&one, &other) {
+        (Some(one), Some(other)) => agree(same_case(one, other), "a case"),
+        _ => Err(Fault::Differs("a case that is missing")),
+    }
 }
 
 /// Compares the document of the incident.
@@ -122,10 +127,16 @@ fn agree_on_document<A: Shelf, B: Shelf>(
     tables: &mut B,
     incident: u32,
 ) -> Result<(), Fault> {
-    let (Some(one), Some(other)) = (lists.document(incident)?, tables.document(incident)?) else {
-        return Err(Fault::Differs("a document that is missing"));
-    };
-    agree(same_document(alloc, &one, &other)?, "a document")
+    let one = lists.document(incident)?;
+    let other = tables.document(incident)?;
+    match (&one, &other) {
+        (Some(one), Some(other)) => agree_on_lines(alloc, one, other),
+        _ => Err(Fault::Differs("a document that is missing")),
+    }
+}
+
+fn agree_on_lines(alloc: Global, one: &Document, other: &Document) -> Result<(), Fault> {
+    agree(same_document(alloc, one, other)?, "a document")
 }
 
 /// Compares the case of the incident, its document, and the standings of persons to it.
@@ -150,13 +161,13 @@ pub fn excerpt_of<Sh: Shelf>(
     incident: u32,
     now: i64,
 ) -> Result<Option<Option<Excerpt>>, ShelfFault> {
-    let (Some(case), Some(standing)) = (
-        shelf.case(incident)?,
-        shelf.standing(person, incident, now)?,
-    ) else {
+    let Some(case) = shelf.case(incident)? else {
         return Ok(None);
     };
-    Ok(Some(shelf.excerpt(incident, case, standing)?))
+    match shelf.standing(person, incident, now)? {
+        Some(standing) => Ok(Some(shelf.excerpt(incident, case, standing)?)),
+        None => Ok(None),
+    }
 }
 
 /// Compares the excerpt of the incident for a person, if both are there.
@@ -167,13 +178,21 @@ fn agree_on_excerpt<A: Shelf, B: Shelf>(
     person: u32,
     incident: u32,
 ) -> Result<(), Fault> {
-    let Some(one) = excerpt_of(lists, person, incident, NOW)? else {
-        return Ok(());
-    };
-    let Some(other) = excerpt_of(kept, person, incident, NOW)? else {
-        return Err(Fault::Differs("a case or a standing that is missing"));
-    };
-    agree(same_excerpt(alloc, &one, &other)?, "an excerpt")
+    let one = excerpt_of(lists, person, incident, NOW)?;
+    let other = excerpt_of(kept, person, incident, NOW)?;
+    match (&one, &other) {
+        (None, _) => Ok(()),
+        (Some(_), None) => Err(Fault::Differs("a case or a standing that is missing")),
+        (Some(one), Some(other)) => agree_on_served(alloc, one, other),
+    }
+}
+
+fn agree_on_served(
+    alloc: Global,
+    one: &Option<Excerpt>,
+    other: &Option<Excerpt>,
+) -> Result<(), Fault> {
+    agree(same_excerpt(alloc, one, other)?, "an excerpt")
 }
 
 /// Compares the excerpts of the shelf in memory with those of the one that keeps documents, which by then has some of
@@ -192,6 +211,13 @@ fn agree_on_excerpts<A: Shelf, B: Shelf>(
     Ok(())
 }
 
+/// Compares the entries of all incidents.
+fn agree_on_entries<A: Shelf, B: Shelf>(lists: &mut A, tables: &mut B) -> Result<(), Fault> {
+    let entries = lists.incidents_after(0, u32::MAX)?;
+    let others = tables.incidents_after(0, u32::MAX)?;
+    agree(entries.as_slice() == others.as_slice(), "the incidents")
+}
+
 /// Compares the contents of both shelves.
 fn agree_on_reads<A: Shelf, B: Shelf>(
     alloc: Global,
@@ -201,10 +227,8 @@ fn agree_on_reads<A: Shelf, B: Shelf>(
     for number in 0..KEYS {
         agree_on_key(lists, tables, &key_of(number))?;
     }
-    let entries = lists.incidents_after(0, u32::MAX)?;
-    let others = tables.incidents_after(0, u32::MAX)?;
-    agree(entries.as_slice() == others.as_slice(), "the incidents")?;
-    for entry in entries.iter().take(INCIDENTS) {
+    agree_on_entries(lists, tables)?;
+    for entry in lists.incidents_after(0, u32::MAX)?.iter().take(INCIDENTS) {
         agree_on_incident(alloc, lists, tables, entry.number)?;
     }
     Ok(())

@@ -19,13 +19,23 @@ pub struct Shelves {
     kept: Kept<MOST_WEIGHT>,
 }
 
+fn agree_on_reply(
+    alloc: Global,
+    one: &Reply,
+    other: &Reply,
+    name: &'static str,
+) -> Result<(), Fault> {
+    agree(same_reply(alloc, one, other)?, name)
+}
+
 impl Shelves {
     /// Makes the shelves with these rows.
     pub fn new(alloc: Global, edits: &[Edit]) -> Result<Shelves, Fault> {
+        // the tables last: no return has to drop them
         Ok(Shelves {
             lists: Lists::with(alloc, edits)?,
-            tables: Tables::with(alloc, edits)?,
             kept: Kept::with(alloc, edits)?,
+            tables: Tables::with(alloc, edits)?,
         })
     }
 
@@ -33,14 +43,20 @@ impl Shelves {
     pub fn reply(&mut self, alloc: Global, asked: &Asked) -> Result<Reply, Fault> {
         let Asked { now, key, request } = asked;
         let reply = self.lists.answer(alloc, *now, key, request);
+        match self.agree_on(alloc, asked, &reply) {
+            Ok(()) => Ok(reply),
+            Err(fault) => Err(fault),
+        }
+    }
+
+    /// Compares the replies of the other hubs with that of the first.
+    fn agree_on(&mut self, alloc: Global, asked: &Asked, reply: &Reply) -> Result<(), Fault> {
+        let Asked { now, key, request } = asked;
         let other = self.tables.answer(alloc, *now, key, request);
-        agree(same_reply(alloc, &reply, &other)?, "a reply")?;
+        agree_on_reply(alloc, reply, &other, "a reply")?;
         let other = self.kept.answer(alloc, *now, key, request);
-        agree(
-            same_reply(alloc, &reply, &other)?,
-            "a reply of the shelf that keeps documents",
-        )?;
-        Ok(reply)
+        let name = "a reply of the shelf that keeps documents";
+        agree_on_reply(alloc, reply, &other, name)
     }
 
     /// Returns the same with the tables released and opened again.

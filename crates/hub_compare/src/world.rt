@@ -135,6 +135,34 @@ impl Pair {
     }
 }
 
+fn push_incidents(edits: &mut Vec<Edit>, rows: Vec<Incident>) -> Result<(), AllocError> {
+    for row in rows {
+        edits.push(Edit::PutIncident(row))?;
+    }
+    Ok(())
+}
+
+fn push_gates(edits: &mut Vec<Edit>, rows: Vec<Gate>) -> Result<(), AllocError> {
+    for row in rows {
+        edits.push(Edit::PutGate(row))?;
+    }
+    Ok(())
+}
+
+fn push_recipients(edits: &mut Vec<Edit>, rows: &[Recipient]) -> Result<(), AllocError> {
+    for row in rows {
+        edits.push(Edit::PutRecipient(*row))?;
+    }
+    Ok(())
+}
+
+fn push_permissions(edits: &mut Vec<Edit>, rows: Vec<Permission>) -> Result<(), AllocError> {
+    for row in rows {
+        edits.push(Edit::PutPermission(row))?;
+    }
+    Ok(())
+}
+
 impl World {
     /// Makes a world without a row. Takes no memory.
     pub fn new(alloc: Global) -> World {
@@ -289,23 +317,43 @@ impl World {
 
     // ---- all rows
 
-    fn push_directory(&self, edits: &mut Vec<Edit>) -> Result<(), Fault> {
+    fn push_orgs(&self, edits: &mut Vec<Edit>) -> Result<(), Fault> {
         for place in 0..self.orgs {
             let number = place.saturating_add(1);
             let name = name_of(self.alloc, "org", number)?;
             edits.push(Edit::Directory(RowEdit::PutOrg(Org { number, name })))?;
         }
+        Ok(())
+    }
+
+    fn push_communities(&self, edits: &mut Vec<Edit>) -> Result<(), Fault> {
         for place in 0..self.communities {
             let number = place.saturating_add(1);
             let name = name_of(self.alloc, "community", number)?;
             edits.push(Edit::Directory(RowEdit::PutCommunity(Community { number, name })))?;
         }
+        Ok(())
+    }
+
+    fn push_accounts(&self, edits: &mut Vec<Edit>) -> Result<(), AllocError> {
         for row in self.accounts.iter() {
             edits.push(Edit::Directory(RowEdit::PutAccount(row.clone()?)))?;
         }
+        Ok(())
+    }
+
+    fn push_groups(&self, edits: &mut Vec<Edit>) -> Result<(), AllocError> {
         for row in self.groups.iter() {
             edits.push(Edit::Directory(RowEdit::PutGroup(row.clone()?)))?;
         }
+        Ok(())
+    }
+
+    fn push_directory(&self, edits: &mut Vec<Edit>) -> Result<(), Fault> {
+        self.push_orgs(edits)?;
+        self.push_communities(edits)?;
+        self.push_accounts(edits)?;
+        self.push_groups(edits)?;
         for pair in self.pairs.iter() {
             edits.push(Edit::Directory(pair.row()))?;
         }
@@ -323,18 +371,10 @@ impl World {
             permissions,
             ..
         } = self;
-        for row in incidents {
-            edits.push(Edit::PutIncident(row))?;
-        }
-        for row in gates {
-            edits.push(Edit::PutGate(row))?;
-        }
-        for row in recipients {
-            edits.push(Edit::PutRecipient(row))?;
-        }
-        for row in permissions {
-            edits.push(Edit::PutPermission(row))?;
-        }
+        push_incidents(&mut edits, incidents)?;
+        push_gates(&mut edits, gates)?;
+        push_recipients(&mut edits, &recipients)?;
+        push_permissions(&mut edits, permissions)?;
         Ok(edits)
     }
 }

@@ -74,16 +74,25 @@ impl World<'_> {
         let Some(kept) = self.bytes_before(alloc, block)? else {
             return String::from_str(alloc, "the store that the case begins with wasn't made");
         };
-        let Some(hub) = self.hub(alloc, way, &asked) else {
-            return String::from_str(alloc, "a request that the case begins with wasn't made");
-        };
-        let steps = self.steps(way, &asked);
-        let due = due_of(alloc, &steps, hub)?;
-        let case = Case {
-            kept: &kept,
-            steps,
-            due: &due,
-        };
-        case.describe(alloc)
+        match self.hub(alloc, way, &asked) {
+            Some(hub) => stop_all(alloc, &kept, self.steps(way, &asked), hub),
+            None => String::from_str(alloc, "a request that the case begins with wasn't made"),
+        }
     }
+}
+
+/// Stops steps over files of these bytes. Returns what is printed for them. The hub gives the replies that are due.
+fn stop_all(
+    alloc: Global,
+    kept: &Kept,
+    steps: Steps<'_>,
+    hub: Lists,
+) -> Result<String, AllocError> {
+    let due = due_of(alloc, &steps, hub)?;
+    let case = Case {
+        kept,
+        steps,
+        due: &due,
+    };
+    case.describe(alloc)
 }

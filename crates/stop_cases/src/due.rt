@@ -26,14 +26,42 @@ impl Due {
     fn push_asked(
         &mut self,
         alloc: Global,
-        mut hub: Lists,
+        hub: &mut Lists,
         asked: &[Asked],
     ) -> Result<(), AllocError> {
         for (now, key, request) in asked {
             let is_change = is_made(&hub.answer(alloc, *now, key, request));
-            self.push(alloc, is_change, &mut hub)?;
+            self.push(alloc, is_change, hub)?;
         }
         Ok(())
+    }
+
+    /// Returns what is due for the steps, by a hub that has the rows which are put first.
+    fn with_asked(
+        mut self,
+        alloc: Global,
+        mut hub: Lists,
+        steps: &Steps<'_>,
+    ) -> Result<Due, AllocError> {
+        // no return by `?` while there is a hub: each would prove its drop once more
+        match self.push_asked(alloc, &mut hub, steps.asked) {
+            Ok(()) => Ok(self),
+            Err(refused) => Err(refused),
+        }
+    }
+
+    /// Returns the same with the rows put first, by a hub without them.
+    fn with_rows(
+        mut self,
+        alloc: Global,
+        hub: Lists,
+        steps: &Steps<'_>,
+    ) -> Result<Due, AllocError> {
+        let mut hub = hub.with_rows(steps.rows)?;
+        match self.push(alloc, true, &mut hub) {
+            Ok(()) => self.with_asked(alloc, hub, steps),
+            Err(refused) => Err(refused),
+        }
     }
 
     /// Returns whether these are the replies after so many steps.
@@ -66,11 +94,9 @@ fn of_taking(alloc: Global, way: Way, hub: &mut Lists) -> Result<Due, AllocError
 /// Returns what is due for steps, by a hub with the content of the store that is taken.
 pub fn due_of(alloc: Global, steps: &Steps<'_>, hub: Lists) -> Result<Due, AllocError> {
     let mut hub = hub;
-    let mut due = of_taking(alloc, steps.way, &mut hub)?;
-    if !steps.rows.is_empty() {
-        hub = hub.with_rows(steps.rows)?;
-        due.push(alloc, true, &mut hub)?;
+    match of_taking(alloc, steps.way, &mut hub) {
+        Ok(due) if steps.rows.is_empty() => due.with_asked(alloc, hub, steps),
+        Ok(due) => due.with_rows(alloc, hub, steps),
+        Err(refused) => Err(refused),
     }
-    due.push_asked(alloc, hub, steps.asked)?;
-    Ok(due)
 }

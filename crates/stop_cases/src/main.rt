@@ -54,17 +54,24 @@ use std::io;
 use std::io::Read;
 use trying_hub::{first_rows, key_of};
 
+/// Prints what is printed for a line.
+fn print_line(rt: &HostRuntime, cases: &mut Cases, line: &str) -> io::Result<()> {
+    if line.starts_with('#') {
+        return println!(rt; "{line}");
+    }
+    match cases.told_of(line)? {
+        Some(told) => println!(rt; "{told}"),
+        None => Ok(()),
+    }
+}
+
 fn main(rt: HostRuntime) -> io::Result<()> {
     let alloc = rt.alloc();
     let mut table = String::new(alloc);
     rt.reader().read_to_string(&mut table)?;
     let mut cases = Cases::new(alloc, first_rows(alloc, key_of(1))?);
     for line in table.lines() {
-        if line.starts_with('#') {
-            println!(rt; "{line}")?;
-        } else if let Some(told) = cases.told_of(line)? {
-            println!(rt; "{told}")?;
-        }
+        print_line(&rt, &mut cases, line)?;
     }
     Ok(())
 }

@@ -1,9 +1,10 @@
 //! One run of a case for each call of one file.
 
 use crate::due::Due;
-use crate::files::{Kept, NEVER, Stop};
+use crate::files::{Kept, NEVER, Stop, Stopping};
 use crate::found::Finds;
 use crate::steps::{Played, Steps};
+use sqlite_disk::Files;
 use std::alloc::{AllocError, Global};
 
 /// More calls of a file than a case makes.
@@ -48,6 +49,12 @@ fn stop_behind(of_log: bool, calls: u64) -> Stop {
     } else {
         Stop { db: calls, ..NEVER }
     }
+}
+
+/// Returns the bytes of files that a process which dies leaves, and those that a failure of the power leaves.
+fn bytes_left(alloc: Global, files: Files<Stopping>) -> Result<(Kept, Kept), AllocError> {
+    let written = Kept::of(alloc, &files)?;
+    Ok((written, Kept::from_synced(alloc, files)?))
 }
 
 impl Stops {
@@ -120,8 +127,7 @@ impl Stops {
             done: played.done,
             is_begun: played.is_begun,
         };
-        let written = Kept::of(alloc, &played.files)?;
-        let synced = Kept::from_synced(alloc, played.files)?;
+        let (written, synced) = bytes_left(alloc, played.files)?;
         let found = finds.replies_from(written)?;
         self.note_found(alloc, due, stopped, "the process dead", found.as_str())?;
         let found = finds.replies_from(synced)?;
