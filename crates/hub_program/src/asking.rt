@@ -2,7 +2,7 @@
 
 use crate::store::{close, open_store};
 use hub::Hub;
-use hub_core::{Reply, Request};
+use hub_core::{Reply, Request, Shelf};
 use hub_service::{Fault, Status, print, reply_lines, reply_to_input, status_of};
 use std::alloc::Global;
 use std::io::{Read, Write};
@@ -13,6 +13,18 @@ fn print_reply<W: Write>(alloc: Global, writer: &mut W, reply: &Reply) -> Result
     Ok(status_of(reply))
 }
 
+/// Asks the hub over a shelf. Returns its reply, and the shelf.
+fn ask_over<Sh: Shelf + Drop, R: Read>(
+    rt: &HostRuntime,
+    shelf: Sh,
+    request: &Request,
+    reader: &mut R,
+) -> (Result<Reply, Fault>, Sh) {
+    let mut hub = Hub::new(shelf);
+    let reply = reply_to_input(rt.alloc(), &mut hub, rt, request, reader);
+    (reply, hub.into_shelf())
+}
+
 /// Asks the hub at the present moment, with the first line of the input as the caller's key, and prints the reply.
 pub fn ask<R: Read, W: Write>(
     rt: &HostRuntime,
@@ -21,9 +33,7 @@ pub fn ask<R: Read, W: Write>(
     reader: &mut R,
     writer: &mut W,
 ) -> Result<Status, Fault> {
-    let alloc = rt.alloc();
-    let mut hub = Hub::new(open_store(rt, store)?);
-    let answered = reply_to_input(alloc, &mut hub, rt, request, reader);
-    close(hub.into_shelf());
-    print_reply(alloc, writer, &answered?)
+    let (reply, shelf) = ask_over(rt, open_store(rt, store)?, request, reader);
+    close(shelf);
+    print_reply(rt.alloc(), writer, &reply?)
 }

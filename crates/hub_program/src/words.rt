@@ -131,15 +131,22 @@ fn migrate<'a>(alloc: Global) -> Result<Command<'a>, AllocError> {
         .arg(store(alloc))
 }
 
+/// Adds a command. It takes the program whole, so that no return of the caller has to drop it.
+fn with<'a>(
+    program: Command<'a>,
+    command: Result<Command<'a>, AllocError>,
+) -> Result<Command<'a>, AllocError> {
+    program.subcommand(command?)
+}
+
 fn program<'a>(alloc: Global) -> Result<Command<'a>, AllocError> {
-    Command::new(alloc, "iodef-hub")
-        .subcommand_required(true)
-        .subcommand(mark(alloc)?)?
-        .subcommand(init(alloc)?)?
-        .subcommand(serve(alloc)?)?
-        .subcommand(view(alloc)?)?
-        .subcommand(explain(alloc)?)?
-        .subcommand(migrate(alloc)?)
+    let program = Command::new(alloc, "iodef-hub").subcommand_required(true);
+    let program = with(program, mark(alloc))?;
+    let program = with(program, init(alloc))?;
+    let program = with(program, serve(alloc))?;
+    let program = with(program, view(alloc))?;
+    let program = with(program, explain(alloc))?;
+    with(program, migrate(alloc))
 }
 
 /// The whole command line, with the program's name first. Without words it is `mark`.

@@ -50,23 +50,37 @@ fn incident<'a>(alloc: Global) -> Arg<'a> {
         .value_parser(value_parser!(u32))
 }
 
-/// Returns a command about a reader, who has to be given in one of two ways.
-fn about_reader<'a>(alloc: Global, command: Command<'a>) -> Result<Command<'a>, AllocError> {
-    // There is no reader by default.
-    let clearance = Arg::new(alloc, "clearance")
+/// Returns the option for a reader's clearance. There is no reader by default.
+fn clearance<'a>(alloc: Global) -> Result<Arg<'a>, AllocError> {
+    Arg::new(alloc, "clearance")
         .long("clearance")
         .value_name("C")
         .help("What the reader is cleared for: CLEAR, GREEN, AMBER, STRICT or RED")
         .required_unless_present("for")?
-        .conflicts_with("for")?;
-    let described = Arg::new(alloc, "for")
+        .conflicts_with("for")
+}
+
+/// Returns the option for the file of a view description.
+fn described<'a>(alloc: Global) -> Arg<'a> {
+    Arg::new(alloc, "for")
         .long("for")
         .value_name("FILE")
-        .help("The file of the view description");
-    command
-        .arg(clearance)?
-        .arg(described)?
-        .arg(incident(alloc).conflicts_with("for")?)
+        .help("The file of the view description")
+}
+
+/// Adds an option.
+fn with_option<'a>(
+    command: Command<'a>,
+    option: Result<Arg<'a>, AllocError>,
+) -> Result<Command<'a>, AllocError> {
+    command.arg(option?)
+}
+
+/// Returns a command about a reader, who has to be given in one of two ways.
+fn about_reader<'a>(alloc: Global, command: Command<'a>) -> Result<Command<'a>, AllocError> {
+    let command = with_option(command, clearance(alloc))?;
+    let command = command.arg(described(alloc))?;
+    with_option(command, incident(alloc).conflicts_with("for"))
 }
 
 /// Returns a word that has to be there.
@@ -123,14 +137,21 @@ fn marks<'a>(alloc: Global) -> Result<Command<'a>, AllocError> {
         .arg(incident(alloc))
 }
 
+/// Adds a command. It takes the program whole, so that no return of the caller has to drop it.
+fn with<'a>(
+    program: Command<'a>,
+    command: Result<Command<'a>, AllocError>,
+) -> Result<Command<'a>, AllocError> {
+    program.subcommand(command?)
+}
+
 /// Returns the whole program.
 fn program<'a>(alloc: Global) -> Result<Command<'a>, AllocError> {
-    Command::new(alloc, "iodef-redact")
-        .subcommand_required(true)
-        .subcommand(excerpt(alloc)?)?
-        .subcommand(explain(alloc)?)?
-        .subcommand(finds(alloc)?)?
-        .subcommand(marks(alloc)?)
+    let program = Command::new(alloc, "iodef-redact").subcommand_required(true);
+    let program = with(program, excerpt(alloc))?;
+    let program = with(program, explain(alloc))?;
+    let program = with(program, finds(alloc))?;
+    with(program, marks(alloc))
 }
 
 /// Returns the whole command line, with the program's name first.
