@@ -1,6 +1,6 @@
 //! A search that is fed lines one at a time.
 
-use crate::rows::{line_of, push_part, with_end};
+use crate::rows::{line_of, push_text, with_end};
 use iodef_tree::{Document, Line, OutlineFault};
 use redact::{Probe, Want};
 use std::alloc::{AllocError, Global};
@@ -86,7 +86,7 @@ fn push_answer(
     word: &str,
 ) -> Result<(), Unfit> {
     let answer = answer_of(probe.feed(line_of(alloc, word)?))?;
-    push_part(told, answer)
+    push_text(told, answer)
 }
 
 /// Returns what the search answers to each of these lines.

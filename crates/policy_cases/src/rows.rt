@@ -72,11 +72,11 @@ fn push_answer(
     word: &str,
 ) -> Result<(), Unfit> {
     let answer = answer_of(pass, line_of(alloc, word)?)?;
-    push_part(told, answer)
+    push_text(told, answer)
 }
 
-/// Adds an answer of a list.
-pub fn push_part(told: &mut String, answer: &str) -> Result<(), Unfit> {
+/// Adds an answer, and the sign behind each.
+pub fn push_text(told: &mut String, answer: &str) -> Result<(), Unfit> {
     told.push_str(answer)?;
     Ok(told.push_str("; ")?)
 }

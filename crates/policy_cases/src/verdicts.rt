@@ -78,7 +78,7 @@ pub fn verdicts(
 fn push_gates(alloc: Global, told: &mut String, gates: &[Gate]) -> Result<(), AllocError> {
     for gate in gates {
         let word = gate_word(alloc, gate)?;
-        push_part(told, word.as_str())?;
+        push_row(told, word.as_str())?;
     }
     Ok(())
 }
@@ -90,12 +90,12 @@ fn push_permissions(
 ) -> Result<(), AllocError> {
     for permission in permissions {
         let word = permission_word(alloc, permission)?;
-        push_part(told, word.as_str())?;
+        push_row(told, word.as_str())?;
     }
     Ok(())
 }
 
-fn push_part(told: &mut String, word: &str) -> Result<(), AllocError> {
+fn push_row(told: &mut String, word: &str) -> Result<(), AllocError> {
     told.push_str("; ")?;
     Ok(told.push_str(word)?)
 }
