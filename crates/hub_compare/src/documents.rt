@@ -148,12 +148,29 @@ fn unless(is_missing: bool, name: &'static str) -> &'static str {
     if is_missing { "other" } else { name }
 }
 
-fn joined(alloc: Global, pieces: &[&str]) -> Result<String, AllocError> {
-    let mut text = String::new(alloc);
-    for piece in pieces {
-        text.push_str(piece)?;
-    }
-    Ok(text)
+/// Returns the members in front of the IncidentID.
+fn first_members(
+    alloc: Global,
+    dice: &mut Dice,
+    contact: &str,
+    time: &str,
+    wide: bool,
+) -> Result<String, AllocError> {
+    let contacts = contacts(dice);
+    let events = events(alloc, dice, wide)?;
+    format!(in alloc; "\"{contact}\":{contacts},\"EventData\":[{events}],\"{time}\":\"g\"")
+}
+
+/// Returns the members behind the IncidentID, with the flaw if they have one.
+fn last_members(
+    alloc: Global,
+    dice: &mut Dice,
+    purpose: &str,
+    flaw: Flaw,
+) -> Result<String, AllocError> {
+    let flawed = with_flaw(alloc, dice, flaw)?;
+    let own = label(dice);
+    format!(in alloc; "\"{purpose}\":\"reporting\"{flawed}{own}")
 }
 
 fn incident(
@@ -169,31 +186,9 @@ fn incident(
     let time = unless(is_flawed && missing == 1, "GenerationTime");
     let id = unless(is_flawed && missing == 2, "IncidentID");
     let purpose = unless(is_flawed && missing == 3, "purpose");
-    let contacts = contacts(dice);
-    let events = events(alloc, dice, wide)?;
-    let flawed = with_flaw(alloc, dice, flaw)?;
-    let own = label(dice);
-    let pieces = [
-        "{\"",
-        contact,
-        "\":",
-        contacts,
-        ",\"EventData\":[",
-        events.as_str(),
-        "],\"",
-        time,
-        "\":\"g\",\"",
-        id,
-        "\":",
-        ident,
-        ",\"",
-        purpose,
-        "\":\"reporting\"",
-        flawed.as_str(),
-        own,
-        "}",
-    ];
-    joined(alloc, &pieces)
+    let first = first_members(alloc, dice, contact, time, wide)?;
+    let last = last_members(alloc, dice, purpose, flaw)?;
+    format!(in alloc; "{{{first},\"{id}\":{ident},{last}}}")
 }
 
 /// Returns a body of an Incident for each of these IncidentIDs, with the flaw in the last; wide ones have two dozen
