@@ -213,13 +213,29 @@ fn agree_on_one_more(
     time: u32,
 ) -> Result<(), Fault> {
     let wanted = if time == 0 { "done" } else { "L1" };
-    for asked in one_more(alloc, time)? {
-        let reply = shelves.reply(alloc, &asked)?;
-        let outcome = outcome_of(alloc, &reply)?;
-        agree(outcome.as_str() == wanted, "an outcome at a limit")?;
-        note(tally, alloc, &asked.request, &reply)?;
+    for asked in one_more(alloc, time)?.iter() {
+        agree_on_outcome(alloc, tally, shelves, asked, wanted)?;
     }
     Ok(())
+}
+
+/// Compares the replies of all hubs to a request, which must have this outcome.
+fn agree_on_outcome(
+    alloc: Global,
+    tally: &mut Tally,
+    shelves: &mut Shelves,
+    asked: &Asked,
+    wanted: &str,
+) -> Result<(), Fault> {
+    let reply = shelves.reply(alloc, asked)?;
+    agree(is_outcome(alloc, &reply, wanted)?, "an outcome at a limit")?;
+    note(tally, alloc, &asked.request, &reply)?;
+    Ok(())
+}
+
+fn is_outcome(alloc: Global, reply: &Reply, wanted: &str) -> Result<bool, AllocError> {
+    let outcome = outcome_of(alloc, reply)?;
+    Ok(outcome.as_str() == wanted)
 }
 
 fn agree_on_replies(alloc: Global, tally: &mut Tally, shelves: &mut Shelves) -> Result<(), Fault> {

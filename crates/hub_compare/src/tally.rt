@@ -93,15 +93,23 @@ pub fn note(
 pub fn lines_of(alloc: Global, tally: &Tally) -> Result<Vec<String>, AllocError> {
     let mut lines = Vec::new(alloc);
     for (kind, outcomes) in KINDS {
-        let mut line = String::from_str(alloc, kind)?;
-        for (place, outcome) in outcomes.split(',').enumerate() {
-            let before = if place == 0 { ": " } else { ", " };
-            let met = tally.met(kind, outcome);
-            line.push_str(format!(in alloc; "{before}{outcome} {met}")?.as_str())?;
-        }
-        lines.push(line)?;
+        lines.push(line_of(alloc, tally, kind, outcomes)?)?;
     }
     Ok(lines)
+}
+
+fn line_of(alloc: Global, tally: &Tally, kind: &str, outcomes: &str) -> Result<String, AllocError> {
+    let mut line = String::from_str(alloc, kind)?;
+    for (place, outcome) in outcomes.split(',').enumerate() {
+        line.push_str(if place == 0 { ": " } else { ", " })?;
+        push_met(alloc, &mut line, outcome, tally.met(kind, outcome))?;
+    }
+    Ok(line)
+}
+
+fn push_met(alloc: Global, line: &mut String, outcome: &str, met: u32) -> Result<(), AllocError> {
+    let text = format!(in alloc; "{outcome} {met}")?;
+    line.push_str(text.as_str())
 }
 
 /// Returns whether each outcome was met, and no other.
