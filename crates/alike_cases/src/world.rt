@@ -45,7 +45,7 @@ pub enum Place {
     Tables,
 }
 
-/// Returns the world over a shelf of this kind.
+/// Returns the world over a shelf of this kind, or none if a request is refused or the hub isn't made.
 pub fn world_in(
     alloc: Global,
     place: Place,

@@ -69,7 +69,7 @@ fn sweep_of(words: &[String]) -> Sweep {
     }
 }
 
-/// Prints what is printed for a line.
+/// Prints a heading as it is, or the answer to a line if there is one.
 fn print_line(rt: &HostRuntime, cases: &mut Cases, line: &str) -> io::Result<()> {
     if line.starts_with('#') {
         return println!(rt; "{line}");
@@ -80,7 +80,7 @@ fn print_line(rt: &HostRuntime, cases: &mut Cases, line: &str) -> io::Result<()>
     }
 }
 
-/// Prints what is printed for each line. Returns the growths that were refused.
+/// Prints the answer to each line. Returns the counts of growths and runs.
 fn print_all(rt: &HostRuntime, mut cases: Cases, table: &str) -> io::Result<Sweep> {
     for line in table.lines() {
         print_line(rt, &mut cases, line)?;

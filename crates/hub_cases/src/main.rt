@@ -53,7 +53,8 @@ fn print_all(rt: &HostRuntime, lines: &[String]) -> io::Result<()> {
     Ok(())
 }
 
-/// Reads a line of the table into the block, and prints the block if it ends here.
+/// Adds a line of the table to the block, or prints it if it is a heading. At the end of a block it prints the answers
+/// and begins a new one; the first block becomes the world.
 fn read_line(rt: &HostRuntime, world: &mut Block, block: &mut Block, line: &str) -> io::Result<()> {
     if line.starts_with('#') {
         return println!(rt; "{line}");

@@ -72,13 +72,13 @@ fn told_behind(alloc: Global, world: &Block, loss: Loss) -> Result<Vec<String>, 
         return Ok(all);
     };
     for (i, line) in loss.asked.iter().enumerate() {
-        push_told(alloc, &mut all, &mut tables, loss.name, line, i)?;
+        push_answer(alloc, &mut all, &mut tables, loss.name, line, i)?;
     }
     Ok(all)
 }
 
 /// Adds what the tables without a row answer to the request at this place.
-fn push_told(
+fn push_answer(
     alloc: Global,
     all: &mut Vec<String>,
     tables: &mut Tables,

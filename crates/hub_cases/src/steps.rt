@@ -27,7 +27,7 @@ struct Counts {
 }
 
 /// Tables and a hub in memory that are asked the same, except for what the tables gave up. Nothing here returns by `?`
-/// while there are hubs: each such return would prove their drop once more.
+/// while there are tables: each such return would prove their drop once more.
 #[derive(Drop)]
 struct Trial {
     tables: Tables,
@@ -127,7 +127,7 @@ fn asked_all(alloc: Global, trial: Trial, steps: u64, looks: &[Asked], asked: &[
     trial
 }
 
-/// Returns the counts of a trial in its end.
+/// Returns the counts of a trial. Fails if memory ran out for an answer.
 fn counts_of(trial: &Trial) -> Result<Counts, AllocError> {
     if trial.lacks_memory {
         Err(AllocError)
@@ -194,7 +194,7 @@ fn limit_each(alloc: Global, first: &[Asked], asked: &[Asked]) -> Result<&'stati
     Ok("more steps than expected")
 }
 
-/// The same for the requests of these lines that are behind those of the world.
+/// Limits the steps of the requests of these lines in the same way, but for those of the world. Returns the outcome.
 pub fn limit_steps(
     alloc: Global,
     lines: &[&str],

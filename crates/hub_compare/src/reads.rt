@@ -181,9 +181,9 @@ fn agree_on_excerpt<A: Shelf, B: Shelf>(
     let one = excerpt_of(lists, person, incident, NOW)?;
     let other = excerpt_of(kept, person, incident, NOW)?;
     match (&one, &other) {
-        (None, _) => Ok(()),
-        (Some(_), None) => Err(Fault::Differs("a case or a standing that is missing")),
+        (None, None) => Ok(()),
         (Some(one), Some(other)) => agree_on_served(alloc, one, other),
+        _ => Err(Fault::Differs("a case or a standing that is missing")),
     }
 }
 

@@ -1,5 +1,5 @@
-//! The program `iodef-hub`: its words, and the store in a file, over `hub_service`, whose calls and definitions this
-//! crate exports.
+//! The program `iodef-hub`: its words, and the store in a file, over `hub_service`. This crate exports the definitions of
+//! `hub_service`, and its calls but for those that print, read all input, or name a shelf's fault.
 //!
 //! To read first, in `specs/`: `Openings`, the fault that is printed for a store that isn't opened.
 //!

@@ -8,8 +8,8 @@
 //!
 //! - `input`, `keys`: standard input ([`read_input`], [`read_line`], [`INPUT_LIMIT`]), and the caller's key
 //!   ([`line_key`], [`digest_of`]);
-//! - `output`, `fault`, `status`: what is printed ([`print`], [`tell`], [`end_with`]), also for a [`Fault`], and the
-//!   program's outcome ([`Status`]);
+//! - `output`, `fault`, `status`: what is printed ([`print`], [`tell`], [`end_with`]), also for a [`Fault`], that of a shelf
+//!   too ([`shelf_fault`]), and the program's outcome ([`Status`]);
 //! - `mark`: [`mark_text`], the labels of a report;
 //! - `first_rows`: [`put_first_rows`], the rows of a new store;
 //! - `asking`: [`reply_to`] and [`reply_to_input`], one request to the hub; `replies`: what is printed of a reply;

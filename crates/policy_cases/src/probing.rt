@@ -63,7 +63,7 @@ fn sure_in(alloc: Global, document: &Document, probe: &mut Probe) -> Result<Opti
     sure_at(probe, document.outline(alloc)?)
 }
 
-/// Returns at which line the search is sure, and what it answers at the end.
+/// Returns the words for the line at which the search is sure, and for the end.
 fn sure_text(alloc: Global, sure: Option<usize>, end: &str) -> Result<String, AllocError> {
     match sure {
         Some(number) => format!(in alloc; "sure at line {number}, {end}"),

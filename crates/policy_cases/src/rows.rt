@@ -75,7 +75,7 @@ fn push_answer(
     push_text(told, answer)
 }
 
-/// Adds an answer, and the sign behind each.
+/// Adds an answer and a semicolon.
 pub fn push_text(told: &mut String, answer: &str) -> Result<(), Unfit> {
     told.push_str(answer)?;
     Ok(told.push_str("; ")?)

@@ -1,4 +1,4 @@
-//! Starts of the program.
+//! Starts of the programs.
 
 use crate::calls::{Calling, push_replies, reply_to};
 use crate::place::Place;
@@ -21,9 +21,9 @@ enum Program {
 
 /// Returns the program that a field of words names, which is `iodef-hub` if none is named, and the words behind it.
 fn program_of(field: &str) -> (Program, &str) {
-    match field.strip_prefix("iodef-redact") {
-        Some(words) => (Program::Redact, words),
-        None => (Program::Hub, field),
+    match field.split_once(' ').unwrap_or((field, "")) {
+        ("iodef-redact", words) => (Program::Redact, words),
+        _ => (Program::Hub, field),
     }
 }
 

@@ -7,7 +7,7 @@ use std::io::ErrorKind;
 use std::{env, io};
 use trying::bytes_of;
 
-/// The program's name and the words behind it.
+/// A program's name, which the programs skip, and the words behind it.
 #[derive(Drop)]
 struct Words {
     all: Vec<Vec<u8>>,

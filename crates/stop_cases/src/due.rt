@@ -36,7 +36,7 @@ impl Due {
         Ok(())
     }
 
-    /// Returns what is due for the steps, by a hub that has the rows which are put first.
+    /// Adds what is due for the requests of the steps. The hub already has the rows of the steps.
     fn with_asked(
         mut self,
         alloc: Global,
@@ -50,7 +50,7 @@ impl Due {
         }
     }
 
-    /// Returns the same with the rows put first, by a hub without them.
+    /// Puts the rows of the steps into the hub, and adds what is due for them and for the requests.
     fn with_rows(
         mut self,
         alloc: Global,

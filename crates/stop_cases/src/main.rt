@@ -54,7 +54,7 @@ use std::io;
 use std::io::Read;
 use trying_hub::{first_rows, key_of};
 
-/// Prints what is printed for a line.
+/// Prints a heading as it is, or the answer to a line if there is one.
 fn print_line(rt: &HostRuntime, cases: &mut Cases, line: &str) -> io::Result<()> {
     if line.starts_with('#') {
         return println!(rt; "{line}");
