@@ -31,8 +31,8 @@
 //! `scripts/refuse-growth.d/` holds three planted faults. A push ignores its refusal, and an excerpt lacks a withheld
 //! place. A reply is made after the change, and a change that was made is answered `F2`. A reader forgets a piece of
 //! the request, and nothing is answered. `scripts/refuse-growth --planted` builds the program with each and without
-//! any. It refuses one growth of 1,024 in each case, then one of 16. It fails if a fault isn't found, or if the program
-//! without a fault shows a difference.
+//! any. It refuses one growth of 1,024 in each case, then one of 16, then each. It fails if a fault isn't found, or if
+//! the program without a fault shows a difference.
 #![tactic(auto)]
 
 mod cases;
