@@ -11,13 +11,15 @@
 //! `scripts/try/redact` compares them with those of `redaction`.
 #![tactic(auto)]
 
-ghost use Rattle.std.specs.Prelude.{None, Some};
+ghost use Rattle.std.specs.Prelude.{◌≡◌, None, Some, Ok, Err, IfOk, IfErr, IsOk, not, ◌==◌};
 ghost use Rattle.redact_c.specs.Delivery.{Delivers};
-ghost use Rattle.redaction.specs.Answers.{excerpt_text, document_text, finds_text, explain_text, marks_text};
+ghost use Rattle.redaction.specs.Answers.{excerpt_text, document_text, whole_text, finds_text, explain_text, marks_text};
+ghost use Rattle.redaction.specs.Locating.{first_fault_text};
 
 mod delivery;
 
 use crate::delivery::deliver;
+use redaction::{ExcerptDocument, Fault, Identifier};
 use std::alloc::Global;
 
 /// The answer of [`redaction::excerpt`]: what the reader of a view description may see, and what is withheld.
@@ -34,7 +36,20 @@ pub extern "C" fn iodef_redact_excerpt_into(
     deliver(redaction::excerpt(alloc, report, view), out, needed)
 }
 
-/// The answer of [`redaction::excerpt_document`]: what the reader of a view description may see, as a report.
+/// Returns the text of a document that was answered.
+fn text_of(answer: Result<ExcerptDocument, Fault>) -> Result<Vec<u8>, Fault>
+    ensures ok { IfOk answer (λ d. IfOk result (λ v. v.items ≡ d.text.items)) }
+    ensures answered { IfOk answer (λ d. IsOk result) }
+    ensures err { IfErr answer (λ e. result ≡ Err e) }
+{
+    match answer {
+        Ok(document) => Ok(document.text),
+        Err(fault) => Err(fault),
+    }
+}
+
+/// The text of the answer of [`redaction::excerpt_document`]: what the reader of a view description may see. It is a
+/// report if the member `readable` of the answer of [`redaction::excerpt`] is true.
 #[unsafe(no_mangle)]
 pub extern "C" fn iodef_redact_document_into(
     alloc: Global,
@@ -46,7 +61,71 @@ pub extern "C" fn iodef_redact_document_into(
     ensures { Delivers result needed.new out.old out.new (document_text report.now view.now) }
 {
     deliver(
-        redaction::excerpt_document(alloc, report, view),
+        text_of(redaction::excerpt_document(alloc, report, view)),
+        out,
+        needed,
+    )
+}
+
+/// The answer of [`redaction::excerpt_whole`] without an identifier: what the reader of a view description may see, made
+/// a report by placeholders.
+#[unsafe(no_mangle)]
+pub extern "C" fn iodef_redact_whole_into(
+    alloc: Global,
+    report: &[u8],
+    view: &[u8],
+    out: &mut [u8],
+    needed: &mut usize,
+) -> u32
+    ensures { Delivers result needed.new out.old out.new
+        (whole_text report.now view.now None) }
+{
+    deliver(
+        redaction::excerpt_whole(alloc, report, view, None),
+        out,
+        needed,
+    )
+}
+
+/// The answer of [`redaction::excerpt_whole`] with an identifier, for a report whose own one may be withheld. It has a
+/// function of its own, since a slice can't be absent.
+#[unsafe(no_mangle)]
+pub extern "C" fn iodef_redact_whole_with_id_into(
+    alloc: Global,
+    report: &[u8],
+    view: &[u8],
+    name: &[u8],
+    id: &[u8],
+    out: &mut [u8],
+    needed: &mut usize,
+) -> u32
+    ensures { Delivers result needed.new out.old out.new
+        (whole_text report.now view.now (Some (name.now, id.now))) }
+{
+    let id = Identifier { name, id };
+    deliver(
+        redaction::excerpt_whole(alloc, report, view, Some(id)),
+        out,
+        needed,
+    )
+}
+
+/// The answer of [`redaction::first_fault`]: the first fault of a view description and a report, with its place. The
+/// moment of the view is wanted unless `dated` is 0.
+#[unsafe(no_mangle)]
+pub extern "C" fn iodef_redact_first_fault_into(
+    alloc: Global,
+    report: &[u8],
+    view: &[u8],
+    dated: u32,
+    out: &mut [u8],
+    needed: &mut usize,
+) -> u32
+    ensures { Delivers result needed.new out.old out.new
+        (Ok (first_fault_text (not (dated == 0)) report.now view.now)) }
+{
+    deliver(
+        redaction::first_fault(alloc, dated != 0, report, view),
         out,
         needed,
     )
@@ -73,7 +152,7 @@ pub extern "C" fn iodef_redact_finds_into(
 }
 
 /// The answer of [`redaction::finds`] for a needle in the classes of one name. It has a function of its own, since a
-/// slice can't be absent, and no class has an empty name.
+/// slice can't be absent, and a class may have an empty name.
 #[unsafe(no_mangle)]
 pub extern "C" fn iodef_redact_finds_in_class_into(
     alloc: Global,

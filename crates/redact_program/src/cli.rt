@@ -1,12 +1,14 @@
 //! The command line.
 
+use crate::answers::{Answered, answer, view_of};
 use crate::input::{read_report, read_view_file};
-use crate::output::end_with;
+use crate::output::{Located, end_with, tell};
 use crate::status::Status;
 use crate::trouble::Trouble;
-use crate::words::{Asked, Whom, command_line, read_words, usage};
+use crate::words::{Asked, Cleared, Form, Whom, command_line, read_words, usage};
 use clap::Error;
 use clap::error::ErrorKind;
+use input_hints::ByteOrderMark;
 use redaction::Fault;
 use std::alloc::Global;
 use std::env::Args;
@@ -51,7 +53,7 @@ fn refuse_words<W: Write, E: Write>(
 
 /// Ends the program for want of memory.
 fn no_memory<W: Write, E: Write>(writer: &mut W, errors: &mut E) -> Status {
-    end_with(writer, errors, Err(Trouble::NoAnswer(Fault::NoMemory)))
+    tell(errors, Trouble::NoAnswer(Fault::NoMemory), "")
 }
 
 /// Does what the words behind the program's name say.
@@ -67,7 +69,7 @@ pub fn cli_run<R: Read, W: Write, E: Write>(
         return no_memory(writer, errors);
     };
     match read_words(alloc, line.as_slice()) {
-        Ok(asked) => end_with(writer, errors, answer(rt, asked, reader)),
+        Ok(asked) => end_with(writer, errors, answer_input(rt, &asked, reader)),
         Err(error) => tell_usage(&error, writer, errors),
     }
 }
@@ -83,61 +85,100 @@ fn tell_usage<W: Write, E: Write>(error: &Error, writer: &mut W, errors: &mut E)
     }
 }
 
-/// Returns the view description: that of a file, or the short form.
-fn view_of(rt: &HostRuntime, whom: Whom<'_>) -> Result<Vec<u8>, Trouble> {
-    match whom {
-        Whom::Described(path) => read_view_file(rt, path),
-        Whom::Cleared(name, place) => {
-            let text = format!(in rt.alloc(); "{{\"clearance\":\"{name}\",\"incident\":{place}}}")?;
-            Ok(text.into_bytes())
-        }
+/// Returns the bytes of the view's file, or none if the words name no file.
+fn read_view(rt: &HostRuntime, asked: &Asked<'_>) -> Result<Vec<u8>, Trouble> {
+    match asked.whom() {
+        Some(Whom::Described(path)) => read_view_file(rt, path),
+        _ => Ok(Vec::new(rt.alloc())),
+    }
+}
+
+/// Returns the trouble without a place.
+fn nowhere(alloc: Global, trouble: Trouble) -> Located {
+    Located {
+        trouble,
+        place: String::new(alloc),
     }
 }
 
 /// Returns the answer about the report on standard input. The view is read before the report.
-fn answer<R: Read>(rt: &HostRuntime, asked: Asked<'_>, reader: &mut R) -> Result<Vec<u8>, Trouble> {
+fn answer_input<R: Read>(
+    rt: &HostRuntime,
+    asked: &Asked<'_>,
+    reader: &mut R,
+) -> Result<Answered, Located> {
     let alloc = rt.alloc();
-    match asked {
-        Asked::Excerpt {
-            whom,
-            document_alone,
-        } => {
-            let view = view_of(rt, whom)?;
-            let report = read_report(alloc, reader)?;
-            excerpt(alloc, &report, &view, document_alone)
-        }
-        Asked::Explain { whom, pointer } => {
-            let view = view_of(rt, whom)?;
-            let report = read_report(alloc, reader)?;
-            Ok(redaction::explain(alloc, &report, &view, pointer.as_bytes())?)
-        }
-        Asked::Finds {
-            whom,
-            needle,
-            class,
-        } => {
-            let view = view_of(rt, whom)?;
-            let report = read_report(alloc, reader)?;
-            let class = class.map(|name| name.as_bytes());
-            Ok(redaction::finds(alloc, &report, &view, needle.as_bytes(), class)?)
-        }
-        Asked::Marks { incident } => {
-            let report = read_report(alloc, reader)?;
-            Ok(redaction::marks(alloc, &report, incident)?)
-        }
+    let view = match read_view(rt, asked) {
+        Ok(view) => view,
+        Err(trouble) => return Err(nowhere(alloc, trouble)),
+    };
+    let report = match read_report(alloc, reader) {
+        Ok(report) => report,
+        Err(trouble) => return Err(nowhere(alloc, trouble)),
+    };
+    match answer(alloc, asked, &view, &report) {
+        Ok(answer) => Ok(answer),
+        Err(fault) => Err(located(alloc, fault, asked, &view, &report)),
     }
 }
 
-/// Returns the excerpt, or only its document.
-fn excerpt(
+/// Returns why there is no answer, with its place.
+fn located(alloc: Global, fault: Fault, asked: &Asked<'_>, view: &[u8], report: &[u8]) -> Located {
+    let marks = (ByteOrderMark::of(view), ByteOrderMark::of(report));
+    let trouble = trouble_of(fault, marks, asked);
+    match place_of(alloc, fault, asked, view, report) {
+        Ok(place) => Located { trouble, place },
+        Err(_) => nowhere(alloc, trouble),
+    }
+}
+
+/// Returns the reader whose view has the faults: for labels, which have no reader, a stranger to the Incident.
+fn reader_of<'a>(asked: &Asked<'a>) -> Whom<'a> {
+    match asked {
+        Asked::Excerpt { whom, .. } | Asked::Explain { whom, .. } | Asked::Finds { whom, .. } =>
+            *whom,
+        Asked::Marks { incident } => Whom::Cleared(Cleared {
+            clearance: "CLEAR",
+            incident: *incident,
+            moment: None,
+        }),
+    }
+}
+
+/// Returns the JSON pointer of the place of a fault; an empty text if the fault has none.
+fn place_of(
     alloc: Global,
+    fault: Fault,
+    asked: &Asked<'_>,
+    file: &[u8],
     report: &[u8],
-    view: &[u8],
-    document_alone: bool,
-) -> Result<Vec<u8>, Trouble> {
-    if document_alone {
-        Ok(redaction::excerpt_document(alloc, report, view)?)
-    } else {
-        Ok(redaction::excerpt(alloc, report, view)?)
+) -> Result<String, Fault> {
+    let view = view_of(alloc, &reader_of(asked), file)?;
+    let is_dated = matches!(
+        asked,
+        Asked::Excerpt {
+            form: Form::Report(_),
+            ..
+        }
+    );
+    let found = redaction::first_fault(alloc, is_dated, report, &view)?;
+    let text = String::from_utf8_lossy(alloc, &found)?;
+    let number = fault.number();
+    let begin = format!(in alloc; "{number} ")?;
+    let place = text.as_str().strip_prefix(begin.as_str()).unwrap_or("");
+    Ok(String::from_str(alloc, place)?)
+}
+
+/// Returns why there is no answer: the fault, or what a person is likely to have done that led to it.
+fn trouble_of(
+    fault: Fault,
+    marks: (Option<ByteOrderMark>, Option<ByteOrderMark>),
+    asked: &Asked<'_>,
+) -> Trouble {
+    match (fault, marks) {
+        (Fault::ViewNotJson, (Some(mark), _)) => Trouble::MarkedView(mark),
+        (Fault::NotJson, (_, Some(mark))) => Trouble::MarkedReport(mark),
+        (Fault::BadPointer, _) if asked.has_file_for_pointer() => Trouble::FileForPointer,
+        _ => Trouble::NoAnswer(fault),
     }
 }

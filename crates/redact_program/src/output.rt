@@ -1,8 +1,16 @@
 //! What the program prints on standard output and standard error.
 
+use crate::answers::{Answered, Remark};
 use crate::status::Status;
 use crate::trouble::Trouble;
 use std::io::Write;
+
+/// Why the program prints nothing, and where: a JSON pointer into the view or the report, or an empty text.
+#[derive(Drop)]
+pub struct Located {
+    pub trouble: Trouble,
+    pub place: String,
+}
 
 /// Prints an answer as it is, without a newline, so that callers in shell, C and Python get the same bytes.
 fn print<W: Write>(writer: &mut W, answer: &[u8]) -> Result<(), Trouble> {
@@ -12,11 +20,29 @@ fn print<W: Write>(writer: &mut W, answer: &[u8]) -> Result<(), Trouble> {
     }
 }
 
-/// Prints the name of a trouble on standard error, and the reason on a second line.
-fn tell<E: Write>(errors: &mut E, trouble: Trouble) -> Status {
+/// Prints the name of a trouble on standard error, and the reason on a second line, with the place if there is one.
+pub fn tell<E: Write>(errors: &mut E, trouble: Trouble, place: &str) -> Status {
     let (name, reason) = (trouble.name(), trouble.reason());
-    match writeln!(errors, "{name}\n{reason}") {
+    let told = if place.is_empty() {
+        writeln!(errors, "{name}\n{reason}")
+    } else {
+        writeln!(errors, "{name}\n{reason}: {place}")
+    };
+    match told {
         Ok(()) => trouble.status(),
+        Err(_) => Status::Failed,
+    }
+}
+
+/// Says on standard error what else is said of an answer. Fails if standard error can't be written.
+fn remark<E: Write>(errors: &mut E, remark: Remark) -> Status {
+    let said = match remark {
+        Remark::Readable(true) => writeln!(errors, "readable"),
+        Remark::Readable(false) => writeln!(errors, "not readable"),
+        Remark::Nothing | Remark::Found(_) => Ok(()),
+    };
+    match said {
+        Ok(()) => remark.status(),
         Err(_) => Status::Failed,
     }
 }
@@ -25,13 +51,13 @@ fn tell<E: Write>(errors: &mut E, trouble: Trouble) -> Status {
 pub fn end_with<W: Write, E: Write>(
     writer: &mut W,
     errors: &mut E,
-    answer: Result<Vec<u8>, Trouble>,
+    answer: Result<Answered, Located>,
 ) -> Status {
     match answer {
-        Ok(bytes) => match print(writer, &bytes) {
-            Ok(()) => Status::Done,
-            Err(trouble) => tell(errors, trouble),
+        Ok(answer) => match print(writer, &answer.text) {
+            Ok(()) => remark(errors, answer.remark),
+            Err(trouble) => tell(errors, trouble, ""),
         },
-        Err(trouble) => tell(errors, trouble),
+        Err(located) => tell(errors, located.trouble, located.place.as_str()),
     }
 }

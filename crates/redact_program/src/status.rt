@@ -13,6 +13,8 @@ pub enum Status {
     Usage,
     /// Reading, writing or memory failed.
     Failed,
+    /// The answer is printed: the search found nothing.
+    NotFound,
 }
 
 impl Status {
@@ -25,6 +27,7 @@ impl Status {
             Status::Refused => 1,
             Status::Usage => 2,
             Status::Failed => 3,
+            Status::NotFound => 4,
         }
     }
 }

@@ -5,6 +5,7 @@ ghost use Rattle.redaction.specs.declared.fault.Fault.TheVariants.{NoMemory};
 ghost use Rattle.redact_program.specs.declared.trouble.Trouble.TheVariants.{NoAnswer};
 
 use crate::status::Status;
+use input_hints::ByteOrderMark;
 use redaction::Fault;
 use std::alloc::AllocError;
 
@@ -13,6 +14,12 @@ use std::alloc::AllocError;
 pub enum Trouble {
     /// There is no answer, because of this fault.
     NoAnswer(Fault),
+    /// The view begins with a byte order mark, so it is no JSON text.
+    MarkedView(ByteOrderMark),
+    /// The report does.
+    MarkedReport(ByteOrderMark),
+    /// The word for a pointer may be the name of a file.
+    FileForPointer,
     /// Standard input can't be read.
     NoReport,
     /// Standard input has more bytes than the limit.
@@ -36,6 +43,9 @@ impl Trouble {
     {
         match self {
             Trouble::NoAnswer(fault) => fault.name(),
+            Trouble::MarkedView(_) => Fault::ViewNotJson.name(),
+            Trouble::MarkedReport(_) => Fault::NotJson.name(),
+            Trouble::FileForPointer => Fault::BadPointer.name(),
             Trouble::NoReport | Trouble::LongReport => "ReadFailed",
             Trouble::NoSuchView | Trouble::ClosedView => "ReadFailed",
             Trouble::NoView | Trouble::LongView => "ReadFailed",
@@ -47,6 +57,9 @@ impl Trouble {
     pub fn reason(self) -> &'static str {
         match self {
             Trouble::NoAnswer(fault) => fault.reason(),
+            Trouble::MarkedView(mark) | Trouble::MarkedReport(mark) => mark.hint(),
+            Trouble::FileForPointer =>
+                "POINTER isn't a JSON pointer, which begins with a slash; the report is read from standard input, as in '< FILE'",
             Trouble::NoReport => "standard input can't be read",
             Trouble::LongReport => "the report has more than 1048576 bytes",
             Trouble::NoSuchView => "no such file",
@@ -63,7 +76,10 @@ impl Trouble {
     {
         match self {
             Trouble::NoAnswer(Fault::NoMemory) => Status::Failed,
-            Trouble::NoAnswer(_) => Status::Refused,
+            Trouble::NoAnswer(_) | Trouble::MarkedView(_) | Trouble::MarkedReport(_) => {
+                Status::Refused
+            }
+            Trouble::FileForPointer => Status::Refused,
             _ => Status::Failed,
         }
     }

@@ -2,16 +2,45 @@
 
 use clap::error::ErrorKind;
 use clap::{Arg, ArgAction, ArgMatches, Command, Error, value_parser};
+use redaction::{is_clearance, is_written};
 use std::alloc::{AllocError, Global};
 
-/// The clearances of the short form.
-const CLEARANCES: [&str; 5] = ["CLEAR", "GREEN", "AMBER", "STRICT", "RED"];
+/// A reader of whom only the clearance is known.
+#[derive(Clone, Copy)]
+pub struct Cleared<'a> {
+    /// What the reader is cleared for.
+    pub clearance: &'a str,
+    /// The place of the Incident in the report, from 0 on.
+    pub incident: u32,
+    /// The moment of the view, if it is given.
+    pub moment: Option<&'a str>,
+}
+
+/// An identifier for a report whose own one may be withheld (RFC 7970 section 3.4).
+#[derive(Clone, Copy)]
+pub struct IncidentId<'a> {
+    /// The name of whoever gives the identifier.
+    pub name: &'a str,
+    /// The identifier itself.
+    pub id: &'a str,
+}
+
+/// The forms of an excerpt.
+#[derive(Clone, Copy)]
+pub enum Form<'a> {
+    /// The document, and what is said of it.
+    Answer,
+    /// The document alone.
+    Document,
+    /// The document made a report by placeholders.
+    Report(Option<IncidentId<'a>>),
+}
 
 /// The reader for whom a report is redacted.
 #[derive(Clone, Copy)]
 pub enum Whom<'a> {
-    /// A reader with this clearance, and the place of the Incident.
-    Cleared(&'a str, u32),
+    /// A reader with this clearance.
+    Cleared(Cleared<'a>),
     /// The reader of the view description in this file.
     Described(&'a str),
 }
@@ -22,7 +51,7 @@ pub enum Asked<'a> {
     /// What a reader may see.
     Excerpt {
         whom: Whom<'a>,
-        document_alone: bool,
+        form: Form<'a>,
     },
     /// Why a reader sees a class, or doesn't.
     Explain {
@@ -41,6 +70,26 @@ pub enum Asked<'a> {
     },
 }
 
+impl<'a> Asked<'a> {
+    /// Returns the reader whom the words name, if they name one.
+    pub fn whom(&self) -> Option<Whom<'a>> {
+        match self {
+            Asked::Excerpt { whom, .. } => Some(*whom),
+            Asked::Explain { whom, .. } => Some(*whom),
+            Asked::Finds { whom, .. } => Some(*whom),
+            Asked::Marks { .. } => None,
+        }
+    }
+
+    /// Whether the word for a pointer has no slash before it, as the name of a file.
+    pub fn has_file_for_pointer(&self) -> bool {
+        match self {
+            Asked::Explain { pointer, .. } => !pointer.is_empty() && !pointer.starts_with('/'),
+            _ => false,
+        }
+    }
+}
+
 /// Returns the option for the place of the Incident.
 fn incident<'a>(alloc: Global) -> Arg<'a> {
     Arg::new(alloc, "incident")
@@ -55,7 +104,9 @@ fn clearance<'a>(alloc: Global) -> Result<Arg<'a>, AllocError> {
     Arg::new(alloc, "clearance")
         .long("clearance")
         .value_name("C")
-        .help("What the reader is cleared for: CLEAR, GREEN, AMBER, STRICT or RED")
+        .help(
+            "What the reader is cleared for: CLEAR, GREEN, AMBER, STRICT or RED, or a label as TLP:AMBER+STRICT",
+        )
         .required_unless_present("for")?
         .conflicts_with("for")
 }
@@ -91,16 +142,44 @@ fn word<'a>(alloc: Global, id: &'a str, name: &'a str, help: &'a str) -> Arg<'a>
         .required(true)
 }
 
+/// Adds the options for an identifier and for the moment.
+fn with_identifier<'a>(alloc: Global, command: Command<'a>) -> Result<Command<'a>, AllocError> {
+    let name = Arg::new(alloc, "id-name")
+        .long("id-name")
+        .value_name("NAME")
+        .help("With --id: the name of whoever gives the identifier");
+    let id = Arg::new(alloc, "id").long("id").value_name("ID").help(
+        "With --whole: the report's identifier, if its own one is withheld",
+    );
+    let command = command.arg(id)?.arg(name)?;
+    let now = Arg::new(alloc, "now")
+        .long("now")
+        .value_name("MOMENT")
+        .help("With --whole: the moment of the view, as 2026-06-01T00:00:00Z")
+        .conflicts_with("for");
+    with_option(command, now)
+}
+
 /// Returns the command `excerpt`.
 fn excerpt<'a>(alloc: Global) -> Result<Command<'a>, AllocError> {
     let document = Arg::new(alloc, "document")
         .long("document")
-        .help("Print the excerpt's document alone, a report again")
+        .help(
+            "Print the excerpt's document alone, and on standard error whether it can be read as a report",
+        )
+        .action(ArgAction::SetTrue)
+        .conflicts_with("whole");
+    let whole = Arg::new(alloc, "whole")
+        .long("whole")
+        .help(
+            "Print the document as a report, with a placeholder for each member that a report must have",
+        )
         .action(ArgAction::SetTrue);
     let command = Command::new(alloc, "excerpt").about(
         "Prints what a reader may see of a report on standard input",
     );
-    about_reader(alloc, command)?.arg(document)
+    let command = about_reader(alloc, command)?.arg(document?)?.arg(whole)?;
+    with_identifier(alloc, command)
 }
 
 /// Returns the command `explain`.
@@ -178,7 +257,39 @@ fn place_in(found: &ArgMatches<'_>) -> u32 {
 fn whom_in<'a>(found: &ArgMatches<'a>) -> Whom<'a> {
     match found.get_str("for") {
         Some(path) => Whom::Described(path),
-        None => Whom::Cleared(text_of(found, "clearance"), place_in(found)),
+        None => Whom::Cleared(Cleared {
+            clearance: text_of(found, "clearance"),
+            incident: place_in(found),
+            moment: None,
+        }),
+    }
+}
+
+/// Returns the reader, with the moment of the view.
+fn dated<'a>(whom: Whom<'a>, moment: Option<&'a str>) -> Whom<'a> {
+    match whom {
+        Whom::Cleared(cleared) => Whom::Cleared(Cleared { moment, ..cleared }),
+        Whom::Described(path) => Whom::Described(path),
+    }
+}
+
+/// Returns the identifier, if one is given.
+fn identifier_in<'a>(found: &ArgMatches<'a>) -> Option<IncidentId<'a>> {
+    let id = found.get_str("id")?;
+    Some(IncidentId {
+        name: text_of(found, "id-name"),
+        id,
+    })
+}
+
+/// Returns the form of an excerpt.
+fn form_in<'a>(found: &ArgMatches<'a>) -> Form<'a> {
+    if found.get_flag("whole") {
+        Form::Report(identifier_in(found))
+    } else if found.get_flag("document") {
+        Form::Document
+    } else {
+        Form::Answer
     }
 }
 
@@ -186,8 +297,8 @@ fn whom_in<'a>(found: &ArgMatches<'a>) -> Whom<'a> {
 fn asked_by<'a>(command: &str, found: &ArgMatches<'a>) -> Asked<'a> {
     match command {
         "excerpt" => Asked::Excerpt {
-            whom: whom_in(found),
-            document_alone: found.get_flag("document"),
+            whom: dated(whom_in(found), found.get_str("now")),
+            form: form_in(found),
         },
         "explain" => Asked::Explain {
             whom: whom_in(found),
@@ -204,30 +315,60 @@ fn asked_by<'a>(command: &str, found: &ArgMatches<'a>) -> Asked<'a> {
     }
 }
 
-/// Returns whether a clearance is none of the five.
-fn is_unknown_clearance(asked: &Asked<'_>) -> bool {
-    match asked {
-        Asked::Excerpt { whom, .. } | Asked::Explain { whom, .. } | Asked::Finds { whom, .. } => {
-            match whom {
-                Whom::Cleared(name, _) => !CLEARANCES.contains(name),
-                Whom::Described(_) => false,
-            }
-        }
-        Asked::Marks { .. } => false,
+/// Returns what is wrong with a reader, if something is. What is right needs no escape in a JSON text.
+fn wrong_with(whom: Whom<'_>) -> Option<&'static str> {
+    let Whom::Cleared(cleared) = whom else {
+        return None;
+    };
+    if !is_clearance(cleared.clearance) {
+        return Some(
+            "the clearance is CLEAR, GREEN, AMBER, STRICT or RED, or a label as TLP:AMBER+STRICT",
+        );
     }
+    match cleared.moment {
+        Some(moment) if !is_written(moment) => Some(
+            "the moment is written as 2026-06-01T00:00:00Z",
+        ),
+        _ => None,
+    }
+}
+
+/// Returns what is wrong with the words of an identifier, if something is: both are given, for a whole report.
+fn wrong_with_id(found: &ArgMatches<'_>) -> Option<&'static str> {
+    let (name, id) = (
+        found.get_str("id-name").is_some(),
+        found.get_str("id").is_some(),
+    );
+    if name != id || (id && !found.get_flag("whole")) {
+        return Some("--id and --id-name are given together, with --whole");
+    }
+    None
+}
+
+/// Returns what is wrong with what the words ask for, if something is.
+fn wrong_with_words(
+    command: &str,
+    found: &ArgMatches<'_>,
+    asked: &Asked<'_>,
+) -> Option<&'static str> {
+    let wrong = wrong_with(asked.whom()?);
+    if command == "excerpt" && wrong.is_none() {
+        return wrong_with_id(found);
+    }
+    wrong
 }
 
 /// Returns what a command line asks for. Fails with the usage.
 pub fn read_words<'a>(alloc: Global, line: &'a [&'a str]) -> Result<Asked<'a>, Error> {
     let matches = program(alloc)?.try_get_matches_from(line)?;
-    let asked = match matches.subcommand() {
-        Some((command, found)) => asked_by(command, found),
-        None => Asked::Marks { incident: 0 },
+    let Some((command, found)) = matches.subcommand() else {
+        return Ok(Asked::Marks { incident: 0 });
     };
-    if is_unknown_clearance(&asked) {
-        return Err(usage(alloc, "the clearance is CLEAR, GREEN, AMBER, STRICT or RED")?);
+    let asked = asked_by(command, found);
+    match wrong_with_words(command, found, &asked) {
+        Some(what) => Err(usage(alloc, what)?),
+        None => Ok(asked),
     }
-    Ok(asked)
 }
 
 /// Returns the usage, with what is wrong with the words.

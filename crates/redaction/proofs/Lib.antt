@@ -4,3 +4,11 @@ mod Unique
 mod Parsed
 mod FirstFaults
 mod ShortForm
+mod MeantValues
+mod MeantTrees
+mod ReadExactly
+mod TreeIncidents
+mod SpelledLabels
+mod ExcerptsRead
+mod ToldRead
+mod Beside

@@ -10,7 +10,8 @@ use Rattle.json.specs.Value.{items_view}
 use Rattle.json.specs.declared.value.Value.{Value}
 use Rattle.redaction.specs.Values.{is_whole, whole, count_of}
 use borrow.Author.Tests.{ltb-true}
-use Rattle.redaction.specs.declared.fault.Fault.{Fault}
+use Rattle.redaction.specs.Readings.{refused}
+use Rattle.redaction.specs.declared.place.Refusal.{Refusal}
 use Rattle.redaction.specs.declared.fault.Fault.TheVariants.{OutOfRange}
 
 own : IsNumeralModel (λ ds. list_all is_ascii_digit ds ≡ true) (digits_value 10)
@@ -28,10 +29,10 @@ pub whole_parses : {E : Type 0} (text : List ℕ) (r : Result ℕ E) → is_whol
 whole_parses text r plain h = parse_digits own 32 text r h (digits text plain)
 
 pub too_large : {E : Type 0} (text : List ℕ) (e : E) → is_whole text ≡ true → ParsesUnsigned 32 10 text (Err e)
-    → Err OutOfRange ≡ whole text
+    → Err (refused OutOfRange) ≡ whole text
 too_large text e plain h =
     let no = whole_parses text (Err e) plain h in
-    elim (nat_lt (digits_value 10 text) (2 ^ 32)) as (λ b. b ≡ nat_lt (digits_value 10 text) (2 ^ 32) → ◌≡◌ {A = Result ℕ Fault} (Err OutOfRange) (if is_whole text && b then Ok (digits_value 10 text) else Err OutOfRange)) [
+    elim (nat_lt (digits_value 10 text) (2 ^ 32)) as (λ b. b ≡ nat_lt (digits_value 10 text) (2 ^ 32) → ◌≡◌ {A = Result ℕ Refusal} (Err (refused OutOfRange)) (if is_whole text && b then Ok (digits_value 10 text) else Err (refused OutOfRange))) [
       | true ↦ λ e. absurd (no (some-digits text plain, ltb-true _ _ (sym e)))
       | false ↦ λ e. rw plain refl
     ] refl

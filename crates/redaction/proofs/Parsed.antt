@@ -4,17 +4,17 @@ use Rattle.std.specs.Str.{is_utf8}
 use Rattle.std.proofs.lemmas.Str.{is_utf8-from_IsUtf8, IsUtf8-from_is_utf8}
 use Rattle.json.specs.Json.{Json, document}
 use Rattle.json.specs.Strict.{HasUniqueKeys}
-use Rattle.redaction.specs.Outcome.{Read, ◌>>=◌, or_fault, require}
+use Rattle.redaction.specs.Readings.{Reading, ◌>>=◌, or_fault, require, refused}
 use Rattle.redaction.specs.Values.{parsed, has_doubled}
 use Rattle.redaction.specs.Described.{undoubled}
-use Rattle.redaction.specs.Answers.{word_of}
+use Rattle.redaction.specs.Words.{word_of}
 use Rattle.redaction.specs.declared.fault.Fault.TheVariants.{ViewNotJson, DoubledMember, NotUtf8}
 use Rattle.redaction.proofs.Unique.{undoubled as unique-is, doubled}
 
 is-parsed : (bytes : List ℕ) (o : Option Json) → IsUtf8 bytes → document bytes ≡ o → parsed bytes ≡ or_fault ViewNotJson o
 is-parsed bytes o text e = ap (λ b. or_fault ViewNotJson (if b then document bytes else None)) (is_utf8-from_IsUtf8 bytes text) ∙ ap (or_fault ViewNotJson) e
 
-abbrev judged : Json → Read Json
+abbrev judged : Json → Reading Json
 judged j = require (not (has_doubled j)) DoubledMember >>= λ _. Ok j
 
 undoubled-is : (bytes : List ℕ) → undoubled bytes ≡ (parsed bytes >>= judged)
@@ -25,22 +25,22 @@ pub read-once : (bytes : List ℕ) (j : Json) → IsUtf8 bytes → document byte
 read-once bytes j text e once =
     undoubled-is bytes ∙ ap (λ r. r >>= judged) (is-parsed bytes (Some j) text e) ∙ ap (λ b. require (not b) DoubledMember >>= λ _. Ok j) (unique-is j once)
 
-doubled-in : (bytes : List ℕ) (o : Option Json) → IsUtf8 bytes → document bytes ≡ o → IsSomeAnd o (λ j. ¬ HasUniqueKeys j) → undoubled bytes ≡ Err DoubledMember
+doubled-in : (bytes : List ℕ) (o : Option Json) → IsUtf8 bytes → document bytes ≡ o → IsSomeAnd o (λ j. ¬ HasUniqueKeys j) → undoubled bytes ≡ Err (refused DoubledMember)
 doubled-in bytes None text e never = absurd never
 doubled-in bytes (Some j) text e never =
     undoubled-is bytes ∙ ap (λ r. r >>= judged) (is-parsed bytes (Some j) text e) ∙ ap (λ b. require (not b) DoubledMember >>= λ _. Ok j) (doubled j never)
 
-pub read-doubled : (bytes : List ℕ) → IsUtf8 bytes → IsSomeAnd (document bytes) (λ j. ¬ HasUniqueKeys j) → undoubled bytes ≡ Err DoubledMember
+pub read-doubled : (bytes : List ℕ) → IsUtf8 bytes → IsSomeAnd (document bytes) (λ j. ¬ HasUniqueKeys j) → undoubled bytes ≡ Err (refused DoubledMember)
 read-doubled bytes text never = doubled-in bytes (document bytes) text refl never
 
-pub read-none : (bytes : List ℕ) → IsUtf8 bytes → document bytes ≡ None → undoubled bytes ≡ Err ViewNotJson
+pub read-none : (bytes : List ℕ) → IsUtf8 bytes → document bytes ≡ None → undoubled bytes ≡ Err (refused ViewNotJson)
 read-none bytes text e = undoubled-is bytes ∙ ap (λ r. r >>= judged) (is-parsed bytes None text e)
 
-by-text : (bytes : List ℕ) (b : Bool) → b ≡ is_utf8 bytes → ¬ IsUtf8 bytes → undoubled bytes ≡ Err ViewNotJson
+by-text : (bytes : List ℕ) (b : Bool) → b ≡ is_utf8 bytes → ¬ IsUtf8 bytes → undoubled bytes ≡ Err (refused ViewNotJson)
 by-text bytes true e never = absurd (never (IsUtf8-from_is_utf8 bytes (sym e)))
 by-text bytes false e never = undoubled-is bytes ∙ ap (λ b. or_fault ViewNotJson (if b then document bytes else None) >>= judged) (sym e)
 
-pub read-other : (bytes : List ℕ) → ¬ IsUtf8 bytes → undoubled bytes ≡ Err ViewNotJson
+pub read-other : (bytes : List ℕ) → ¬ IsUtf8 bytes → undoubled bytes ≡ Err (refused ViewNotJson)
 read-other bytes never = by-text bytes (is_utf8 bytes) refl never
 
 -- ---- a word

@@ -4,7 +4,7 @@ use Rattle.iodef_tree.specs.Text.{Bytes}
 use Rattle.iodef_tree.specs.declared.fault.ReadFault.{ReadFault}
 use Rattle.iodef_tree.specs.declared.fault.ReadFault.TheVariants as read
 use Rattle.redaction.specs.declared.fault.Fault.{Fault}
-use Rattle.redaction.specs.declared.fault.Fault.TheVariants.{NoMemory, ViewNotJson, DoubledMember, NotObject, UnknownMember, MissingMember, WrongKind, OutOfRange, BadPointer, BadMoment, SourceUnsaid, NotUtf8, NotJson, NotDocument, Missing, NotWhole, NestedClass, TooDeep, TooManyLines, BadMarking, NoIncident, NoClass, NothingVisible}
+use Rattle.redaction.specs.declared.fault.Fault.TheVariants.{NoMemory, ViewNotJson, DoubledMember, NotObject, UnknownMember, MissingMember, WrongKind, OutOfRange, BadPointer, BadMoment, SourceUnsaid, NotUtf8, NotJson, NotDocument, Missing, NotWhole, NestedClass, TooDeep, TooManyLines, BadMarking, NoIncident, NoClass, NothingVisible, NotReadable, IdMissing}
 
 -- the number of a fault: its place in the order, from 1 on
 abbrev pub fault_number : Fault → ℕ
@@ -35,6 +35,9 @@ fault_number BadMarking = 20
 fault_number NoIncident = 21
 fault_number NoClass = 22
 fault_number NothingVisible = 23
+-- of an excerpt that is to be a report again
+fault_number NotReadable = 24
+fault_number IdMissing = 25
 
 -- the earlier of two faults; the first of two equal ones
 abbrev pub earlier : Fault → Fault → Fault
@@ -65,6 +68,8 @@ name_of BadMarking = codes "BadMarking"
 name_of NoIncident = codes "NoIncident"
 name_of NoClass = codes "NoClass"
 name_of NothingVisible = codes "NothingVisible"
+name_of NotReadable = codes "NotReadable"
+name_of IdMissing = codes "IdMissing"
 
 -- the reason of a fault, in words
 abbrev pub reason_of : Fault → Bytes
@@ -78,7 +83,7 @@ reason_of WrongKind = codes "a value of the view is of the wrong kind"
 reason_of OutOfRange = codes "a value of the view is out of range"
 reason_of BadPointer = codes "a path is no JSON pointer"
 reason_of BadMoment = codes "a moment of the view is no whole second with an offset"
-reason_of SourceUnsaid = codes "the reader's organisation is the source, and `source` isn't true"
+reason_of SourceUnsaid = codes "`source` isn't true exactly if the reader's organisation is the source"
 reason_of NotUtf8 = codes "a word isn't UTF-8"
 reason_of NotJson = codes "the report is no JSON text in UTF-8"
 reason_of NotDocument = codes "the report is no IODEF document"
@@ -91,6 +96,8 @@ reason_of BadMarking = codes "a class breaks the marking rule"
 reason_of NoIncident = codes "there is no Incident at that place"
 reason_of NoClass = codes "there is no class at a path"
 reason_of NothingVisible = codes "no class is visible"
+reason_of NotReadable = codes "the excerpt has too many lines for a report, or is too deep"
+reason_of IdMissing = codes "the IncidentID is withheld, and none is given"
 
 -- the fault of a report that can't be read, with the name that it has in a post to a hub
 abbrev pub of_report : ReadFault → Fault

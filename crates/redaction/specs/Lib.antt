@@ -1,8 +1,16 @@
 pub mod Faults
 pub mod Outcome
+pub mod Places
+pub mod Readings
+pub mod Moments
 pub mod Values
 pub mod Described
 pub mod Asked
+pub mod Locating
+pub mod Words
+pub mod Readable
+pub mod Highest
+pub mod Whole
 pub mod Answers
 pub mod Laws
 pub mod inner

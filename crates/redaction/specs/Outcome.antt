@@ -15,12 +15,11 @@ abbrev pub ◌>>=◌ : {A B : Type 0} → Read A → (A → Read B) → Read B
 (Err e) >>= f = Err e
 
 -- Two readings side by side: both are done, and of two faults the earlier in the order is returned.
-infixl 11 ◌&◌
-abbrev pub ◌&◌ : {A B : Type 0} → Read A → Read B → Read (A × B)
-(Ok x) & (Ok y) = Ok (x, y)
-(Ok x) & (Err f) = Err f
-(Err e) & (Ok y) = Err e
-(Err e) & (Err f) = Err (earlier e f)
+abbrev pub both : {A B : Type 0} → Read A → Read B → Read (A × B)
+both (Ok x) (Ok y) = Ok (x, y)
+both (Ok x) (Err f) = Err f
+both (Err e) (Ok y) = Err e
+both (Err e) (Err f) = Err (earlier e f)
 
 -- the value if there is one, else this fault
 abbrev pub or_fault : {A : Type 0} → Fault → Option A → Read A

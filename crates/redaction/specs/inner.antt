@@ -1,2 +1,4 @@
 pub mod SoFar
 pub mod Bodies
+pub mod Trees
+pub mod Labels

@@ -64,7 +64,7 @@ pub(crate) fn read_incident(alloc: Global, report: &[u8], place: u32) -> Result<
 }
 
 /// Returns whether the gate is at the root or at a class.
-fn gate_stands(document: &Document, gate: &Gate) -> bool
+pub(crate) fn gate_stands(document: &Document, gate: &Gate) -> bool
     ensures { result ≡ spec.gate_stands (located document.now) gate.now }
 {
     gate.path.tokens().is_empty() || document.has_class(&gate.path)
@@ -77,13 +77,20 @@ fn gates_stand(document: &Document, gates: &[Gate]) -> bool
     gates.iter().all(|gate| gate_stands(document, gate))
 }
 
+/// Returns whether the permission is at a class.
+pub(crate) fn permission_stands(document: &Document, permission: &Permission) -> bool
+    ensures { result ≡ spec.permission_stands (located document.now) permission.now }
+{
+    document.has_class(&permission.path)
+}
+
 /// Returns whether each permission is at a class.
 fn permissions_stand(document: &Document, permissions: &[Permission]) -> bool
     ensures { result ≡ list_all (spec.permission_stands (located document.now)) permissions.now }
 {
     permissions
         .iter()
-        .all(|permission| document.has_class(&permission.path))
+        .all(|permission| permission_stands(document, permission))
 }
 
 /// Returns whether each gate is at the root or at a class, and each permission at a class.

@@ -7,9 +7,12 @@ ghost use Rattle.iodef_tree.specs.Json.{data_of};
 ghost use Rattle.redact.specs.Excerpts.{told_by};
 ghost use Rattle.redaction.specs.Answers as spec;
 
-use iodef_tree::Path;
+use crate::highest::{highest, tlp_name};
+use crate::readable::is_readable;
+use iodef_tree::{Document, Path};
 use json::Token;
 use json_text::{Refused, Sink, Source, Tokens, bytes_of};
+use marking::Handling;
 use policy::Rule;
 use redact::Excerpt;
 use std::alloc::{AllocError, Global};
@@ -40,15 +43,21 @@ fn put_withheld<S: Sink>(out: &mut Tokens<S>, pairs: &[(Path, Rule)]) -> Result<
 }
 
 /// Puts the whole excerpt.
-fn put_excerpt<S: Sink>(out: &mut Tokens<S>, excerpt: &Excerpt) -> Result<(), Refused>
+fn put_excerpt<S: Sink>(
+    out: &mut Tokens<S>,
+    excerpt: &Excerpt,
+    arranged: Option<Handling>,
+) -> Result<(), Refused>
     ensures puts { OnOk result (S.puts out.old.sink (comma_if out.old.after_value ++
-        compact_text (spec.excerpt_object (told_by excerpt.now))) out.new.sink) }
+        compact_text (spec.excerpt_object arranged (told_by excerpt.now))) out.new.sink) }
     ensures after { OnOk result (out.new.after_value ≡ true) }
 {
     out.token(Token::BeginObject)?;
     out.number_member("classes", excerpt.classes)?;
     out.name("document")?;
     out.document(&excerpt.document)?;
+    out.text_member("label", tlp_name(highest(&excerpt.document, arranged)))?;
+    out.flag_member("readable", is_readable(&excerpt.document))?;
     out.name("withheld")?;
     put_withheld(out, excerpt.withheld.as_slice())?;
     out.token(Token::EndObject)
@@ -57,10 +66,11 @@ fn put_excerpt<S: Sink>(out: &mut Tokens<S>, excerpt: &Excerpt) -> Result<(), Re
 /// What is written of an excerpt.
 #[derive(Clone, Copy, Drop)]
 pub(crate) enum Body<'a> {
-    /// The whole excerpt: its document, how many classes are visible, and what is withheld.
-    Whole(&'a Excerpt),
-    /// Only its document.
-    Document(&'a Excerpt),
+    /// The whole excerpt: its document, how many classes are visible, its highest label, whether it is a report again,
+    /// and what is withheld. The label depends on what is arranged with the reader's organisation.
+    Whole(&'a Excerpt, Option<Handling>),
+    /// A document.
+    Document(&'a Document),
 }
 
 impl<'a> Body<'a> {
@@ -72,8 +82,8 @@ impl<'a> Body<'a> {
             (comma_if out.old.after_value ++ body_text self.now) out.new.sink) }
     {
         match self {
-            Body::Whole(excerpt) => put_excerpt(out, excerpt),
-            Body::Document(excerpt) => out.document(&excerpt.document),
+            Body::Whole(excerpt, arranged) => put_excerpt(out, excerpt, *arranged),
+            Body::Document(document) => out.document(document),
         }
     }
 }
@@ -91,15 +101,20 @@ impl<'a> Source for Body<'a> {
 }
 
 /// Returns the bytes of the whole excerpt.
-pub(crate) fn excerpt_bytes(alloc: Global, excerpt: &Excerpt) -> Result<Vec<u8>, AllocError>
-    ensures { IfOk result (λ v. v.items ≡ compact_text (spec.excerpt_object (told_by excerpt.now))) }
+pub(crate) fn excerpt_bytes(
+    alloc: Global,
+    excerpt: &Excerpt,
+    arranged: Option<Handling>,
+) -> Result<Vec<u8>, AllocError>
+    ensures { IfOk result (λ v. v.items ≡
+        compact_text (spec.excerpt_object arranged (told_by excerpt.now))) }
 {
-    bytes_of(alloc, &Body::Whole(excerpt))
+    bytes_of(alloc, &Body::Whole(excerpt, arranged))
 }
 
-/// Returns the bytes of its document.
-pub(crate) fn document_bytes(alloc: Global, excerpt: &Excerpt) -> Result<Vec<u8>, AllocError>
-    ensures { IfOk result (λ v. v.items ≡ compact_text (object (data_of excerpt.now.document))) }
+/// Returns the bytes of a document.
+pub(crate) fn document_bytes(alloc: Global, document: &Document) -> Result<Vec<u8>, AllocError>
+    ensures { IfOk result (λ v. v.items ≡ compact_text (object (data_of document.now))) }
 {
-    bytes_of(alloc, &Body::Document(excerpt))
+    bytes_of(alloc, &Body::Document(document))
 }

@@ -1,13 +1,14 @@
 //! The case of a view.
-ghost use Rattle.std.specs.Prelude.{◌≡◌, IfOk, codes};
+ghost use Rattle.std.specs.Prelude.{◌≡◌, IfOk};
 ghost use Rattle.json.specs.Value.{value_view, items_view};
 ghost use Rattle.redaction.specs.Values as values;
 ghost use Rattle.redaction.specs.Described as spec;
 
-use crate::both::{Read, both};
+use crate::both::{Read, at_member, both};
 use crate::fault::Fault;
 use crate::gates::wanted_gates;
 use crate::permissions::given_permissions;
+use crate::place::{Part, Refusal};
 use crate::value::{given_number, object_in, only, wanted_number};
 use json::Value;
 use policy::Case;
@@ -19,7 +20,7 @@ fn case_in(alloc: Global, value: &Value<'_>) -> Result<Read<Case>, AllocError>
 {
     match object_in(value) {
         Ok(()) => case_of(alloc, value),
-        Err(fault) => Ok(Err(fault)),
+        Err(refusal) => Ok(Err(refusal)),
     }
 }
 
@@ -28,10 +29,18 @@ fn case_in(alloc: Global, value: &Value<'_>) -> Result<Read<Case>, AllocError>
 fn case_of(alloc: Global, value: &Value<'_>) -> Result<Read<Case>, AllocError>
     ensures { IfOk result (λ r. r ≡ spec.case_of (value_view value.now)) }
 {
-    let names = only(value, &["source", "community", "gates", "permissions"]);
+    let names = only(
+        value,
+        &[
+            Part::Source,
+            Part::Community,
+            Part::Gates,
+            Part::Permissions,
+        ],
+    );
     let whose = both(
-        wanted_number(value, "source"),
-        given_number(value, "community"),
+        wanted_number(value, Part::Source),
+        given_number(value, Part::Community),
     );
     let gates = wanted_gates(alloc, value)?;
     let permissions = given_permissions(alloc, value)?;
@@ -42,19 +51,20 @@ fn case_of(alloc: Global, value: &Value<'_>) -> Result<Read<Case>, AllocError>
             gates,
             permissions,
         })),
-        Err(fault) => Ok(Err(fault)),
+        Err(refusal) => Ok(Err(refusal)),
     }
 }
 
 /// Returns the case of a view, which has to be there.
 pub(crate) fn wanted_case(alloc: Global, value: &Value<'_>) -> Result<Read<Case>, AllocError>
     ensures { IfOk result (λ r.
-        r ≡ values.wanted spec.case_in (codes "case") (value_view value.now)) }
+        r ≡ values.wanted spec.case_in Part.Case (value_view value.now)) }
 {
-    match value.get("case") {
-        Some(value) => case_in(alloc, value),
-        None => Ok(Err(Fault::MissingMember)),
-    }
+    let case = match value.get(Part::Case.name()) {
+        Some(value) => case_in(alloc, value)?,
+        None => Err(Refusal::here(Fault::MissingMember)),
+    };
+    Ok(at_member(Part::Case, case))
 }
 
 /// Returns whether one of the permissions says when it ends.
@@ -62,7 +72,7 @@ fn some_says_end(items: &Vec<Value<'_>>) -> bool
     ensures { result ≡ spec.some_says_end (items_view items.now.items) }
 {
     for item in items {
-        if item.get("until").is_some() {
+        if item.get(Part::Until.name()).is_some() {
             return true;
         }
     }
@@ -73,10 +83,10 @@ fn some_says_end(items: &Vec<Value<'_>>) -> bool
 pub(crate) fn has_end(value: &Value<'_>) -> bool
     ensures { result ≡ spec.has_end (value_view value.now) }
 {
-    let Some(case) = value.get("case") else {
+    let Some(case) = value.get(Part::Case.name()) else {
         return false;
     };
-    match case.get("permissions") {
+    match case.get(Part::Permissions.name()) {
         Some(Value::Array(items)) => some_says_end(items),
         _ => false,
     }

@@ -31,7 +31,7 @@ pub enum Fault {
     BadPointer,
     /// A moment in it is no whole second with an offset (RFC 3339).
     BadMoment,
-    /// The reader's organisation is the source, and the reader isn't said to be of it.
+    /// The reader is said to be of the source and its organisation isn't the case's source, or the other way round.
     SourceUnsaid,
     /// The text of a search, the name of a class or the path of the question isn't UTF-8.
     NotUtf8,
@@ -58,6 +58,10 @@ pub enum Fault {
     NoClass,
     /// No class is visible to the reader.
     NothingVisible,
+    /// Even with placeholders the excerpt can't be read as a report: it has too many lines, or is too deep.
+    NotReadable,
+    /// The IncidentID is withheld, and no identifier is given for the excerpt.
+    IdMissing,
 }
 
 impl Fault {
@@ -89,6 +93,8 @@ impl Fault {
             Fault::NoIncident => 21,
             Fault::NoClass => 22,
             Fault::NothingVisible => 23,
+            Fault::NotReadable => 24,
+            Fault::IdMissing => 25,
         }
     }
 
@@ -120,6 +126,8 @@ impl Fault {
             Fault::NoIncident => "NoIncident",
             Fault::NoClass => "NoClass",
             Fault::NothingVisible => "NothingVisible",
+            Fault::NotReadable => "NotReadable",
+            Fault::IdMissing => "IdMissing",
         }
     }
 
@@ -139,7 +147,7 @@ impl Fault {
             Fault::BadPointer => "a path is no JSON pointer",
             Fault::BadMoment => "a moment of the view is no whole second with an offset",
             Fault::SourceUnsaid =>
-                "the reader's organisation is the source, and `source` isn't true",
+                "`source` isn't true exactly if the reader's organisation is the source",
             Fault::NotUtf8 => "a word isn't UTF-8",
             Fault::NotJson => "the report is no JSON text in UTF-8",
             Fault::NotDocument => "the report is no IODEF document",
@@ -152,6 +160,8 @@ impl Fault {
             Fault::NoIncident => "there is no Incident at that place",
             Fault::NoClass => "there is no class at a path",
             Fault::NothingVisible => "no class is visible",
+            Fault::NotReadable => "the excerpt has too many lines for a report, or is too deep",
+            Fault::IdMissing => "the IncidentID is withheld, and none is given",
         }
     }
 

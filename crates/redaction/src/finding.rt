@@ -2,6 +2,7 @@
 ghost use Rattle.std.specs.Prelude.{◌≡◌, option_map, option_copied, IfOk};
 ghost use Rattle.redaction.specs.Outcome.{Yields, YieldsAs};
 ghost use Rattle.redaction.specs.Answers as spec;
+ghost use Rattle.redaction.specs.Words as words;
 
 use crate::asked::read_asked;
 use crate::fault::Fault;
@@ -10,7 +11,7 @@ use std::alloc::{AllocError, Global};
 
 /// Returns the bytes as a text. Fails with NotUtf8.
 pub(crate) fn word_of(bytes: &[u8]) -> Result<&str, Fault>
-    ensures { YieldsAs (λ t. t.now) result (spec.word_of bytes.now) }
+    ensures { YieldsAs (λ t. t.now) result (words.word_of bytes.now) }
 {
     match std::str::from_utf8(bytes) {
         Ok(text) => Ok(text),
@@ -20,7 +21,7 @@ pub(crate) fn word_of(bytes: &[u8]) -> Result<&str, Fault>
 
 /// Returns the same of bytes that may be missing.
 fn some_word_of(bytes: Option<&[u8]>) -> Result<Option<&str>, Fault>
-    ensures { YieldsAs option_copied result (spec.some_word_of (option_copied bytes.entry)) }
+    ensures { YieldsAs option_copied result (words.some_word_of (option_copied bytes.entry)) }
 {
     match bytes {
         None => Ok(None),
@@ -55,7 +56,7 @@ pub fn finds(
     ensures { YieldsAs (λ v. v.items) result
         (spec.finds_text report.now description.now needle.now (option_copied class.entry)) }
 {
-    let view = read_view(alloc, description)?;
+    let view = read_view(alloc, false, description)?;
     let needle = word_of(needle)?;
     let class = some_word_of(class)?;
     let asked = read_asked(alloc, report, view)?;

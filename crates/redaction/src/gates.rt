@@ -1,13 +1,15 @@
 //! The gates of a view's case.
-ghost use Rattle.std.specs.Prelude.{◌≡◌, IfOk, codes};
+ghost use Rattle.std.specs.Prelude.{◌≡◌, IfOk};
+ghost use Rattle.std.specs.List.{list_any};
 ghost use Rattle.json.specs.Value.{value_view, items_view};
-ghost use Rattle.redaction.specs.Outcome.{require};
+ghost use Rattle.redaction.specs.Readings.{require};
 ghost use Rattle.redaction.specs.Values as values;
 ghost use Rattle.redaction.specs.Described as spec;
 
 use crate::GATE_LIMIT;
-use crate::both::{Read, both, collect, unless};
+use crate::both::{Read, at, at_member, both, collect, unless};
 use crate::fault::Fault;
+use crate::place::{Part, Refusal, Step};
 use crate::value::{count_of, given_number, number_in, object_in, only, wanted_path};
 use iodef_tree::Path;
 use json::Value;
@@ -29,18 +31,21 @@ fn level_of(number: u32) -> Read<u8>
     if number <= 5 {
         Ok(number as u8)
     } else {
-        Err(Fault::OutOfRange)
+        Err(Refusal::here(Fault::OutOfRange))
     }
 }
 
 /// Returns the level of a gate, which has to be there.
 fn wanted_level(value: &Value<'_>) -> Read<u8>
-    ensures { result ≡ values.wanted spec.level_in (codes "level") (value_view value.now) }
+    ensures { result ≡ values.wanted spec.level_in Part.Level (value_view value.now) }
 {
-    match value.get("level") {
-        Some(value) => level_in(value),
-        None => Err(Fault::MissingMember),
-    }
+    at_member(
+        Part::Level,
+        match value.get(Part::Level.name()) {
+            Some(value) => level_in(value),
+            None => Err(Refusal::here(Fault::MissingMember)),
+        },
+    )
 }
 
 /// Returns the level and the group: level 4 names a group, and no other level does.
@@ -48,8 +53,8 @@ fn reach_of(level: u8, group: Option<u32>) -> Read<(u8, Option<u32>)>
     ensures { result ≡ spec.reach_of level group }
 {
     match group {
-        None if level == 4 => Err(Fault::MissingMember),
-        Some(_) if level != 4 => Err(Fault::OutOfRange),
+        None if level == 4 => at_member(Part::Group, Err(Refusal::here(Fault::MissingMember))),
+        Some(_) if level != 4 => at_member(Part::Group, Err(Refusal::here(Fault::OutOfRange))),
         group => Ok((level, group)),
     }
 }
@@ -59,7 +64,7 @@ fn reach_of(level: u8, group: Option<u32>) -> Read<(u8, Option<u32>)>
 fn reach_in(value: &Value<'_>) -> Read<(u8, Option<u32>)>
     ensures { result ≡ spec.reach_in (value_view value.now) }
 {
-    let (level, group) = both(wanted_level(value), given_number(value, "group"))?;
+    let (level, group) = both(wanted_level(value), given_number(value, Part::Group))?;
     reach_of(level, group)
 }
 
@@ -68,7 +73,7 @@ fn gate_at(path: Path, level: u8, group: Option<u32>) -> Read<Gate>
     ensures { result ≡ spec.gate_at path level group }
 {
     if path.tokens().is_empty() && level == 5 {
-        return Err(Fault::OutOfRange);
+        return at_member(Part::Level, Err(Refusal::here(Fault::OutOfRange)));
     }
     Ok(Gate { path, level, group })
 }
@@ -78,14 +83,14 @@ fn gate_at(path: Path, level: u8, group: Option<u32>) -> Read<Gate>
 fn gate_in(alloc: Global, value: &Value<'_>) -> Result<Read<Gate>, AllocError>
     ensures { IfOk result (λ r. r ≡ spec.gate_in (value_view value.now)) }
 {
-    if let Err(fault) = object_in(value) {
-        return Ok(Err(fault));
+    if let Err(refusal) = object_in(value) {
+        return Ok(Err(refusal));
     }
-    let names = only(value, &["path", "level", "group"]);
-    let path = wanted_path(alloc, value, "path")?;
+    let names = only(value, &[Part::Path, Part::Level, Part::Group]);
+    let path = wanted_path(alloc, value, Part::Path)?;
     match both(both(names, path), reach_in(value)) {
         Ok((((), path), (level, group))) => Ok(gate_at(path, level, group)),
-        Err(fault) => Ok(Err(fault)),
+        Err(refusal) => Ok(Err(refusal)),
     }
 }
 
@@ -93,7 +98,7 @@ fn gate_in(alloc: Global, value: &Value<'_>) -> Result<Read<Gate>, AllocError>
 fn is_root_gate(value: &Value<'_>) -> bool
     ensures { result ≡ spec.is_root_gate (value_view value.now) }
 {
-    match value.get("path") {
+    match value.get(Part::Path.name()) {
         Some(path) => path.as_str() == Some(""),
         None => false,
     }
@@ -119,7 +124,7 @@ fn are_gates(items: &Vec<Value<'_>>) -> Read<()>
     if root_gates(items) == 1 && count_of(items) <= GATE_LIMIT + 1 {
         Ok(())
     } else {
-        Err(Fault::OutOfRange)
+        Err(Refusal::here(Fault::OutOfRange))
     }
 }
 
@@ -129,10 +134,44 @@ fn each_gate(alloc: Global, items: &Vec<Value<'_>>) -> Result<Read<Gates>, Alloc
 {
     let mut found = Vec::new(alloc);
     let mut first = None;
+    let mut place = 0;
     for item in items {
-        collect(&mut first, &mut found, gate_in(alloc, item)?)?;
+        let gate = at(Step::Item(place), gate_in(alloc, item)?);
+        collect(&mut first, &mut found, gate)?;
+        place += 1;
     }
     Ok(unless(first, Gates::new(found)))
+}
+
+/// Returns whether one of the others is like it.
+fn is_among(one: &Gate, others: &[Gate]) -> bool
+    ensures { result ≡ list_any (spec.same_place one.now) others.now }
+{
+    others.iter().any(|other| one.path == other.path)
+}
+
+/// Returns whether two of the gates are at one place.
+fn has_alike(gates: &[Gate]) -> bool
+    ensures { result ≡ spec.has_alike spec.same_place gates.now }
+{
+    let mut rest = gates;
+    for gate in gates {
+        rest = &rest[1..];
+        if is_among(gate, rest) {
+            return true;
+        }
+    }
+    false
+}
+
+/// Returns the gates. Fails with OutOfRange if two of them are at one place.
+fn apart(gates: Gates) -> Read<Gates>
+    ensures { result ≡ spec.gates_apart gates }
+{
+    if has_alike(gates.as_slice()) {
+        return Err(Refusal::here(Fault::OutOfRange));
+    }
+    Ok(gates)
 }
 
 /// Returns the gates that a value says.
@@ -141,22 +180,23 @@ fn gates_in(alloc: Global, value: &Value<'_>) -> Result<Read<Gates>, AllocError>
     ensures { IfOk result (λ r. r ≡ spec.gates_in (value_view value.now)) }
 {
     let Value::Array(items) = value else {
-        return Ok(Err(Fault::WrongKind));
+        return Ok(Err(Refusal::here(Fault::WrongKind)));
     };
     let gates = each_gate(alloc, items)?;
     match both(are_gates(items), gates) {
-        Ok(((), gates)) => Ok(Ok(gates)),
-        Err(fault) => Ok(Err(fault)),
+        Ok(((), gates)) => Ok(apart(gates)),
+        Err(refusal) => Ok(Err(refusal)),
     }
 }
 
 /// Returns the gates of a case, which have to be there.
 pub(crate) fn wanted_gates(alloc: Global, value: &Value<'_>) -> Result<Read<Gates>, AllocError>
     ensures { IfOk result (λ r.
-        r ≡ values.wanted spec.gates_in (codes "gates") (value_view value.now)) }
+        r ≡ values.wanted spec.gates_in Part.Gates (value_view value.now)) }
 {
-    match value.get("gates") {
-        Some(value) => gates_in(alloc, value),
-        None => Ok(Err(Fault::MissingMember)),
-    }
+    let gates = match value.get(Part::Gates.name()) {
+        Some(value) => gates_in(alloc, value)?,
+        None => Err(Refusal::here(Fault::MissingMember)),
+    };
+    Ok(at_member(Part::Gates, gates))
 }

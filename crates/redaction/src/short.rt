@@ -4,6 +4,8 @@ ghost use Rattle.json.specs.Value.{value_view};
 ghost use Rattle.redaction.specs.Described as spec;
 
 use crate::both::{Read, both};
+use crate::now::now_in;
+use crate::place::Part;
 use crate::reader::wanted_handling;
 use crate::value::{number_or_zero, only};
 use crate::view::View;
@@ -53,19 +55,27 @@ pub(crate) fn cleared_reader(alloc: Global, handling: Handling) -> Standing
     reader
 }
 
-/// Returns the view that an object in the short form says. It may name the Incident, as a report may have 16.
+/// Returns the view that an object in the short form says. It may name the Incident, as a report may have 16, and the
+/// moment, which is wanted if `is_dated`.
 #[tactic(auto, unfolding(crate::specs::Described::short_in))]
-pub(crate) fn short_in(alloc: Global, value: &Value<'_>) -> Result<Read<View>, AllocError>
-    ensures { IfOk result (λ r. r ≡ spec.short_in (value_view value.now)) }
+pub(crate) fn short_in(
+    alloc: Global,
+    is_dated: bool,
+    value: &Value<'_>,
+) -> Result<Read<View>, AllocError>
+    ensures { IfOk result (λ r. r ≡ spec.short_in is_dated (value_view value.now)) }
 {
-    let names = only(value, &["clearance", "incident"]);
-    let clearance = wanted_handling(value, "clearance");
-    match both(both(names, clearance), number_or_zero(value, "incident")) {
-        Ok((((), clearance), incident)) => Ok(Ok(View {
+    let names = only(value, &[Part::Clearance, Part::Incident, Part::Now]);
+    let clearance = wanted_handling(value, Part::Clearance);
+    let now = now_in(alloc, is_dated, value)?;
+    let others = both(number_or_zero(value, Part::Incident), now);
+    match both(both(names, clearance), others) {
+        Ok((((), clearance), (incident, (_moment, said)))) => Ok(Ok(View {
             incident,
             case: open_case(alloc)?,
             reader: cleared_reader(alloc, clearance),
+            said,
         })),
-        Err(fault) => Ok(Err(fault)),
+        Err(refusal) => Ok(Err(refusal)),
     }
 }

@@ -1,13 +1,16 @@
 //! What the JSON values of a view description say.
-ghost use Rattle.std.specs.Prelude.{◌≡◌, map, ok_or, option_map, IfOk};
+ghost use Rattle.std.specs.Prelude.{◌≡◌, IfOk, nat_le};
 ghost use Rattle.std.specs.List.{list_all};
 ghost use Rattle.std.specs.Char.{is_ascii_digit};
-ghost use Rattle.json.specs.Strict.{keys};
 ghost use Rattle.json.specs.Value.{value_view, items_view, members_view};
+ghost use Rattle.redaction.specs.Readings.{require};
 ghost use Rattle.redaction.specs.Values as spec;
 
-use crate::both::{Read, collect, unless};
+use crate::NUMBER_LIMIT;
+use crate::both::{Read, at, at_member, both, collect, unless};
 use crate::fault::Fault;
+use crate::moment::is_written;
+use crate::place::{Part, Refusal, Step};
 use iodef_tree::{Path, PathFault};
 use json::Value;
 use policy::{Numbers, read_moment};
@@ -27,7 +30,7 @@ pub(crate) fn object_in(value: &Value<'_>) -> Read<()>
     if is_object(value) {
         Ok(())
     } else {
-        Err(Fault::WrongKind)
+        Err(Refusal::here(Fault::WrongKind))
     }
 }
 
@@ -37,7 +40,7 @@ fn truth_in(value: &Value<'_>) -> Read<bool>
 {
     match value.as_bool() {
         Some(truth) => Ok(truth),
-        None => Err(Fault::WrongKind),
+        None => Err(Refusal::here(Fault::WrongKind)),
     }
 }
 
@@ -60,11 +63,11 @@ fn whole(text: &str) -> Read<u32>
     ensures { result ≡ spec.whole text.now }
 {
     if !is_whole(text.as_bytes()) {
-        return Err(Fault::OutOfRange);
+        return Err(Refusal::here(Fault::OutOfRange));
     }
     match text.parse::<u32>() {
         Ok(number) => Ok(number),
-        Err(_) => Err(Fault::OutOfRange),
+        Err(_) => Err(Refusal::here(Fault::OutOfRange)),
     }
 }
 
@@ -75,7 +78,7 @@ pub(crate) fn number_in(value: &Value<'_>) -> Read<u32>
 {
     match value.as_number() {
         Some(text) => whole(text),
-        None => Err(Fault::WrongKind),
+        None => Err(Refusal::here(Fault::WrongKind)),
     }
 }
 
@@ -85,7 +88,7 @@ pub(crate) fn path_of(alloc: Global, text: &str) -> Result<Read<Path>, AllocErro
 {
     match Path::parse(alloc, text) {
         Ok(path) => Ok(Ok(path)),
-        Err(PathFault::BadPath) => Ok(Err(Fault::BadPointer)),
+        Err(PathFault::BadPath) => Ok(Err(Refusal::here(Fault::BadPointer))),
         Err(PathFault::NoMemory) => Err(AllocError),
     }
 }
@@ -97,7 +100,7 @@ fn path_in(alloc: Global, value: &Value<'_>) -> Result<Read<Path>, AllocError>
 {
     match value.as_str() {
         Some(text) => path_of(alloc, text),
-        None => Ok(Err(Fault::WrongKind)),
+        None => Ok(Err(Refusal::here(Fault::WrongKind))),
     }
 }
 
@@ -108,117 +111,148 @@ pub(crate) fn moment_from(value: &Value<'_>) -> Read<i64>
 {
     match value.as_str() {
         Some(text) => moment_of(text),
-        None => Err(Fault::WrongKind),
+        None => Err(Refusal::here(Fault::WrongKind)),
     }
 }
 
-/// Returns the moment that a text gives, in seconds since the beginning of 1970 (UTC).
-fn moment_of(text: &str) -> Read<i64>
+/// Returns the moment that a text gives, in seconds since the beginning of 1970 (UTC). Fails with BadMoment also if
+/// the text isn't written by RFC 3339 section 5.6.
+pub(crate) fn moment_of(text: &str) -> Read<i64>
     ensures { result ≡ spec.moment_of text.now }
 {
+    if !is_written(text) {
+        return Err(Refusal::here(Fault::BadMoment));
+    }
     match read_moment(text) {
         Ok(moment) => Ok(moment),
-        Err(_) => Err(Fault::BadMoment),
+        Err(_) => Err(Refusal::here(Fault::BadMoment)),
     }
 }
 
-/// Returns whether a name is one of these.
-fn is_one_of(names: &[&str], name: &str) -> bool
-    ensures { result ≡ spec.is_one_of (map (λ n. n.now) names.now) name.now }
+/// Returns whether a name is that of one of these members.
+fn is_one_of(known: &[Part], name: &str) -> bool
+    ensures { result ≡ spec.is_one_of known.now name.now }
 {
-    for known in names {
-        if *known == name {
-            return true;
-        }
-    }
-    false
+    known.iter().any(|part| part.name() == name)
 }
 
-/// Fails with UnknownMember if an object has a member besides these.
-pub(crate) fn only(value: &Value<'_>, names: &[&str]) -> Read<()>
-    ensures { result ≡ spec.only (map (λ n. n.now) names.now) (value_view value.now) }
+/// Fails with UnknownMember at the first member of an object that is none of these.
+pub(crate) fn only(value: &Value<'_>, known: &[Part]) -> Read<()>
+    ensures { result ≡ spec.only known.now (value_view value.now) }
 {
     match value {
-        Value::Object(members) => only_among(members, names),
+        Value::Object(members) => only_among(members, known),
         _ => Ok(()),
     }
 }
 
 /// The same for the members of an object.
-fn only_among<'a>(members: &Vec<(&'a str, Value<'a>)>, names: &[&str]) -> Read<()>
-    ensures { result ≡ spec.only_among (map (λ n. n.now) names.now) (keys (members_view members.now.items)) }
+fn only_among<'a>(members: &Vec<(&'a str, Value<'a>)>, known: &[Part]) -> Read<()>
+    ensures { result ≡ spec.only_from known.now 0 (members_view members.now.items) }
 {
+    let mut place = 0;
     for (name, _value) in members {
-        if !is_one_of(names, name) {
-            return Err(Fault::UnknownMember);
+        if !is_one_of(known, name) {
+            return Err(Refusal::here(Fault::UnknownMember).inside(Step::Nth(place)));
         }
+        place += 1;
     }
     Ok(())
 }
 
-/// Returns the number under a name, which has to be there.
-pub(crate) fn wanted_number(value: &Value<'_>, name: &str) -> Read<u32>
-    ensures { result ≡ spec.wanted spec.number_in name.now (value_view value.now) }
+/// Returns the number of a member, which has to be there.
+pub(crate) fn wanted_number(value: &Value<'_>, part: Part) -> Read<u32>
+    ensures { result ≡ spec.wanted spec.number_in part (value_view value.now) }
 {
-    match value.get(name) {
-        Some(value) => number_in(value),
-        None => Err(Fault::MissingMember),
-    }
+    at_member(
+        part,
+        match value.get(part.name()) {
+            Some(value) => number_in(value),
+            None => Err(Refusal::here(Fault::MissingMember)),
+        },
+    )
 }
 
-/// Returns the number under a name, if there is one.
-pub(crate) fn given_number(value: &Value<'_>, name: &str) -> Read<Option<u32>>
-    ensures { result ≡ spec.given spec.number_in name.now (value_view value.now) }
+/// Returns the number that a value is, as one that is there.
+fn some_number(value: &Value<'_>) -> Read<Option<u32>>
+    ensures { result ≡ spec.some_in spec.number_in (value_view value.now) }
 {
-    match value.get(name) {
-        Some(value) => Ok(Some(number_in(value)?)),
-        None => Ok(None),
-    }
+    Ok(Some(number_in(value)?))
 }
 
-/// Returns the number under a name, or 0.
-pub(crate) fn number_or_zero(value: &Value<'_>, name: &str) -> Read<u32>
-    ensures { result ≡ spec.given_or 0 spec.number_in name.now (value_view value.now) }
+/// Returns the number of a member, if it is there.
+pub(crate) fn given_number(value: &Value<'_>, part: Part) -> Read<Option<u32>>
+    ensures { result ≡ spec.given spec.number_in part (value_view value.now) }
 {
-    match value.get(name) {
-        Some(value) => number_in(value),
-        None => Ok(0),
-    }
+    at_member(
+        part,
+        match value.get(part.name()) {
+            Some(value) => some_number(value),
+            None => Ok(None),
+        },
+    )
 }
 
-/// Returns the path under a name, which has to be there.
+/// Returns the number of a member, or 0.
+pub(crate) fn number_or_zero(value: &Value<'_>, part: Part) -> Read<u32>
+    ensures { result ≡ spec.given_or 0 spec.number_in part (value_view value.now) }
+{
+    at_member(
+        part,
+        match value.get(part.name()) {
+            Some(value) => number_in(value),
+            None => Ok(0),
+        },
+    )
+}
+
+/// Returns the path of a member, which has to be there.
 pub(crate) fn wanted_path(
     alloc: Global,
     value: &Value<'_>,
-    name: &str,
+    part: Part,
 ) -> Result<Read<Path>, AllocError>
     ensures { IfOk result (λ r.
-        r ≡ spec.wanted spec.path_in name.now (value_view value.now)) }
+        r ≡ spec.wanted spec.path_in part (value_view value.now)) }
 {
-    match value.get(name) {
-        Some(value) => path_in(alloc, value),
-        None => Ok(Err(Fault::MissingMember)),
-    }
+    let path = match value.get(part.name()) {
+        Some(value) => path_in(alloc, value)?,
+        None => Err(Refusal::here(Fault::MissingMember)),
+    };
+    Ok(at_member(part, path))
 }
 
-/// Returns the moment under a name, if there is one.
-pub(crate) fn given_moment(value: &Value<'_>, name: &str) -> Read<Option<i64>>
-    ensures { result ≡ spec.given spec.moment_from name.now (value_view value.now) }
+/// Returns the moment that a value says, as one that is there.
+fn some_moment(value: &Value<'_>) -> Read<Option<i64>>
+    ensures { result ≡ spec.some_in spec.moment_from (value_view value.now) }
 {
-    match value.get(name) {
-        Some(value) => Ok(Some(moment_from(value)?)),
-        None => Ok(None),
-    }
+    Ok(Some(moment_from(value)?))
 }
 
-/// Returns the truth under a name; false if it is missing.
-pub(crate) fn flag(value: &Value<'_>, name: &str) -> Read<bool>
-    ensures { result ≡ spec.flag name.now (value_view value.now) }
+/// Returns the moment of a member, if it is there.
+pub(crate) fn given_moment(value: &Value<'_>, part: Part) -> Read<Option<i64>>
+    ensures { result ≡ spec.given spec.moment_from part (value_view value.now) }
 {
-    match value.get(name) {
-        Some(value) => truth_in(value),
-        None => Ok(false),
-    }
+    at_member(
+        part,
+        match value.get(part.name()) {
+            Some(value) => some_moment(value),
+            None => Ok(None),
+        },
+    )
+}
+
+/// Returns the truth of a member; false if it is missing.
+pub(crate) fn flag(value: &Value<'_>, part: Part) -> Read<bool>
+    ensures { result ≡ spec.flag part (value_view value.now) }
+{
+    at_member(
+        part,
+        match value.get(part.name()) {
+            Some(value) => truth_in(value),
+            None => Ok(false),
+        },
+    )
 }
 
 /// Returns how many elements there are.
@@ -234,10 +268,28 @@ fn each_number(alloc: Global, items: &Vec<Value<'_>>) -> Result<Read<Numbers>, A
 {
     let mut found = Vec::new(alloc);
     let mut first = None;
+    let mut place = 0;
     for item in items {
-        collect(&mut first, &mut found, number_in(item))?;
+        collect(
+            &mut first,
+            &mut found,
+            at(Step::Item(place), number_in(item)),
+        )?;
+        place += 1;
     }
     Ok(unless(first, Numbers::new(found)))
+}
+
+/// Fails with OutOfRange above [`NUMBER_LIMIT`].
+fn are_numbers(items: &Vec<Value<'_>>) -> Read<()>
+    ensures { result ≡
+        require (nat_le (spec.count_of (items_view items.now.items)) NUMBER_LIMIT) Fault.OutOfRange }
+{
+    if count_of(items) <= NUMBER_LIMIT {
+        Ok(())
+    } else {
+        Err(Refusal::here(Fault::OutOfRange))
+    }
 }
 
 /// Returns the whole numbers that a value says.
@@ -245,22 +297,27 @@ fn each_number(alloc: Global, items: &Vec<Value<'_>>) -> Result<Read<Numbers>, A
 fn numbers_in(alloc: Global, value: &Value<'_>) -> Result<Read<Numbers>, AllocError>
     ensures { IfOk result (λ r. r ≡ spec.numbers_in (value_view value.now)) }
 {
-    match value {
-        Value::Array(items) => each_number(alloc, items),
-        _ => Ok(Err(Fault::WrongKind)),
+    let Value::Array(items) = value else {
+        return Ok(Err(Refusal::here(Fault::WrongKind)));
+    };
+    let numbers = each_number(alloc, items)?;
+    match both(are_numbers(items), numbers) {
+        Ok(((), numbers)) => Ok(Ok(numbers)),
+        Err(refusal) => Ok(Err(refusal)),
     }
 }
 
-/// Returns the whole numbers under a name; none if it is missing.
+/// Returns the whole numbers of a member; none if it is missing.
 pub(crate) fn numbers_under(
     alloc: Global,
     value: &Value<'_>,
-    name: &str,
+    part: Part,
 ) -> Result<Read<Numbers>, AllocError>
-    ensures { IfOk result (λ r. r ≡ spec.numbers_under name.now (value_view value.now)) }
+    ensures { IfOk result (λ r. r ≡ spec.numbers_under part (value_view value.now)) }
 {
-    match value.get(name) {
-        Some(value) => numbers_in(alloc, value),
-        None => Ok(Ok(Numbers::new(Vec::new(alloc)))),
-    }
+    let numbers = match value.get(part.name()) {
+        Some(value) => numbers_in(alloc, value)?,
+        None => Ok(Numbers::new(Vec::new(alloc))),
+    };
+    Ok(at_member(part, numbers))
 }

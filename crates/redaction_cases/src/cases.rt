@@ -3,6 +3,9 @@
 //!
 //! - `report BYTES`: the report of the cases behind it; nothing is answered.
 //! - `excerpt VIEW`, `document VIEW`: what is answered, and a newline.
+//! - `reads VIEW`: whether the document is a report again.
+//! - `whole NAME ID VIEW`: the document as a report again, with this identifier; with none for `- -`.
+//! - `fault VIEW`: the first fault, with its place; `faultd VIEW`: the same if the moment is wanted.
 //! - `finds NEEDLE VIEW`, `finds NEEDLE@CLASS VIEW`: the same.
 //! - `explain POINTER VIEW`, `marks PLACE`: the lines that are answered.
 //! - `faults`: each fault's number, name and reason.
@@ -10,7 +13,7 @@
 //! A case without an answer prints the fault's number and name.
 
 use percent_encoding::percent_decode;
-use redaction::Fault;
+use redaction::{Fault, Identifier};
 use std::alloc::{AllocError, Global};
 
 /// The report that the cases are about.
@@ -20,7 +23,7 @@ pub struct Table {
 }
 
 /// All faults, in their order.
-const FAULTS: [Fault; 23] = [
+const FAULTS: [Fault; 25] = [
     Fault::NoMemory,
     Fault::ViewNotJson,
     Fault::DoubledMember,
@@ -44,6 +47,8 @@ const FAULTS: [Fault; 23] = [
     Fault::NoIncident,
     Fault::NoClass,
     Fault::NothingVisible,
+    Fault::NotReadable,
+    Fault::IdMissing,
 ];
 
 /// Returns the bytes of a part.
@@ -118,10 +123,17 @@ impl Table {
             let place = rest.parse::<u32>().unwrap_or(0);
             return Ok(redaction::marks(alloc, report, place));
         }
-        if verb == "excerpt" || verb == "document" {
+        if verb == "excerpt" || verb == "document" || verb == "reads" {
             return self.excerpt(alloc, verb, rest);
         }
+        if verb == "fault" || verb == "faultd" {
+            let view = bytes_of(alloc, rest)?;
+            return Ok(redaction::first_fault(alloc, verb == "faultd", report, &view));
+        }
         let (word, view) = rest.split_once(' ').unwrap_or((rest, ""));
+        if verb == "whole" {
+            return self.whole(alloc, word, view);
+        }
         let view = bytes_of(alloc, view)?;
         if verb == "explain" {
             let pointer = bytes_of(alloc, word)?;
@@ -138,11 +150,35 @@ impl Table {
     ) -> Result<Result<Vec<u8>, Fault>, AllocError> {
         let report = self.report.as_slice();
         let view = bytes_of(alloc, view)?;
-        Ok(if verb == "document" {
-            redaction::excerpt_document(alloc, report, &view)
-        } else {
-            redaction::excerpt(alloc, report, &view)
-        })
+        if verb == "excerpt" {
+            return Ok(redaction::excerpt(alloc, report, &view));
+        }
+        match redaction::excerpt_document(alloc, report, &view) {
+            Ok(document) if verb == "document" => Ok(Ok(document.text)),
+            Ok(document) if document.readable => Ok(Ok(Vec::from_slice(alloc, b"true")?)),
+            Ok(_) => Ok(Ok(Vec::from_slice(alloc, b"false")?)),
+            Err(fault) => Ok(Err(fault)),
+        }
+    }
+
+    fn whole(
+        &self,
+        alloc: Global,
+        name: &str,
+        rest: &str,
+    ) -> Result<Result<Vec<u8>, Fault>, AllocError> {
+        let report = self.report.as_slice();
+        let (id, view) = rest.split_once(' ').unwrap_or((rest, ""));
+        let view = bytes_of(alloc, view)?;
+        if id == "-" {
+            return Ok(redaction::excerpt_whole(alloc, report, &view, None));
+        }
+        let (name, id) = (bytes_of(alloc, name)?, bytes_of(alloc, id)?);
+        let identifier = Identifier {
+            name: name.as_slice(),
+            id: id.as_slice(),
+        };
+        Ok(redaction::excerpt_whole(alloc, report, &view, Some(identifier)))
     }
 
     fn finds(

@@ -10,5 +10,5 @@ use Rattle.redaction.specs.declared.body.Body.TheVariants as body
 
 -- the compact JSON of the whole excerpt, or of its document
 abbrev pub body_text : Body → Bytes
-body_text (body.Whole excerpt) = compact_text (excerpt_object (told_by excerpt.now))
-body_text (body.Document excerpt) = compact_text (object (data_of excerpt.now.document))
+body_text (body.Whole excerpt arranged) = compact_text (excerpt_object arranged (told_by excerpt.now))
+body_text (body.Document document) = compact_text (object (data_of document.now))

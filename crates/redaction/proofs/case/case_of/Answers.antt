@@ -1,6 +1,6 @@
 use Rattle.std.proofs.Common.{sym, ap₂, ◌∙◌}
 use Rattle.json.specs.Value.{value_view}
-use Rattle.redaction.specs.Outcome.{◌&◌}
+use Rattle.redaction.specs.Readings.{◌&◌}
 use Rattle.redaction.proofs.FirstFaults.{case-fault}
 use Rattle.redaction.proofs.case.case_of.Goals as goal
 
@@ -9,4 +9,4 @@ returns-in-Err c =
     let whose = c.both-whose.ensures ∙ ap₂ (λ a b. a & b) c.wanted_number.ensures c.given_number.ensures in
     let names = c.both.ensures ∙ ap₂ (λ a b. a & b) c.only-names.ensures whose in
     let lists = c.both-2.ensures ∙ ap₂ (λ a b. a & b) c.in_ok-gates.ensures c.in_ok-permissions.ensures in
-    case-fault (value_view c.args.value.now) c.in-Err.fault (sym (c.both-3.ensures ∙ ap₂ (λ a b. a & b) names lists) ∙ c.in-Err.is)
+    case-fault (value_view c.args.value.now) c.in-Err.refusal (sym (c.both-3.ensures ∙ ap₂ (λ a b. a & b) names lists) ∙ c.in-Err.is)

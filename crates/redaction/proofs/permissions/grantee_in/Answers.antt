@@ -1,6 +1,6 @@
 use Rattle.std.proofs.Common.{sym, ap₂, ◌∙◌}
 use Rattle.json.specs.Value.{value_view}
-use Rattle.redaction.specs.Outcome.{◌&◌}
+use Rattle.redaction.specs.Readings.{◌&◌}
 use Rattle.redaction.proofs.FirstFaults.{grantee-fault}
 use Rattle.redaction.proofs.permissions.grantee_in.Goals as goal
 
@@ -8,4 +8,4 @@ pub returns-in-Err : goal.returns-in-Err
 returns-in-Err c =
     let one = c.both-one.ensures ∙ ap₂ (λ a b. a & b) c.given_number.ensures c.given_number-2.ensures in
     let many = c.both-many.ensures ∙ ap₂ (λ a b. a & b) c.given_number-3.ensures c.given_number-4.ensures in
-    grantee-fault (value_view c.args.value.now) c.in-Err.fault (sym (c.both.ensures ∙ ap₂ (λ a b. a & b) one many) ∙ c.in-Err.is)
+    grantee-fault (value_view c.args.value.now) c.in-Err.refusal (sym (c.both.ensures ∙ ap₂ (λ a b. a & b) one many) ∙ c.in-Err.is)

@@ -1,6 +1,6 @@
 use Rattle.std.proofs.Common.{sym, ap₂, ◌∙◌}
 use Rattle.json.specs.Value.{value_view}
-use Rattle.redaction.specs.Outcome.{◌&◌}
+use Rattle.redaction.specs.Readings.{◌&◌}
 use Rattle.redaction.proofs.FirstFaults.{reader-fault}
 use Rattle.redaction.proofs.reader.reader_of.Goals as goal
 
@@ -10,4 +10,4 @@ returns-in-Err c =
     let numbers = c.both-numbers.ensures ∙ ap₂ (λ a b. a & b) c.wanted_number.ensures c.wanted_number-2.ensures in
     let others = c.both-others.ensures ∙ ap₂ (λ a b. a & b) c.given_handling.ensures c.in_ok-lists.ensures in
     let front = c.both.ensures ∙ ap₂ (λ a b. a & b) flags numbers in
-    reader-fault (value_view c.args.value.now) c.in-Err.fault (sym (c.both-2.ensures ∙ ap₂ (λ a b. a & b) front others) ∙ c.in-Err.is)
+    reader-fault (value_view c.args.value.now) c.in-Err.refusal (sym (c.both-2.ensures ∙ ap₂ (λ a b. a & b) front others) ∙ c.in-Err.is)

@@ -1,10 +1,11 @@
 use Rattle.std.proofs.Common.{sym, ap₂, ◌∙◌}
 use Rattle.json.specs.Value.{value_view}
-use Rattle.redaction.specs.Outcome.{◌&◌}
+use Rattle.redaction.specs.Readings.{◌&◌}
 use Rattle.redaction.proofs.FirstFaults.{short-fault}
 use Rattle.redaction.proofs.short.short_in.Goals as goal
 
 pub returns-in-Err : goal.returns-in-Err
 returns-in-Err c =
     let names = c.both.ensures ∙ ap₂ (λ a b. a & b) c.only-names.ensures c.wanted_handling-clearance.ensures in
-    short-fault (value_view c.args.value.now) c.in-Err.fault (sym (c.both-2.ensures ∙ ap₂ (λ a b. a & b) names c.number_or_zero.ensures) ∙ c.in-Err.is)
+    let others = c.both-others.ensures ∙ ap₂ (λ a b. a & b) c.number_or_zero.ensures c.in_ok-now.ensures in
+    short-fault (value_view c.args.value.now) c.in-Err.refusal c.args.is_dated (sym (c.both-2.ensures ∙ ap₂ (λ a b. a & b) names others) ∙ c.in-Err.is)

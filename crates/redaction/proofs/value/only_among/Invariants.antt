@@ -1,10 +1,10 @@
-use Rattle.std.proofs.Common.{◌≡◌, drop, map}
-use Rattle.json.specs.Strict.{keys}
+use Rattle.std.proofs.Common.{◌≡◌, drop}
 use Rattle.json.specs.Value.{members_view}
-use Rattle.redaction.specs.Values.{only_among}
+use Rattle.redaction.specs.Values.{only_from}
 use Rattle.redaction.proofs.value.only_among.Given as goal
 
 abbrev pub invariant-loop-name : goal.invariant-loop-name
-invariant-loop-name l =
-    only_among (map (λ n. n.now) l.names) (keys (members_view (drop l.name-index l.name-items)))
-    ≡ only_among (map (λ n. n.now) l.names) (keys (members_view l.members.items))
+invariant-loop-name l = record {
+  counted : l.place ≡ l.name-index;
+  left : only_from l.known l.name-index (members_view (drop l.name-index l.name-items)) ≡ only_from l.known 0 (members_view l.members.items);
+}

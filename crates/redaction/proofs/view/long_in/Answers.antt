@@ -1,12 +1,14 @@
-use Rattle.std.proofs.Common.{ap₂, ◌∙◌}
+use Rattle.std.proofs.Common.{ap, ap₂, ◌∙◌}
 use Rattle.json.specs.Value.{value_view}
-use Rattle.redaction.specs.Outcome.{◌&◌}
+use Rattle.redaction.specs.Readings.{◌&◌}
+use Rattle.redaction.specs.Described.{now_in}
 use Rattle.redaction.proofs.FirstFaults.{long-is}
 use Rattle.redaction.proofs.view.long_in.Goals as goal
 
 pub returns : goal.returns
 returns c =
-    let w = c.both-when.ensures ∙ ap₂ (λ a b. a & b) c.now_in.ensures c.number_or_zero.ensures in
+    let now = c.in_ok-now.ensures ∙ ap (λ b. now_in b (value_view c.args.value.now)) c.is_moment_wanted.ensures in
+    let w = c.both-when.ensures ∙ ap₂ (λ a b. a & b) now c.number_or_zero.ensures in
     let names = c.both.ensures ∙ ap₂ (λ a b. a & b) c.only-names.ensures w in
     let whom = c.both-2.ensures ∙ ap₂ (λ a b. a & b) c.in_ok-case.ensures c.in_ok-reader.ensures in
-    c.view_read.ensures ∙ long-is (value_view c.args.value.now) c.both-3.result (c.both-3.ensures ∙ ap₂ (λ a b. a & b) names whom)
+    c.view_read.ensures ∙ long-is c.args.is_dated (value_view c.args.value.now) c.both-3.result (c.both-3.ensures ∙ ap₂ (λ a b. a & b) names whom)

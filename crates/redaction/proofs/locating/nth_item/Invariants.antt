@@ -1,0 +1,8 @@
+use Rattle.std.proofs.Common.{◌≡◌, drop}
+use Rattle.json.specs.Value.{items_view}
+use Rattle.redaction.specs.Places.{nth_item}
+use Rattle.redaction.proofs.locating.nth_item.Given as goal
+
+abbrev pub invariant-loop-item : goal.invariant-loop-item
+invariant-loop-item l =
+    nth_item (items_view (drop l.item-index l.item-items)) l.left ≡ nth_item (items_view l.items.items) l.place

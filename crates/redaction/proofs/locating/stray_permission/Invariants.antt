@@ -1,0 +1,11 @@
+use Rattle.std.proofs.Common.{◌≡◌, drop, not}
+use Rattle.std.specs.List.{position_from}
+use Rattle.iodef_tree.specs.Paths.{located}
+use Rattle.redaction.specs.Asked.{permission_stands}
+use Rattle.redaction.proofs.locating.stray_permission.Given as goal
+
+abbrev pub invariant-loop-permission : goal.invariant-loop-permission
+invariant-loop-permission l = record {
+  counted : l.place ≡ l.permission-index;
+  left : position_from (λ x. not (permission_stands (located l.document) x)) l.permission-index (drop l.permission-index l.permissions) ≡ position_from (λ x. not (permission_stands (located l.document) x)) 0 l.permissions;
+}
