@@ -74,3 +74,10 @@ kept_others n c new es valid is view e k =
 
 pub light_others : (n : ℕ) (c new : LruCache ℕ Lines) → IsValid nat_eq c → new ≡ lru_cache (remove_entry (nat_eq n) c.entries) c.cap → AreLight c.entries → AreLight new.entries
 light_others n c new valid is light e k = light e (kept_others n c new c.entries valid is refl e k).0
+
+-- nothing is left when all documents are dropped
+pub none_among : (new old : List Entry) → new ≡ [] → AreAmong new old
+none_among new old is e k = absurd (Contains-nil e (subst (λ l. Contains l e) is k))
+
+pub none_light : (entries : List Entry) → entries ≡ [] → AreLight entries
+none_light entries is e k = absurd (Contains-nil e (subst (λ l. Contains l e) is k))

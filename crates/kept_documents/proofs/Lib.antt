@@ -3,3 +3,4 @@ mod Going
 mod Edits
 mod Told
 mod Trees
+mod Again

@@ -1,5 +1,5 @@
 -- What is kept of the documents that were read.
-use Rattle.std.specs.Prelude.{◌≡◌, ◌≤◌, ℕ, ◌+◌, Bool, false, ◌==◌, List, [], ◌∷◌, length, Some, Contains}
+use Rattle.std.specs.Prelude.{◌≡◌, ◌≤◌, ℕ, ◌+◌, ◌/◌, Bool, false, if◌then◌else◌, ◌==◌, List, [], ◌∷◌, length, Some, Contains}
 use Rattle.std.specs.List.{list_any, sum_by}
 use Rattle.iodef_tree.specs.declared.line.Line.{Line}
 use Rattle.hub_state.specs.Documents.{Lines}
@@ -16,13 +16,22 @@ Entry = ℕ × Lines
 abbrev pub AreDocuments : List Entry → State → Type 0
 AreDocuments entries s = (e : Entry) → Contains entries e → document_of e.0 s ≡ Some e.1
 
--- the weight of a line: 128, and the bytes of its name and of its text
-abbrev pub line_weight : Line → ℕ
-line_weight l = 128 + length l.name + length l.text
+-- the weight of a name or a text of so many bytes: a 32nd more than its bytes
+abbrev pub text_weight : ℕ → ℕ
+text_weight n = n + n / 32
 
--- the weight of a document: the sum over its lines
+-- the weight of a line without its name and its text, which is more if it is an element of an array
+abbrev pub own_weight : Bool → ℕ
+own_weight in_array = if in_array then 240 else 160
+
+-- the weight of a line
+abbrev pub line_weight : Line → ℕ
+line_weight l = own_weight l.in_array + text_weight (length l.name) + text_weight (length l.text)
+
+-- The weight of a document: 192, and the sum over its lines. No contract can say what memory a value takes; `weight.rt`
+-- says how the numbers follow from what its blocks take.
 abbrev pub document_weight : Lines → ℕ
-document_weight ls = sum_by line_weight ls
+document_weight ls = 192 + sum_by line_weight ls
 
 -- the weight of the documents of all entries together
 abbrev pub weight_in : List Entry → ℕ

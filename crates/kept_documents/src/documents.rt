@@ -1,12 +1,13 @@
 //! The kept documents.
-ghost use Rattle.std.specs.Prelude.{◌≡◌, nat_eq, false, ◌⊎◌, ◌≤◌, [], IfSome, IfOk, Contains};
+ghost use Rattle.std.specs.Prelude.{◌≡◌, nat_eq, false, ◌⊎◌, ◌≤◌, [], Err, IfSome, IfOk, IsTrue, Contains};
 ghost use Rattle.iodef_tree.specs.Paths.{located};
 ghost use Rattle.marking.specs.Marks.{first_bad_marking};
+ghost use Rattle.hub_state.specs.declared.shelf.ShelfFault.TheVariants.{NoMemory};
 ghost use Rattle.kept_documents.specs.Kept.{Entry, weight_in, AreLight, AreAmong, AreSpared, is_of};
 
 use crate::kept::Kept;
-use crate::{DOCUMENT_LIMIT, NOTED_LIMIT, PATIENCE};
-use hub_state::Edit;
+use crate::{DOCUMENT_LIMIT, NOTED_LIMIT, PATIENCE, REQUEST_ROOM};
+use hub_state::{Edit, ShelfFault};
 use iodef_tree::Document;
 use lru::LruCache;
 use std::alloc::{AllocError, Global};
@@ -36,6 +37,11 @@ impl<const MOST: usize> Model for Documents<MOST> {
 
     ghost invariant = { λ d.
         (weight_in d.kept.entries ≤ d.weight) × (d.weight ≤ MOST) × AreLight d.kept.entries };
+}
+
+/// Returns whether a request may take its memory beside all that is held. Touches none of that memory.
+fn has_room(alloc: Global) -> bool {
+    Vec::<u8>::with_capacity(alloc, REQUEST_ROOM).is_ok()
 }
 
 /// Drops the documents read longest ago until the rest weighs at most `most`. Returns the weight of the rest.
@@ -79,6 +85,11 @@ impl<const MOST: usize> Documents<MOST> {
         self.weight
     }
 
+    /// Returns whether no document is kept.
+    pub(crate) fn is_empty(&self) -> bool {
+        self.kept.is_empty()
+    }
+
     #[tactic(auto, using(crate::proofs::Going::found))]
     pub(crate) fn find(&self, incident: u32) -> Option<&Document>
         ensures kept { IfSome result (λ d. Contains self.now (incident, d.now)) }
@@ -108,13 +119,15 @@ impl<const MOST: usize> Documents<MOST> {
         // While an eighth of the room is free, each wanted document is kept. After that one document in 64 questions
         // may replace others: a list over more documents than fit would read each whole and drop it before its next
         // use.
-        self.weight <= MOST - MOST / 8 || self.waited >= PATIENCE
+        let may_be_kept = self.weight <= MOST - MOST / 8 || self.waited >= PATIENCE;
+        may_be_kept && has_room(self.alloc)
     }
 
-    /// Keeps a document if possible; drops those read longest ago to make room. A document above 1 MiB isn't kept.
-    pub(crate) fn keep(&mut self, incident: u32, document: Document)
+    /// Keeps a copy of a document if possible; drops those read longest ago to make room. A document above 1 MiB isn't
+    /// kept.
+    pub(crate) fn keep(&mut self, incident: u32, document: &Document)
         ensures { (e : Entry) → Contains self.new e →
-            Contains self.old e ⊎ (e ≡ (incident, document)) }
+            Contains self.old e ⊎ (e ≡ (incident, document.now)) }
     {
         self.waited = 0;
         let Some(kept) = Kept::within(self.alloc, document, MOST.min(DOCUMENT_LIMIT)) else {
@@ -125,6 +138,37 @@ impl<const MOST: usize> Documents<MOST> {
         match self.kept.put(incident, kept) {
             Ok(_) => self.weight += weight,
             Err(_) => {}
+        }
+    }
+
+    /// Drops all documents. Returns whether there was one.
+    pub(crate) fn clear(&mut self) -> bool
+        ensures { self.new ≡ [] }
+    {
+        let were_kept = !self.is_empty();
+        self.kept.clear();
+        self.weight = 0;
+        were_kept
+    }
+
+    /// Drops all documents if a read failed for want of memory. Returns whether there was one, so that the read is to be
+    /// made once more.
+    pub(crate) fn give_way<T>(&mut self, found: &Result<T, ShelfFault>) -> bool
+        ensures among { AreAmong self.new self.old }
+        ensures memory { IsTrue result → found.now ≡ Err NoMemory }
+    {
+        match found {
+            Err(ShelfFault::NoMemory) => self.clear(),
+            _ => false,
+        }
+    }
+
+    /// Drops all documents if a request couldn't take its memory beside them.
+    pub(crate) fn leave_room(&mut self)
+        ensures { AreAmong self.new self.old }
+    {
+        if !self.is_empty() && !has_room(self.alloc) {
+            self.clear();
         }
     }
 

@@ -4,7 +4,7 @@ ghost use Rattle.iodef_tree.specs.Paths.{located};
 ghost use Rattle.marking.specs.Marks.{first_bad_marking};
 ghost use Rattle.kept_documents.specs.Kept.{document_weight};
 
-use crate::weight::room_left;
+use crate::weight::{DOCUMENT_WEIGHT, room_left};
 use iodef_tree::Document;
 use marking::check;
 use std::alloc::Global;
@@ -34,18 +34,23 @@ impl Model for Kept {
 }
 
 impl Kept {
-    /// Weighs the document and checks its markings. None if it weighs more than `room`, if its markings aren't
-    /// accepted, or if the memory doesn't suffice to check them.
-    pub(crate) fn within(alloc: Global, document: Document, room: usize) -> Option<Kept>
-        ensures { IfSome result (λ k. (k ≡ document) × (document_weight k ≤ room)) }
+    /// Weighs a document, checks its markings, and copies it: a document that was read has vectors with room to grow,
+    /// which isn't weighed. None if it weighs more than `room`, if its markings aren't accepted, or if the memory
+    /// doesn't suffice.
+    pub(crate) fn within(alloc: Global, document: &Document, room: usize) -> Option<Kept>
+        ensures { IfSome result (λ k. (k ≡ document.now) × (document_weight k ≤ room)) }
     {
-        let left = room_left(document.root(), room)?;
-        match check(alloc, &document) {
+        let for_lines = room.checked_sub(DOCUMENT_WEIGHT)?;
+        let left = room_left(document.root(), for_lines)?;
+        match check(alloc, document) {
             Err(_) => None,
-            Ok(()) => Some(Kept {
-                document,
-                weight: room - left,
-            }),
+            Ok(()) => match document.copy(alloc) {
+                Err(_) => None,
+                Ok(document) => Some(Kept {
+                    document,
+                    weight: room - left,
+                }),
+            },
         }
     }
 

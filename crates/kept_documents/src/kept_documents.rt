@@ -1,9 +1,12 @@
 //! The shelf.
-ghost use Rattle.std.specs.Prelude.{◌≡◌, ◌≤◌, [], IfOk};
+ghost use Rattle.std.specs.Prelude.{◌≡◌, ◌≤◌, [], IfOk, option_map};
+ghost use Rattle.redact.specs.Excerpts.{told_by};
+ghost use Rattle.hub_state.specs.Reads.{served_of_incident, met_by_incident};
 ghost use Rattle.hub_state.specs.State.{State};
-ghost use Rattle.hub_state.specs.Shelves.{IsRead};
-ghost use Rattle.kept_documents.specs.Kept.{AreDocuments, AreLight, weight_in};
+ghost use Rattle.hub_state.specs.Shelves.{IsRead, Reads};
+ghost use Rattle.kept_documents.specs.Kept.{AreAmong, AreDocuments, AreLight, weight_in};
 
+use crate::copies::{copies_for_search, copies_of};
 use crate::documents::Documents;
 use circle::directory::Person;
 use hub_state::{Edit, Entry, Facts, JoinedGroup, Request, Shelf, ShelfFault};
@@ -15,6 +18,10 @@ use std::alloc::{AllocError, Global};
 /// A shelf that answers excerpts and searches from the documents that it keeps, and asks the shelf below for all else.
 /// The kept documents weigh at most `MOST` together. Only documents are kept: they are dear to read, and only two kinds
 /// of edit change one.
+///
+/// The kept documents go before a request is refused for want of memory. If a read fails with `NoMemory`, they are
+/// dropped, and it is made once more. An edit isn't made again, since a crash may leave what it began; a request begins
+/// with the memory for an ordinary one free, or with no document kept.
 #[derive(Drop)]
 pub struct KeptDocuments<Sh: Shelf, const MOST: usize> {
     alloc: Global,
@@ -72,13 +79,70 @@ impl<Sh: Shelf, const MOST: usize> KeptDocuments<Sh, MOST> {
         }
         match self.shelf.document(incident) {
             Ok(Some(document)) => {
-                self.documents.keep(incident, document);
+                self.documents.keep(incident, &document);
                 Ok(())
             }
             // keeping is optional: without memory for it the shelf below answers
             Ok(None) | Err(ShelfFault::NoMemory) => Ok(()),
             Err(ShelfFault::Failed) => Err(ShelfFault::Failed),
         }
+    }
+
+    /// Asks the shelf below for an excerpt.
+    fn excerpt_below(
+        &mut self,
+        incident: u32,
+        case: Case,
+        standing: Standing,
+    ) -> Result<Option<Excerpt>, ShelfFault>
+        ensures shelf { Reads Sh.has Sh.doubts Sh.failed Sh.may_remain
+            self.old.shelf self.new.shelf (λ s found.
+            option_map told_by found ≡ served_of_incident incident case standing s) result }
+        ensures documents { AreAmong self.new.documents self.old.documents }
+    {
+        if self.documents.is_empty() {
+            return self.shelf.excerpt(incident, case, standing);
+        }
+        let Ok((same_case, same_standing)) = copies_of(self.alloc, &case, &standing) else {
+            self.documents.clear();
+            return self.shelf.excerpt(incident, case, standing);
+        };
+        let found = self.shelf.excerpt(incident, case, standing);
+        if self.documents.give_way(&found) {
+            return self.shelf.excerpt(incident, same_case, same_standing);
+        }
+        found
+    }
+
+    /// Asks the shelf below whether an incident meets a want.
+    fn meets_below(
+        &mut self,
+        incident: u32,
+        case: Case,
+        standing: Standing,
+        want: Want,
+    ) -> Result<bool, ShelfFault>
+        ensures shelf { Reads Sh.has Sh.doubts Sh.failed Sh.may_remain
+            self.old.shelf self.new.shelf (λ s met. met ≡
+            met_by_incident incident case standing want s) result }
+        ensures documents { AreAmong self.new.documents self.old.documents }
+    {
+        if self.documents.is_empty() {
+            return self.shelf.meets(incident, case, standing, want);
+        }
+        let Ok((same_case, same_standing, same_want)) = copies_for_search(
+            self.alloc, &case, &standing, &want,
+        ) else {
+            self.documents.clear();
+            return self.shelf.meets(incident, case, standing, want);
+        };
+        let met = self.shelf.meets(incident, case, standing, want);
+        if self.documents.give_way(&met) {
+            return self
+                .shelf
+                .meets(incident, same_case, same_standing, same_want);
+        }
+        met
     }
 }
 
@@ -98,7 +162,13 @@ impl<Sh: Shelf, const MOST: usize> Shelf for KeptDocuments<Sh, MOST> {
     }
 
     fn person_by_key(&mut self, key: &[u8; 32]) -> Result<Option<Person>, ShelfFault> {
-        self.shelf.person_by_key(key)
+        // the first question of a request
+        self.documents.leave_room();
+        let found = self.shelf.person_by_key(key);
+        if self.documents.give_way(&found) {
+            return self.shelf.person_by_key(key);
+        }
+        found
     }
 
     fn standing(
@@ -107,16 +177,28 @@ impl<Sh: Shelf, const MOST: usize> Shelf for KeptDocuments<Sh, MOST> {
         incident: u32,
         now: i64,
     ) -> Result<Option<Standing>, ShelfFault> {
-        self.shelf.standing(person, incident, now)
+        let found = self.shelf.standing(person, incident, now);
+        if self.documents.give_way(&found) {
+            return self.shelf.standing(person, incident, now);
+        }
+        found
     }
 
     fn case(&mut self, incident: u32) -> Result<Option<Case>, ShelfFault> {
-        self.shelf.case(incident)
+        let found = self.shelf.case(incident);
+        if self.documents.give_way(&found) {
+            return self.shelf.case(incident);
+        }
+        found
     }
 
     fn document(&mut self, incident: u32) -> Result<Option<Document>, ShelfFault> {
         // the caller gets the document itself, so a kept one would have to be copied
-        self.shelf.document(incident)
+        let found = self.shelf.document(incident);
+        if self.documents.give_way(&found) {
+            return self.shelf.document(incident);
+        }
+        found
     }
 
     fn excerpt(
@@ -127,8 +209,14 @@ impl<Sh: Shelf, const MOST: usize> Shelf for KeptDocuments<Sh, MOST> {
     ) -> Result<Option<Excerpt>, ShelfFault> {
         self.prepare(incident)?;
         match self.documents.find(incident) {
-            None => self.shelf.excerpt(incident, case, standing),
-            Some(document) => Ok(excerpt(self.alloc, document, &case, &standing)?),
+            None => self.excerpt_below(incident, case, standing),
+            Some(document) => match excerpt(self.alloc, document, &case, &standing) {
+                Ok(found) => Ok(found),
+                Err(_) => {
+                    self.documents.clear();
+                    self.excerpt_below(incident, case, standing)
+                }
+            },
         }
     }
 
@@ -141,21 +229,39 @@ impl<Sh: Shelf, const MOST: usize> Shelf for KeptDocuments<Sh, MOST> {
     ) -> Result<bool, ShelfFault> {
         self.prepare(incident)?;
         match self.documents.find(incident) {
-            None => self.shelf.meets(incident, case, standing, want),
-            Some(document) => Ok(meets(self.alloc, document, &case, &standing, &want)?),
+            None => self.meets_below(incident, case, standing, want),
+            Some(document) => match meets(self.alloc, document, &case, &standing, &want) {
+                Ok(met) => Ok(met),
+                Err(_) => {
+                    self.documents.clear();
+                    self.meets_below(incident, case, standing, want)
+                }
+            },
         }
     }
 
     fn incidents_after(&mut self, number: u32, most: u32) -> Result<Vec<Entry>, ShelfFault> {
-        self.shelf.incidents_after(number, most)
+        let found = self.shelf.incidents_after(number, most);
+        if self.documents.give_way(&found) {
+            return self.shelf.incidents_after(number, most);
+        }
+        found
     }
 
     fn groups_of(&mut self, person: &Person) -> Result<Vec<JoinedGroup>, ShelfFault> {
-        self.shelf.groups_of(person)
+        let found = self.shelf.groups_of(person);
+        if self.documents.give_way(&found) {
+            return self.shelf.groups_of(person);
+        }
+        found
     }
 
     fn facts(&mut self, actor: &Person, request: &Request) -> Result<Facts, ShelfFault> {
-        self.shelf.facts(actor, request)
+        let found = self.shelf.facts(actor, request);
+        if self.documents.give_way(&found) {
+            return self.shelf.facts(actor, request);
+        }
+        found
     }
 
     fn apply(&mut self, edits: &[Edit]) -> Result<(), ShelfFault> {
