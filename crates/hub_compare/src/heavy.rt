@@ -1,8 +1,9 @@
 //! Reports of few lines and much text, asked of a shelf that keeps documents.
 //!
 //! Each has 7 lines. Their names have 8 (`Incident`), 7 (`Contact`), 14 (`GenerationTime`), 10 (`IncidentID`), 7
-//! (`purpose`), 11 (`restriction`) and 1 (`a`) bytes, and their texts 0, 1, 1, 2, 1, 6 and 259,035. With 128 for each
-//! line such a report weighs 896 + 58 + 259,046 = 260,000.
+//! (`purpose`), 11 (`restriction`) and 1 (`a`) bytes, and their texts 0, 1, 1, 2, 1, 6 and 250,705. The last weighs a
+//! 32nd more, 258,539. With 192 for the report, 240 for `Incident`, which is in an array, and 160 for each other line
+//! such a report weighs 192 + 1,200 + 58 + 11 + 258,539 = 260,000.
 //!
 //! Each is asked for twice, and so may be kept at its second question. While an eighth of the bound is left it is kept.
 //! The first 13 weigh 3,380,000 of 3,500,000, so that the 14th is kept too; all then weigh 3,640,000. From then on one
@@ -28,7 +29,7 @@ pub const REPORTS: u32 = 80;
 const FIRST_ID: u32 = 10;
 
 /// The number of bytes in the text of the long line.
-const LONG: u32 = 259_035;
+const LONG: u32 = 250_705;
 
 /// Returns a report whose IncidentID is this number.
 fn body(alloc: Global, ident: u32) -> Result<String, AllocError> {

@@ -74,7 +74,7 @@ fn weigh_heavy_reports(rt: &HostRuntime) -> io::Result<bool> {
     match heavy::weight_in_the_end(rt.alloc()) {
         Ok(weight) => {
             println!(rt;
-                "{} reports of 7 lines and 260 KB: the kept documents weigh {weight} of at most {}",
+                "{} reports of 7 lines and 251 KB: the kept documents weigh {weight} of at most {}",
                 heavy::REPORTS,
                 heavy::MOST_WEIGHT
             )?;
@@ -82,7 +82,7 @@ fn weigh_heavy_reports(rt: &HostRuntime) -> io::Result<bool> {
         }
         Err(fault) => {
             let name = name_of(&fault);
-            println!(rt; "of reports of 7 lines and 260 KB: {name}")?;
+            println!(rt; "of reports of 7 lines and 251 KB: {name}")?;
             Ok(false)
         }
     }

@@ -30,19 +30,20 @@ pub fn open_fault(fault: OpenFault) -> Fault
 /// Why the system doesn't open the file.
 fn system_fault(kind: ErrorKind) -> Fault {
     match kind {
-        ErrorKind::NotFound => Fault::NotOpened(Reason::NoSuchFile),
-        ErrorKind::PermissionDenied => Fault::NotOpened(Reason::NoPermission),
-        ErrorKind::StorageFull => Fault::NotOpened(Reason::DiskFull),
+        ErrorKind::NotFound => Fault::FileFailed(Reason::NoSuchFile),
+        ErrorKind::PermissionDenied => Fault::FileFailed(Reason::NoPermission),
+        ErrorKind::StorageFull => Fault::FileFailed(Reason::DiskFull),
         ErrorKind::OutOfMemory => Fault::NoMemory,
         _ => Fault::Failed,
     }
 }
 
-/// Why there is no connection over a file that is there.
+/// Why there is no connection over a file that is there, or why it isn't closed.
 fn connection_fault(error: Error) -> Fault {
     match error {
         Error::SqliteFailure(ErrorCode::OutOfMemory) => Fault::NoMemory,
-        Error::SqliteFailure(ErrorCode::DatabaseBusy) => Fault::NotOpened(Reason::Locked),
+        Error::SqliteFailure(ErrorCode::DiskFull) => Fault::FileFailed(Reason::DiskFull),
+        Error::SqliteFailure(ErrorCode::DatabaseBusy) => Fault::FileFailed(Reason::Locked),
         _ => Fault::Failed,
     }
 }
@@ -107,14 +108,15 @@ pub fn open_kept(
     match KeptDocuments::new(rt.alloc(), open_store(rt, path)?) {
         Ok(kept) => Ok(kept),
         Err((_, shelf)) => {
-            close(shelf);
+            // nothing was changed
+            let _ = close(shelf);
             Err(Fault::NoMemory)
         }
     }
 }
 
-/// Closes the store, which moves its log into its file. A fault is ignored: what was committed is in the log, where the
+/// Closes the store, which moves its log into its file. If that fails, what was committed is in the log alone, where the
 /// next open finds it.
-pub fn close(shelf: FileShelf) {
-    let _ = shelf.release().close();
+pub fn close(shelf: FileShelf) -> Result<(), Fault> {
+    shelf.release().close().map_err(connection_fault)
 }

@@ -5,7 +5,7 @@ use Rattle.iodef_tree.specs.Text.{Bytes}
 use Rattle.hub_state.specs.declared.shelf.ShelfFault.{ShelfFault}
 use Rattle.hub_state.specs.declared.shelf.ShelfFault.TheVariants as shelf
 use Rattle.hub_service.specs.declared.fault.Fault.{Fault}
-use Rattle.hub_service.specs.declared.fault.Fault.TheVariants.{BadArgument, NotOurs, WrongVersion, Failed, NotOpened, ListenFailed, ReadFailed, WriteFailed, NoMemory}
+use Rattle.hub_service.specs.declared.fault.Fault.TheVariants.{BadArgument, NotOurs, WrongVersion, Failed, FileFailed, ListenFailed, ReadFailed, WriteFailed, NoMemory}
 use Rattle.hub_service.specs.declared.fault.Reason.{Reason}
 use Rattle.hub_service.specs.declared.fault.Reason.TheVariants.{NoSuchFile, NoPermission, Locked, DiskFull}
 use Rattle.hub_service.specs.declared.status.Status.{Status}
@@ -17,15 +17,15 @@ fault_name BadArgument = codes "B1"
 fault_name NotOurs = codes "NotOurs"
 fault_name WrongVersion = codes "WrongVersion"
 fault_name Failed = codes "Failed"
-fault_name (NotOpened reason) = codes "Failed"
+fault_name (FileFailed reason) = codes "Failed"
 fault_name ListenFailed = codes "ListenFailed"
 fault_name ReadFailed = codes "ReadFailed"
 fault_name WriteFailed = codes "WriteFailed"
 fault_name NoMemory = codes "NoMemory"
 
--- why the store's file isn't opened, if the system says so
+-- why the store's file can't be opened or written, if the system says so
 abbrev pub reason_of : Fault → Option Reason
-reason_of (NotOpened reason) = Some reason
+reason_of (FileFailed reason) = Some reason
 reason_of _ = None
 
 -- a reason in words

@@ -1,5 +1,6 @@
 pub mod Lines
 pub mod Mark
+pub mod Hints
 pub mod Status
 pub mod Faults
 pub mod Keys

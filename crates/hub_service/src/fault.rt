@@ -7,7 +7,7 @@ use crate::status::Status;
 use hub_core::ShelfFault;
 use std::alloc::{AllocError, AllocFailed};
 
-/// Why a store's file isn't opened, if the system says so.
+/// Why a store's file can't be opened or written, if the system says so.
 #[derive(Clone, Copy, Debug, PartialEq, Eq)]
 pub enum Reason {
     NoSuchFile,
@@ -40,10 +40,10 @@ pub enum Fault {
     NotOurs,
     /// The store's tables are of a version that the command doesn't take.
     WrongVersion,
-    /// The store failed, or its file can't be opened.
+    /// The store failed, or its file can't be opened or written.
     Failed,
-    /// The store's file can't be opened, for this reason.
-    NotOpened(Reason),
+    /// The store's file can't be opened or written, for this reason.
+    FileFailed(Reason),
     /// The port can't be bound.
     ListenFailed,
     /// Standard input can't be read, a connection can't be accepted, or the clock can't be read.
@@ -61,7 +61,7 @@ impl Fault {
             Fault::BadArgument => "B1",
             Fault::NotOurs => "NotOurs",
             Fault::WrongVersion => "WrongVersion",
-            Fault::Failed | Fault::NotOpened(_) => "Failed",
+            Fault::Failed | Fault::FileFailed(_) => "Failed",
             Fault::ListenFailed => "ListenFailed",
             Fault::ReadFailed => "ReadFailed",
             Fault::WriteFailed => "WriteFailed",
@@ -69,12 +69,12 @@ impl Fault {
         }
     }
 
-    /// Returns why the store's file isn't opened, if the system says so.
+    /// Returns why the store's file can't be opened or written, if the system says so.
     pub fn reason(self) -> Option<Reason>
         ensures { result ≡ reason_of self }
     {
         match self {
-            Fault::NotOpened(reason) => Some(reason),
+            Fault::FileFailed(reason) => Some(reason),
             _ => None,
         }
     }

@@ -1,6 +1,6 @@
 //! What the program `iodef-hub` does over any shelf: standard input, keys, what it prints, connections and the clock.
 //!
-//! To read first, in `specs/`: `Mark` and `Lines`, what `mark` prints for a body; `Serving`, what serving connections
+//! To read first, in `specs/`: `Mark`, `Lines` and `Hints`, what `mark` prints for a body; `Serving`, what serving connections
 //! leaves; `FirstRows`, what a new store holds; `Keys`, the key of a line; `Replies`, `Faults` and `Status`, what is
 //! printed, and the exit status.
 //!
@@ -10,7 +10,7 @@
 //!   ([`line_key`], [`digest_of`]);
 //! - `output`, `fault`, `status`: what is printed ([`print`], [`tell`], [`end_with`]), also for a [`Fault`], that of a shelf
 //!   too ([`shelf_fault`]), and the program's outcome ([`Status`]);
-//! - `mark`: [`mark_text`], the labels of a report;
+//! - `mark`: [`mark_text`], the labels of a report, and the hint of a [`MarkFault`];
 //! - `first_rows`: [`put_first_rows`], the rows of a new store;
 //! - `asking`: [`reply_to`] and [`reply_to_input`], one request to the hub; `replies`: what is printed of a reply;
 //! - `listen`: [`serve_count`], connections one after the other; `peer`: a peer that is silent, slow, or still sending;

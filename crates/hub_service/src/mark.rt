@@ -1,15 +1,17 @@
 //! `mark`: the label of each class of a report.
 
-ghost use Rattle.std.specs.Prelude.{◌≡◌, ◌++◌, string_bytes, OnOk, None, codes};
+ghost use Rattle.std.specs.Prelude.{◌≡◌, ◌++◌, string_bytes, IfOk, OnOk, None, codes};
 ghost use Rattle.json.specs.Print.{quoted};
 ghost use Rattle.marking.specs.Label.{marking_of, text_of};
 ghost use Rattle.marking.specs.Marks.{first_bad_marking, marked_by};
 ghost use Rattle.hub_service.specs.Lines.{line_of};
 ghost use Rattle.hub_service.specs.Mark.{IsMarked, fault_name, text_of_class, text_of_document};
+ghost use Rattle.hub_service.specs.Hints.{fault_hint};
 ghost use Rattle.hub_service.specs.Mark as spec;
 ghost use Rattle.iodef_tree.specs.Paths.{located};
 ghost use Rattle.hub_service.specs.declared.mark.MarkFault.TheVariants.{NoMemory};
 
+use input_hints::{placed, read_hint};
 use iodef_tree::{Document, Path, ReadFault, push_quoted};
 use marking::{Label, Mark, MarkWriter, MarkingFault, SiteFault, check, site, write_marks};
 use std::alloc::{AllocError, Global};
@@ -38,7 +40,25 @@ impl MarkFault {
             MarkFault::NoMemory => "NoMemory",
         }
     }
+
+    /// Returns where in the body the fault is, and what helps.
+    pub fn hint(&self, alloc: Global, body: &[u8]) -> Result<String, AllocError>
+        ensures { IfOk result (λ s. string_bytes s ≡ fault_hint self.now body.now) }
+    {
+        match self {
+            MarkFault::Body(fault) => read_hint(alloc, fault, body),
+            MarkFault::BadMarking(path) => placed(alloc, path, BAD_MARKING),
+            MarkFault::NoClass => String::from_str(alloc, NO_CLASS),
+            MarkFault::NoMemory => String::from_str(alloc, "memory ran out"),
+        }
+    }
 }
+
+const BAD_MARKING: &str =
+    "its restriction is none of the ten texts, or its ext-restriction doesn't fit: TLP:AMBER is restriction ext-value with ext-restriction TLP:AMBER";
+
+const NO_CLASS: &str =
+    "the report has no Incident K, counted from 0, or its document, in which that is /Incident/0, has no class at POINTER";
 
 impl From<AllocError> for MarkFault {
     ghost from_gives = { λ _ fault. fault ≡ NoMemory };

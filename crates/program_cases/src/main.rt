@@ -21,13 +21,18 @@
 //! `stopped`. `post|KEY|TARGET|BODY` posts to the store, also several times, a line each; the answer is how many are
 //! done, or else the first reply to one that isn't.
 //!
-//! Files and clocks: `sql|STATEMENTS` runs over the file of the store, which is made if it isn't there. `file|BYTES`
-//! puts these bytes there. `modes|WORD` prints the mode of the file of this name, and of its log. `clock|CLOCK` prints
+//! `reached` starts `serve STORE PORT 0`, and tells at which addresses of loopback somebody listens on the port when it
+//! is printed. `lost` starts the same, and empties the log of the store then.
+//!
+//! Files and clocks: `sql|STATEMENTS` runs over the file of the store, which is made if it isn't there; `left|STATEMENTS`
+//! leaves what it changes in the log. `file|BYTES` puts these bytes there. `modes|WORD` prints the mode of the file of this name, and of its log. `clock|CLOCK` prints
 //! the present moment, and `ask|CLOCK|INPUT` the reply of the hub in memory to the caller in the input. `ask starved`
 //! has no memory for reading.
 #![tactic(auto)]
 
+mod addresses;
 mod calls;
+mod loss;
 mod memory;
 mod place;
 mod starts;
@@ -47,8 +52,11 @@ fn answer(rt: &HostRuntime, place: &Place, line: &str) -> io::Result<String> {
     match way {
         "serve" => starts::serve(rt, place, rest),
         "post" => starts::post(rt, place, rest),
+        "reached" => starts::reach(rt, place),
+        "lost" => starts::lose(rt, place),
         "held" => statements::hold(rt, place, rest),
         "sql" => statements::run(rt, place, rest),
+        "left" => statements::leave(rt, place, rest),
         "file" => place.put(rt, rest),
         "modes" => place.modes(rt, rest),
         "clock" => memory::moment(rt, rest),

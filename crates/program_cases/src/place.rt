@@ -29,6 +29,10 @@ impl Place {
         self.path.as_str()
     }
 
+    pub fn log(&self) -> &str {
+        self.log.as_str()
+    }
+
     /// Removes the files, if they are there.
     pub fn clear(&self, rt: &HostRuntime) {
         let _ = fs::remove_file(rt, self.path.as_str());

@@ -1,6 +1,8 @@
 //! Starts of the programs.
 
+use crate::addresses::Reaching;
 use crate::calls::{Calling, push_replies, reply_to};
+use crate::loss::Losing;
 use crate::place::Place;
 use crate::streams::{Ending, Input, Output};
 use crate::texts::{field_of, fields_of};
@@ -9,6 +11,7 @@ use crate::words::{args_of, no_args};
 use std::alloc::{AllocError, Global};
 use std::env::Args;
 use std::io;
+use std::io::Write;
 use std::net::{Ipv4Addr, TcpListener, TcpStream};
 use std::str::from_utf8;
 
@@ -28,12 +31,12 @@ fn program_of(field: &str) -> (Program, &str) {
 }
 
 /// Starts a program, as all cases do. Returns its exit status.
-fn begin(
+fn begin<W: Write>(
     rt: &HostRuntime,
     program: Program,
     words: io::Result<Args>,
     input: &mut Input<'_>,
-    output: &mut Calling<'_>,
+    output: &mut W,
     errors: &mut Output,
 ) -> u8 {
     match program {
@@ -53,16 +56,16 @@ fn held_port(rt: &HostRuntime) -> io::Result<(TcpListener, u16)> {
 fn told_of(
     alloc: Global,
     status: u8,
-    output: &Calling<'_>,
+    port: u16,
+    written: &[u8],
     errors: &Output,
 ) -> Result<String, AllocError> {
-    let port = output.port;
     let listening = format!(in alloc; "listening {port}\n")?;
-    let mut written: &[u8] = &output.written;
     if written == listening.as_bytes() {
-        written = b"listening PORT\n";
+        ended(alloc, status, b"listening PORT\n", &errors.written)
+    } else {
+        ended(alloc, status, written, &errors.written)
     }
-    ended(alloc, status, written, &errors.written)
 }
 
 /// Returns what follows the input, and whether standard output and standard error take anything.
@@ -100,7 +103,7 @@ fn start_at(
         args_of(alloc, place, port, words)
     };
     let status = begin(rt, program, args, &mut input, &mut output, &mut errors);
-    Ok(told_of(alloc, status, &output, &errors)?)
+    Ok(told_of(alloc, status, port, &output.written, &errors)?)
 }
 
 /// Starts a program in this way. Returns the outcome.
@@ -134,8 +137,54 @@ fn served(
     let mut output = Calling::new(rt, port, requests, true);
     let mut errors = Output::new(alloc, true);
     let status = begin(rt, Program::Hub, args, &mut input, &mut output, &mut errors);
-    let told = told_of(alloc, status, &output, &errors)?;
+    let told = told_of(alloc, status, port, &output.written, &errors)?;
     Ok((told, output.callers))
+}
+
+/// Runs a `serve` for no caller. Returns its exit status, and its standard error.
+fn served_none<W: Write>(
+    rt: &HostRuntime,
+    place: &Place,
+    port: u16,
+    output: &mut W,
+) -> io::Result<(u8, Output)> {
+    let alloc = rt.alloc();
+    let args = args_of(alloc, place, port, "serve STORE PORT 0");
+    let mut input = Input {
+        bytes: b"",
+        ending: Ending::Nothing,
+    };
+    let mut errors = Output::new(alloc, true);
+    let status = begin(rt, Program::Hub, args, &mut input, output, &mut errors);
+    Ok((status, errors))
+}
+
+/// Runs a `serve` for no caller. Returns the outcome, and at which addresses it was reached.
+pub fn reach(rt: &HostRuntime, place: &Place) -> io::Result<String> {
+    let (listener, port) = held_port(rt)?;
+    drop(listener);
+    let mut output = Reaching {
+        rt,
+        port,
+        told: String::new(rt.alloc()),
+    };
+    let (status, errors) = served_none(rt, place, port, &mut output)?;
+    let mut all = ended(rt.alloc(), status, b"", &errors.written)?;
+    all.push_str(output.told.as_str())?;
+    Ok(all)
+}
+
+/// Runs a `serve` for no caller, whose log is emptied meanwhile. Returns the outcome.
+pub fn lose(rt: &HostRuntime, place: &Place) -> io::Result<String> {
+    let (listener, port) = held_port(rt)?;
+    drop(listener);
+    let mut output = Losing {
+        rt,
+        place,
+        written: Vec::new(rt.alloc()),
+    };
+    let (status, errors) = served_none(rt, place, port, &mut output)?;
+    Ok(told_of(rt.alloc(), status, port, &output.written, &errors)?)
 }
 
 /// Runs a `serve`. Returns the outcome, and the reply to each caller.

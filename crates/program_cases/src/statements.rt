@@ -33,6 +33,21 @@ pub fn run(rt: &HostRuntime, place: &Place, field: &str) -> io::Result<String> {
     Ok(String::from_str(rt.alloc(), told)?)
 }
 
+/// Runs the statements of a field over the file, and leaves what they change in the log. Returns the outcome.
+pub fn leave(rt: &HostRuntime, place: &Place, field: &str) -> io::Result<String> {
+    let statements = field_of(rt, field)?;
+    let Some(mut conn) = connect(rt, place) else {
+        return Ok(String::from_str(rt.alloc(), "not opened\n")?);
+    };
+    let told = if are_run(&mut conn, &statements) {
+        "done\n"
+    } else {
+        "refused\n"
+    };
+    drop(conn);
+    Ok(String::from_str(rt.alloc(), told)?)
+}
+
 /// Returns the outcome of a start while another program has the store open.
 pub fn hold(rt: &HostRuntime, place: &Place, rest: &str) -> io::Result<String> {
     let Some(held) = connect(rt, place) else {

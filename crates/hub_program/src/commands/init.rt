@@ -29,7 +29,7 @@ fn make_over<S: Alter + Drop>(
 }
 
 /// Makes the store in a file without tables. Fails with `BadArgument` if the name or the digest is invalid, and with
-/// `Failed` if there are tables already.
+/// `Failed` if there are tables already, or if the rows are in the log alone.
 pub fn run<W: Write>(
     rt: &HostRuntime,
     store: &str,
@@ -44,7 +44,7 @@ pub fn run<W: Write>(
         return Err(Fault::BadArgument);
     };
     match make_over(rt.alloc(), connect_or_make(rt, store)?, name, key) {
-        Ok(shelf) => close(shelf),
+        Ok(shelf) => close(shelf)?,
         Err(fault) => return Err(shelf_fault(fault)),
     }
     print(writer, "created\n")

@@ -18,7 +18,14 @@ pub fn run<R: Read, W: Write, E: Write>(
 ) -> Status {
     let selection = match select(alloc, place, pointer) {
         Ok(selection) => selection,
-        Err(PathFault::BadPath) => return tell(errors, PathFault::BadPath.name(), Status::Refused),
+        Err(PathFault::BadPath) => {
+            return tell_with(
+                errors,
+                PathFault::BadPath.name(),
+                BAD_POINTER,
+                Status::Refused,
+            );
+        }
         Err(PathFault::NoMemory) => return end_with(errors, Err(Fault::NoMemory)),
     };
     let body = match read_input(alloc, reader) {
@@ -27,8 +34,27 @@ pub fn run<R: Read, W: Write, E: Write>(
     };
     match mark_text(alloc, &body, &selection) {
         Ok(text) => end_with(errors, print(writer, text.as_str())),
-        Err(fault) => tell(errors, fault.name(), status_of(&fault)),
+        Err(fault) => tell_fault(alloc, &fault, &body, errors),
     }
+}
+
+/// What helps who gives a word that is no pointer.
+const BAD_POINTER: &str =
+    "POINTER isn't a JSON pointer, which begins with a slash and has 0 or 1 after each ~; mark reads a report from standard input, as in 'mark < FILE'";
+
+/// Prints the fault's name and, unless memory ran out, on a second line where the fault is and what helps.
+fn tell_fault<E: Write>(alloc: Global, fault: &MarkFault, body: &[u8], errors: &mut E) -> Status {
+    match fault.hint(alloc, body) {
+        Ok(hint) if status_of(fault) == Status::Refused => {
+            tell_with(errors, fault.name(), hint.as_str(), Status::Refused)
+        }
+        _ => end_with(errors, Err(Fault::NoMemory)),
+    }
+}
+
+fn tell_with<E: Write>(errors: &mut E, name: &str, hint: &str, status: Status) -> Status {
+    let status = tell(errors, name, status);
+    tell(errors, hint, status)
 }
 
 fn select(alloc: Global, place: u32, pointer: Option<&str>) -> Result<Selection, PathFault> {

@@ -18,9 +18,9 @@ fn migrate_over<S: Alter + Drop>(alloc: Global, conn: Connection<S>) -> Result<S
     }
 }
 
-/// Brings the store to the newest version.
+/// Brings the store to the newest version. Fails with `Failed` also if that is in the log alone.
 pub fn run<W: Write>(rt: &HostRuntime, store: &str, writer: &mut W) -> Result<Status, Fault> {
-    close(migrate_over(rt.alloc(), connect(rt, store)?)?);
+    close(migrate_over(rt.alloc(), connect(rt, store)?)?)?;
     let line = format!(in rt.alloc(); "version {NEWEST}\n")?;
     print(writer, line.as_str())
 }

@@ -24,7 +24,7 @@ fn serve_hub<Sh: Shelf, W: Write, E: Write>(
     Ok(serve_count(rt.alloc(), &listener, count, hub, rt, errors))
 }
 
-/// Serves `count` connections on 127.0.0.1.
+/// Serves `count` connections on 127.0.0.1. Fails with `Failed` if changes are in the log alone at its end.
 pub fn run<W: Write, E: Write>(
     rt: &HostRuntime,
     store: &str,
@@ -35,6 +35,8 @@ pub fn run<W: Write, E: Write>(
 ) -> Result<Status, Fault> {
     let mut hub = Hub::new(open_kept(rt, store)?);
     let outcome = serve_hub(rt, &mut hub, port, count, writer, errors);
-    close(hub.into_shelf().into_shelf());
-    outcome
+    let closed = close(hub.into_shelf().into_shelf());
+    let status = outcome?;
+    closed?;
+    Ok(status)
 }
