@@ -9,7 +9,7 @@
  *   - On a fault, *needed is 0 and out is unchanged.
  *
  * A length is in bytes, and NULL may be passed with length 0. NULL with another length, or for needed, is the fault
- * IODEF_REDACT_NULL_POINTER.
+ * IODEF_REDACT_NULL_POINTER. No size is limited: a call's memory and time grow with the report's length.
  *
  * What the caller must ensure, and nothing checks:
  *
@@ -44,7 +44,7 @@ extern "C" {
     FAULT(OUT_OF_RANGE, 8, "OutOfRange", "a value of the view is out of range") \
     FAULT(BAD_POINTER, 9, "BadPointer", "a path is no JSON pointer") \
     FAULT(BAD_MOMENT, 10, "BadMoment", "a moment of the view is no whole second with an offset") \
-    FAULT(SOURCE_UNSAID, 11, "SourceUnsaid", "the reader's organisation is the source, and `source` isn't true") \
+    FAULT(SOURCE_UNSAID, 11, "SourceUnsaid", "`source` isn't true exactly if the reader's organisation is the source") \
     FAULT(NOT_UTF8, 12, "NotUtf8", "a word isn't UTF-8") \
     FAULT(NOT_JSON, 13, "NotJson", "the report is no JSON text in UTF-8") \
     FAULT(NOT_DOCUMENT, 14, "NotDocument", "the report is no IODEF document") \
@@ -56,7 +56,9 @@ extern "C" {
     FAULT(BAD_MARKING, 20, "BadMarking", "a class breaks the marking rule") \
     FAULT(NO_INCIDENT, 21, "NoIncident", "there is no Incident at that place") \
     FAULT(NO_CLASS, 22, "NoClass", "there is no class at a path") \
-    FAULT(NOTHING_VISIBLE, 23, "NothingVisible", "no class is visible")
+    FAULT(NOTHING_VISIBLE, 23, "NothingVisible", "no class is visible") \
+    FAULT(NOT_READABLE, 24, "NotReadable", "the excerpt has too many lines for a report, or is too deep") \
+    FAULT(ID_MISSING, 25, "IdMissing", "the IncidentID is withheld, and none is given")
 
 enum {
     IODEF_REDACT_DONE = 0,
@@ -98,6 +100,13 @@ uint32_t iodef_redact_excerpt_into(const uint8_t *report, size_t report_length, 
                                    uint8_t *out, size_t out_length, size_t *needed);
 uint32_t iodef_redact_document_into(const uint8_t *report, size_t report_length, const uint8_t *view, size_t view_length,
                                     uint8_t *out, size_t out_length, size_t *needed);
+uint32_t iodef_redact_whole_into(const uint8_t *report, size_t report_length, const uint8_t *view, size_t view_length,
+                                 uint8_t *out, size_t out_length, size_t *needed);
+uint32_t iodef_redact_whole_with_id_into(const uint8_t *report, size_t report_length, const uint8_t *view, size_t view_length,
+                                         const uint8_t *name, size_t name_length, const uint8_t *id, size_t id_length,
+                                         uint8_t *out, size_t out_length, size_t *needed);
+uint32_t iodef_redact_first_fault_into(const uint8_t *report, size_t report_length, const uint8_t *view, size_t view_length,
+                                       uint32_t dated, uint8_t *out, size_t out_length, size_t *needed);
 uint32_t iodef_redact_finds_into(const uint8_t *report, size_t report_length, const uint8_t *view, size_t view_length,
                                  const uint8_t *text, size_t text_length, uint8_t *out, size_t out_length, size_t *needed);
 uint32_t iodef_redact_finds_in_class_into(const uint8_t *report, size_t report_length, const uint8_t *view, size_t view_length,
@@ -136,8 +145,9 @@ static inline int iodef_redact_takes_(const void *out, size_t out_length, size_t
 }
 
 /* What the reader may see of the report, and what is withheld, as a JSON object: {"classes":N,"document":{..},
- * "withheld":[[POINTER,RULE],..]}. `classes` is how many classes the reader may see, `document` the report without the others,
- * and `withheld` says at which of its places something is withheld, and by which rule. */
+ * "label":"TLP:GREEN","readable":true,"withheld":[[POINTER,RULE],..]}. `classes` is how many classes the reader may see,
+ * `document` the report without the others, `label` the highest label of these classes, `readable` whether the document is a
+ * report again, and `withheld` says at which of its places something is withheld, and by which rule. */
 static inline uint32_t iodef_redact_excerpt(const void *report, size_t report_length, const void *view, size_t view_length,
                                             void *out, size_t out_length, size_t *needed) {
     iodef_redact_bytes_ r = iodef_redact_bytes_of_(report, report_length), v = iodef_redact_bytes_of_(view, view_length);
@@ -145,12 +155,34 @@ static inline uint32_t iodef_redact_excerpt(const void *report, size_t report_le
     return iodef_redact_excerpt_into(r.start, r.length, v.start, v.length, iodef_redact_start_of_(out), out_length, needed);
 }
 
-/* The member `document` of that answer, alone: a report again. */
+/* The member `document` of that answer, alone. */
 static inline uint32_t iodef_redact_document(const void *report, size_t report_length, const void *view, size_t view_length,
                                              void *out, size_t out_length, size_t *needed) {
     iodef_redact_bytes_ r = iodef_redact_bytes_of_(report, report_length), v = iodef_redact_bytes_of_(view, view_length);
     if (!iodef_redact_takes_(out, out_length, needed) || !r.is_good || !v.is_good) return IODEF_REDACT_NULL_POINTER;
     return iodef_redact_document_into(r.start, r.length, v.start, v.length, iodef_redact_start_of_(out), out_length, needed);
+}
+
+/* The same, made a report again: placeholders replace the members that a report must have and that are withheld. The view must
+ * have `now`. A withheld IncidentID is the fault IODEF_REDACT_ID_MISSING. */
+static inline uint32_t iodef_redact_whole(const void *report, size_t report_length, const void *view, size_t view_length,
+                                          void *out, size_t out_length, size_t *needed) {
+    iodef_redact_bytes_ r = iodef_redact_bytes_of_(report, report_length), v = iodef_redact_bytes_of_(view, view_length);
+    if (!iodef_redact_takes_(out, out_length, needed) || !r.is_good || !v.is_good) return IODEF_REDACT_NULL_POINTER;
+    return iodef_redact_whole_into(r.start, r.length, v.start, v.length, iodef_redact_start_of_(out), out_length, needed);
+}
+
+/* The same with an IncidentID for the case that the report's is withheld: its name, such as the caller's domain name, and its
+ * id, as texts in UTF-8. */
+static inline uint32_t iodef_redact_whole_with_id(const void *report, size_t report_length, const void *view, size_t view_length,
+                                                  const void *name, size_t name_length, const void *id, size_t id_length,
+                                                  void *out, size_t out_length, size_t *needed) {
+    iodef_redact_bytes_ r = iodef_redact_bytes_of_(report, report_length), v = iodef_redact_bytes_of_(view, view_length);
+    iodef_redact_bytes_ n = iodef_redact_bytes_of_(name, name_length), i = iodef_redact_bytes_of_(id, id_length);
+    if (!iodef_redact_takes_(out, out_length, needed) || !r.is_good || !v.is_good || !n.is_good || !i.is_good)
+        return IODEF_REDACT_NULL_POINTER;
+    return iodef_redact_whole_with_id_into(r.start, r.length, v.start, v.length, n.start, n.length, i.start, i.length,
+                                           iodef_redact_start_of_(out), out_length, needed);
 }
 
 /* `true` or `false`: whether a class that the reader may see directly holds a text that contains this one. */
@@ -163,7 +195,8 @@ static inline uint32_t iodef_redact_finds(const void *report, size_t report_leng
                                    needed);
 }
 
-/* The same for the classes of one name, such as "Address". */
+/* The same for the classes of one name, such as "Address". A class may have an empty name: with NULL or length 0, classes with
+ * that name alone are searched. */
 static inline uint32_t iodef_redact_finds_in_class(const void *report, size_t report_length, const void *view, size_t view_length,
                                                    const void *text, size_t text_length, const void *name, size_t name_length,
                                                    void *out, size_t out_length, size_t *needed) {
@@ -193,6 +226,21 @@ static inline uint32_t iodef_redact_marks(const void *report, size_t report_leng
     iodef_redact_bytes_ r = iodef_redact_bytes_of_(report, report_length);
     if (!iodef_redact_takes_(out, out_length, needed) || !r.is_good) return IODEF_REDACT_NULL_POINTER;
     return iodef_redact_marks_into(r.start, r.length, incident, iodef_redact_start_of_(out), out_length, needed);
+}
+
+/* The first fault of a view and a report, and its place: the fault's number, a space and a JSON pointer (RFC 6901), such as
+ * `6 /case/gates/0/level`. The answer is empty if they have no fault. The pointer leads into the view up to
+ * IODEF_REDACT_SOURCE_UNSAID, and for IODEF_REDACT_NO_INCIDENT and IODEF_REDACT_NO_CLASS; else into the report. It is empty if the
+ * whole text is at fault. `dated` isn't 0 if the view must have `now`, as for iodef_redact_whole.
+ *
+ * After a fault of another call, compare its number: a fault of another word, such as the pointer of iodef_redact_explain, has no
+ * place. */
+static inline uint32_t iodef_redact_first_fault(const void *report, size_t report_length, const void *view, size_t view_length,
+                                                uint32_t dated, void *out, size_t out_length, size_t *needed) {
+    iodef_redact_bytes_ r = iodef_redact_bytes_of_(report, report_length), v = iodef_redact_bytes_of_(view, view_length);
+    if (!iodef_redact_takes_(out, out_length, needed) || !r.is_good || !v.is_good) return IODEF_REDACT_NULL_POINTER;
+    return iodef_redact_first_fault_into(r.start, r.length, v.start, v.length, dated, iodef_redact_start_of_(out), out_length,
+                                         needed);
 }
 
 #ifdef __cplusplus

@@ -1,6 +1,6 @@
 """Builds the wheel that `pip install clients/python` installs; pyproject.toml names this module as the build backend (PEP 517).
 
-It needs neither setuptools nor a network. Each client is one file, and only a package can say that it has types (PEP 561). So the
+It needs neither setuptools nor a network. A library is one file, and only a package can say that it has types (PEP 561). So the
 wheel has iodef_hub.py and iodef_redact.py as packages of these names, each with the marker py.typed beside it.
 """
 from __future__ import annotations
@@ -40,6 +40,8 @@ def contents(table: dict[str, Any], stem: str) -> dict[str, bytes]:
         "iodef_redact/py.typed": b"",
         "iodef_hub_misp.py": (HERE / "iodef_hub_misp.py").read_bytes(),
     }
+    for module in sorted((HERE / "iodef_hub_ask").glob("*.py")):
+        made[f"iodef_hub_ask/{module.name}"] = module.read_bytes()
     for page in sorted(HERE.glob("*.1")):
         made[f"{stem}.data/data/share/man/man1/{page.name}"] = page.read_bytes()
     for name, lines in (("METADATA", about), ("WHEEL", wheel), ("entry_points.txt", commands)):

@@ -1,5 +1,5 @@
 #!/usr/bin/env python3
-"""A client of iodef-hub: the library (class Hub), and the command iodef-hub-ask. Needs Python 3.11 only.
+"""A client of iodef-hub, for programs: the classes Hub and Hubs. The command iodef-hub-ask is made of it. Needs Python 3.11 only.
 
     import iodef_hub
     hub = iodef_hub.Hub("https://hub.example.org", key)
@@ -12,34 +12,24 @@ can't be known, MayBeTaken says what the answer to the same request means.
 """
 from __future__ import annotations
 
-import argparse
 import codecs
-import datetime
 import hashlib
 import http.client
 import ipaddress
 import json
-import os
-import pathlib
 import secrets
-import shutil
 import ssl
-import subprocess
-import sys
-import tempfile
 import time
 import urllib.parse
 from collections.abc import Callable, Iterator, Mapping, Sequence
-from dataclasses import asdict, dataclass, replace
+from dataclasses import dataclass
 from typing import Any, NamedTuple, TypeVar
 
 __version__ = "1.0.0"
 
 LAST_NUMBER = 2**32 - 1
-LAST_MOMENT = datetime.datetime(9999, 12, 30, 22, tzinfo=datetime.timezone.utc)
 PAGE = 100  # incidents in one answer
 LONGEST_REPLY = 64 * 1024 * 1024
-COMMAND_SECONDS = 60  # of a command that a watch runs
 GRANTEES = ("person", "org", "community", "group")
 RECIPIENTS = ("person", "org")
 ROLES = ("administrator", "coordinator", "poster", "reader")
@@ -312,6 +302,38 @@ def report_bytes(report: Report) -> bytes:
     raise TypeError(f"a report must be a dict, or its JSON as bytes or str, not {type(report).__name__}; {OF_A_FILE}")
 
 
+class Doubled(NamedTuple):
+    """A label that an object of a report has twice. `held` is the last of its values, by which the hub handles the class."""
+
+    path: str
+    member: str
+    held: object
+
+
+class _Pairs(dict[str, Any]):
+    """The object of these members, as JSON reads it, and those labels of which it has more than one."""
+
+    def __init__(self, pairs: list[tuple[str, Any]]) -> None:
+        super().__init__(pairs)
+        names = [name for name, _ in pairs]
+        self.doubled = [name for name in LABEL_MEMBERS if names.count(name) > 1]
+
+
+def doubled_labels(report: Report) -> list[Doubled]:
+    """Returns the labels that an object of a report has twice, in the report's order; of what isn't JSON, none.
+
+    Python and the hub read the last one without a word, which may be wider than the first.
+    """
+    if isinstance(report, dict):
+        return []
+    try:
+        value = json.loads(report, object_pairs_hook=_Pairs)
+    except (ValueError, RecursionError):
+        return []
+    found = classes(value) if isinstance(value, dict) else ()
+    return [Doubled(path, name, each[name]) for path, _, each in found for name in getattr(each, "doubled", ())]
+
+
 def _is_this_host(name: str) -> bool:
     try:
         return ipaddress.ip_address(name).is_loopback
@@ -343,6 +365,9 @@ class Hub:
         # Over plain HTTP the name of this host is not looked up: a key must not leave it by a strange table of names.
         self._host = "127.0.0.1" if parts.scheme == "http" and parts.hostname == "localhost" else parts.hostname
         self._port, self._path = parts.port, parts.path.rstrip("/")
+        port = parts.port or (443 if parts.scheme == "https" else 80)
+        self.url = f"{parts.scheme}://{self._host}:{port}{self._path}"
+        """The hub's address with its port, written in one way."""
         self._key, self._timeout, self._tries, self._pause = key, timeout, max(tries, 1), pause
         self._tls = ssl.create_default_context(cafile=ca) if parts.scheme == "https" else None
         self.heard = b""
@@ -492,11 +517,11 @@ class Hub:
     # Reports, by a poster or a coordinator
 
     def post(
-        self, report: Report, level: int, group: int | None = None, gates: Sequence[Gate] = (), community: int | None = None
+        self, report: Report, level: int, group: int | None = None, gates: Sequence[Gate] = (), *, community: int | None
     ) -> tuple[int, ...]:
-        """Posts a report and returns the numbers of its Incidents. What is marked green in it is for the members of
-        this community of the source, or of any of them if it is None. Raises TypeError and ValueError as `report_bytes` does, before
-        anything is sent."""
+        """Posts a report and returns the numbers of its Incidents. What is marked green in it is for the members of `community`, or
+        of any community of the source if it is None. It must be given, as leaving it out would widen the report. Raises TypeError
+        and ValueError as `report_bytes` does, before anything is sent."""
         value = self._ask("POST", "/incidents", _spread(level, group, gates, community), report_bytes(report), AGAIN_POST)
         return tuple(self._told(_numbers, value, AGAIN_POST))
 
@@ -707,6 +732,45 @@ def classes(document: Mapping[str, Any]) -> Iterator[tuple[str, str, dict[str, A
         waiting += reversed(inner)
 
 
+LABEL_MEMBERS = ("restriction", "ext-restriction")
+ARRANGED = "as arranged, else TLP:RED"
+UNLABELLED = "TLP:RED"  # what a class has if no label is written in it or above
+# The texts of `restriction`, each with the label of TLP 2.0 by which the hub handles it.
+LABELS = {
+    "public": "TLP:CLEAR", "white": "TLP:CLEAR", "partner": "TLP:GREEN", "green": "TLP:GREEN", "need-to-know": "TLP:AMBER+STRICT",
+    "amber": "TLP:AMBER+STRICT", "private": "TLP:RED", "red": "TLP:RED", "default": ARRANGED,
+}
+TEXTS = {"TLP:CLEAR": "TLP:CLEAR", "TLP:WHITE": "TLP:CLEAR", "TLP:GREEN": "TLP:GREEN", "TLP:AMBER": "TLP:AMBER", "TLP:AMBER+STRICT": "TLP:AMBER+STRICT"}
+
+
+def label_of(each: Mapping[str, Any]) -> str | None:
+    """Returns the label that is written in a class, by its name in TLP 2.0, or None if none is."""
+    restriction, text = each.get("restriction"), each.get("ext-restriction")
+    if restriction == "ext-value" and isinstance(text, str):
+        return TEXTS.get(text.upper() if text.isascii() else "", UNLABELLED)
+    return LABELS.get(restriction) if isinstance(restriction, str) else None
+
+
+class Labelled(NamedTuple):
+    """A class of a document, and the label that holds for it: the one in it, else in the nearest class above that has one."""
+
+    path: str
+    name: str
+    members: dict[str, Any]
+    label: str
+
+
+def labelled_classes(document: Mapping[str, Any]) -> Iterator[Labelled]:
+    """Yields each class of a document with the label that holds for it, in stored order."""
+    above: list[tuple[str, str]] = []  # the classes around, the nearest last
+    for path, name, each in classes(document):
+        while above and not path.startswith(above[-1][0]):
+            above.pop()
+        label = label_of(each) or (above[-1][1] if above else UNLABELLED)
+        above.append((path + "/", label))
+        yield Labelled(path, name, each, label)
+
+
 # Class name, the member that holds the value, and the kind where the class doesn't tell it.
 HOLDERS = {
     "Address": ("value", "address"), "DomainData": ("Name", "domain-name"), "Hash": ("DigestValue", "file-hash"),
@@ -715,7 +779,7 @@ HOLDERS = {
 
 
 class Indicator(NamedTuple):
-    """A value in a document, and its role there.
+    """A value in a document, its role there, and the label that holds for it, by its name in TLP 2.0.
 
     `role` is `indicator` below a class Indicator; `source`, `target` or another category inside a System; and `-` if the document
     gives none. If both apply, it has both, as in `indicator:target`. A System that the report calls spoofed adds `:spoofed`, as in
@@ -726,6 +790,7 @@ class Indicator(NamedTuple):
     value: str
     path: str
     role: str
+    label: str
 
 
 def _found_in(name: str, each: dict[str, Any]) -> Iterator[tuple[str, str]]:
@@ -760,7 +825,7 @@ def indicators(document: Mapping[str, Any], every: bool = False) -> Iterator[Ind
     With `every` it yields those of all places, including the addresses of victims: look at `role` before you block one.
     """
     systems: list[tuple[str, str]] = []  # those around, the nearest last
-    for path, name, each in classes(document):
+    for path, name, each, label in labelled_classes(document):
         while systems and not path.startswith(systems[-1][0]):
             systems.pop()
         if name == "System":
@@ -770,764 +835,10 @@ def indicators(document: Mapping[str, Any], every: bool = False) -> Iterator[Ind
         role = part if not is_indicator else "indicator" if part == "-" else f"indicator:{part}"
         if every or is_indicator or part == "source":
             for kind, value in _found_in(name, each):
-                yield Indicator(kind, value, path, role)
-
-
-# The command
-
-
-class Usage(Exception):
-    """Words or a file that the command can't use."""
-
-
-def shown(text: str) -> str:
-    """A text for a terminal: what isn't printable is escaped."""
-    return "".join(each if each.isprintable() else f"\\u{ord(each):04x}" if ord(each) < 0x10000 else f"\\U{ord(each):08x}" for each in text)
-
-
-def shown_json(value: object) -> str:
-    """JSON for a terminal, in lines. What isn't printable is escaped as in JSON."""
-    lines = json.dumps(value, indent=2, ensure_ascii=False).split("\n")
-    return "\n".join("".join(each if each.isprintable() else json.dumps(each)[1:-1] for each in line) for line in lines)
-
-
-def key_of(environment: Mapping[str, str]) -> str:
-    """The key: the first line of the file that IODEF_HUB_KEY_FILE names, else what IODEF_HUB_KEY holds."""
-    if name := environment.get("IODEF_HUB_KEY_FILE"):
-        lines = pathlib.Path(name).read_text("ascii").splitlines()
-        return lines[0] if lines else ""
-    if key := environment.get("IODEF_HUB_KEY"):
-        return key
-    raise Usage("no key is given: set IODEF_HUB_KEY, or IODEF_HUB_KEY_FILE to the name of a file with the key")
-
-
-def read_file(name: str) -> bytes:
-    return sys.stdin.buffer.read() if name == "-" else pathlib.Path(name).read_bytes()
-
-
-def number(text: str) -> int:
-    if not (text.isascii() and text.isdigit()) or int(text) > LAST_NUMBER:
-        raise argparse.ArgumentTypeError("it must be a number from 0 to 4294967295")
-    return int(text)
-
-
-def place(text: str) -> Place:
-    """An incident's number, or HUB/NUMBER. The hub of a number alone is 0."""
-    hub, slash, rest = text.rpartition("/")
-    found = Place(number(hub) if slash else 0, number(rest))
-    if slash and not found.hub:
-        raise argparse.ArgumentTypeError("hubs are counted from 1, as in 1/17")
-    return found
-
-
-def gate(text: str) -> Gate:
-    parts = text.split(":", 2)
-    if len(parts) != 3:
-        raise argparse.ArgumentTypeError("a gate must be LEVEL:GROUP:POINTER")
-    return Gate(number(parts[0]), number(parts[1]), parts[2])
-
-
-def moment(text: str) -> str:
-    """A moment as the hub reads it. A date alone is the beginning of that day. Without an offset it is in this machine's time zone."""
-    try:
-        read = datetime.datetime.fromisoformat(text)
-        read = read if read.tzinfo else read.astimezone()
-        offset = read.utcoffset() or datetime.timedelta()
-    except (ValueError, OverflowError, OSError):
-        raise argparse.ArgumentTypeError(
-            f"{text!r} is not a moment; give 2026-12-31 (the beginning of that day) or 2026-12-31T18:00, both in this machine's time zone, or"
-            " with an offset 2026-12-31T18:00:00+01:00 or 2026-12-31T17:00:00Z"
-        ) from None
-    if read.microsecond or offset % datetime.timedelta(minutes=1):
-        raise argparse.ArgumentTypeError(f"{text!r} has a fraction of a second, or an offset with seconds")
-    if read > LAST_MOMENT:
-        raise argparse.ArgumentTypeError(
-            f"{text!r} is after the last moment that the hub accepts, 9999-12-30T22:00:00Z; leave out --until for a permission without an end")
-    return read.isoformat()
-
-
-class Unseen(Exception):
-    """A reader would get nothing of a report."""
-
-
-class Teller:
-    """Prints results: lines for people, or with --json the hub's own answers, one per line.
-
-    If several hubs are asked, `at` is the number of this one. Each line then begins with `before`, and an answer has a member `hub`.
-    """
-
-    def __init__(self, hub: Hub, is_json: bool, at: int = 0, before: str = "") -> None:
-        self.hub, self.is_json, self.at, self.before = hub, is_json, at, before
-        self.told: list[str] = []
-
-    def answer(self) -> bytes:
-        return b'{"hub":%d,' % self.at + self.hub.heard.lstrip()[1:] if self.at else self.hub.heard
-
-    def tell(self, *lines: str) -> None:
-        sys.stdout.flush()
-        self.told += lines
-        text = "".join(f"{self.before}{line}\n" for line in lines)
-        sys.stdout.buffer.write(self.answer() + b"\n" if self.is_json else text.encode(errors="backslashreplace"))
-        sys.stdout.buffer.flush()
-
-    def pages(self, page: Callable[[int], tuple[Entry, ...]]) -> None:
-        """Prints all pages, with --json one answer per line."""
-        after = 0
-        while True:
-            found = page(after)
-            self.tell(*map(entry_line, found))
-            if len(found) < PAGE or found[-1].number <= after:
-                return
-            after = found[-1].number
-
-
-def entry_line(entry: Entry) -> str:
-    return f"{entry.number}\tr{entry.revision}\torg {entry.source}"
-
-
-def revision_of(hub: Hub, given: argparse.Namespace) -> int:
-    return int(given.revision) if given.revision is not None else hub.view(given.number).revision
-
-
-def do_show(hub: Hub, given: argparse.Namespace, teller: Teller) -> None:
-    view = hub.view(given.number)
-    teller.tell(shown_json(view.document))
-    for each in () if given.json else view.withheld:
-        reason = RULES.get(each.rule, "withheld")
-        print(f"withheld at {shown(each.place) or 'the root'}: {reason} ({shown(each.rule)})", file=sys.stderr)
-
-
-def do_indicators(hub: Hub, given: argparse.Namespace, teller: Teller) -> None:
-    document = hub.view(given.number).document
-    every, found = list(indicators(document, True)), list(indicators(document, given.all))
-    teller.tell(*("\t".join(map(shown, each)) for each in found))
-    if len(found) < len(every) and not given.json:
-        rest = len(every) - len(found)
-        print(f"iodef-hub-ask: {rest} more are elsewhere, such as the addresses of victims; --all lists them with their role", file=sys.stderr)
-
-
-class Watched:
-    """The incidents that a watch has reported: the highest number, or with --all the revision of each. A file keeps them from one
-    run to the next. If the file is new and --from isn't given, nothing that the hub has already is news, so `is_first` is true for
-    one look."""
-
-    def __init__(self, file: str | None, start: int | None, is_all: bool) -> None:
-        self.file, self.is_all, self.last = file, is_all, start or 0
-        self.revisions: dict[int, int] = {}
-        self.is_first = file is not None and start is None
-        if file is not None and os.path.exists(file):
-            self.read(file)
-
-    def read(self, file: str) -> None:
-        bad = Usage(f"{file} was not written by a watch {'with' if self.is_all else 'without'} --all")
-        try:
-            value = json.loads(pathlib.Path(file).read_bytes())
-            self.last = _member(value, "last", int)
-            revisions = value.get("revisions")
-            if isinstance(revisions, dict) != self.is_all:
-                raise bad
-            self.revisions = {int(number): _member(revisions, number, int) for number in revisions or {}}
-        except (ValueError, RecursionError, NotHub):
-            raise bad from None
-        self.is_first = False
-
-    def is_news(self, entry: Entry) -> bool:
-        return self.revisions.get(entry.number) != entry.revision if self.is_all else entry.number > self.last
-
-    def note(self, entry: Entry) -> None:
-        self.last = max(self.last, entry.number)
-        if self.is_all:
-            self.revisions[entry.number] = entry.revision
-
-    def keep(self) -> None:
-        """Writes the file, whole or not at all."""
-        if self.file is None:
-            return
-        with open(f"{self.file}.new", "w") as new:
-            json.dump({"last": self.last, **({"revisions": self.revisions} if self.is_all else {})}, new)
-            new.flush()
-            os.fsync(new.fileno())
-        os.replace(new.name, self.file)
-
-
-def handed_over(command: str, entry: Entry, before: str = "") -> bool:
-    """Runs a command with the number and the source of an incident, and returns whether it succeeded. It gets nothing else: no
-    content, no key, an empty standard input."""
-    environment = {name: value for name, value in os.environ.items() if name not in ("IODEF_HUB_KEY", "IODEF_HUB_KEY_FILE")}
-    incident = f"{before}{entry.number}"
-    words = [command, incident, str(entry.source)]
-    try:
-        status = subprocess.run(words, stdin=subprocess.DEVNULL, stdout=sys.stderr, env=environment, timeout=COMMAND_SECONDS).returncode
-        if status == 0:
-            return True
-        why = f"ended with status {status}" if status > 0 else f"was killed by signal {-status}"
-    except subprocess.TimeoutExpired:
-        why = f"didn't end within {COMMAND_SECONDS} seconds"
-    except OSError as fault:
-        why = f"couldn't be run: {fault.strerror}"
-    told = f"{command} {why}; incident {incident} and those after it are tried again at the next look"
-    print(f"iodef-hub-ask: {shown(told)}", file=sys.stderr, flush=True)
-    return False
-
-
-def look(hub: Hub, given: argparse.Namespace, watched: Watched, at: int) -> None:
-    """Reports what is new. If the command fails, the look ends there, so that incidents are reported in order.
-    If there are several hubs, `at` is the number of this one, else 0."""
-    before, named = (f"{at}/", {"hub": at}) if at else ("", {})
-    for entry in hub.every_incident(0 if given.all else watched.last):
-        if not watched.is_news(entry):
-            continue
-        if not watched.is_first:
-            if given.exec is not None and not handed_over(given.exec, entry, before):
-                return
-            print(json.dumps({**named, **asdict(entry)}, separators=(",", ":")) if given.json else before + entry_line(entry), flush=True)
-        watched.note(entry)
-        if not watched.is_first:
-            watched.keep()
-    if watched.is_first:
-        watched.is_first = False
-        watched.keep()
-
-
-def watched_of(given: argparse.Namespace, count: int) -> list[Watched]:
-    """What was reported of each hub. The state of the first is in the file of --state, that of the second in FILE.2, and so on. If
-    the first one's exists, the circle was watched before it had a further hub, so everything at that hub is new."""
-    if count > 1 and given.start is not None:
-        raise Usage("--from is an incident number of one hub: name only that hub with --url")
-    was_watched = given.state is not None and os.path.exists(given.state)
-    watched = [Watched(given.state, given.start, given.all)]
-    for at in range(2, count + 1):
-        file = None if given.state is None else f"{given.state}.{at}"
-        watched.append(Watched(file, 0 if was_watched else None, given.all))
-    return watched
-
-
-def do_watch(hubs: Hubs, given: argparse.Namespace) -> None:
-    """Reports new incidents by number; with --all also new revisions and what becomes visible, for which each look reads the whole list."""
-    if given.exec is not None and shutil.which(given.exec) is None:
-        raise Usage(f"--exec {given.exec}: there is no such program")
-    has_several = len(hubs.all) > 1
-    each = list(zip(range(1, len(hubs.all) + 1), hubs.all, watched_of(given, len(hubs.all))))
-    rounds = 0
-    while True:
-        for at, hub, watched in each:
-            try:
-                look(hub, given, watched, at if has_several else 0)
-            except (Unreachable, Refused) as fault:
-                if isinstance(fault, Refused) and fault.status not in (429, 502, 503, 504):
-                    raise
-                which = f"hub {at}: " if has_several else ""
-                print(f"iodef-hub-ask: {which}{shown(str(fault))}; the watch goes on", file=sys.stderr, flush=True)
-        rounds += 1
-        if rounds == given.rounds:
-            return
-        time.sleep(given.every)
-
-
-def check_replacement(given: argparse.Namespace, has_gates: bool) -> None:
-    """Raises Usage if the words don't say who may read a new revision. What applied to the stored one doesn't apply to it, and no
-    request reads what that was."""
-    unsaid = []
-    if given.community is None and not given.any_community:
-        unsaid.append("--community N or --any-community: whose members may read what is marked green")
-    if not has_gates:
-        unsaid.append("--gate LEVEL:GROUP:POINTER or --no-gates: the gates of the stored revision are removed")
-    if not given.drop_permissions:
-        unsaid.append("--drop-permissions: all permissions are removed")
-    if unsaid:
-        raise Usage(f"nothing is sent, as a new revision needs {'; and '.join(unsaid)}")
-
-
-def do_replace(hub: Hub, given: argparse.Namespace, teller: Teller) -> None:
-    check_replacement(given, given.gate or given.no_gates)
-    report = report_bytes(read_file(given.file))
-    revision = revision_of(hub, given)
-    teller.tell(str(hub.replace(given.number, revision, report, given.level, given.group, gates=given.gate, community=given.community)))
-
-
-def do_grant(hub: Hub, given: argparse.Namespace, teller: Teller) -> None:
-    hub.grant(given.number, revision_of(hub, given), given.path, given.grantee, given.target, given.until)
-    teller.tell("done" if given.until is None else f"done, it ends at {given.until}")
-    if given.json and given.until is not None:
-        print(f"it ends at {given.until}", file=sys.stderr)
-
-
-@dataclass(frozen=True)
-class PostLine:
-    """A line for post-all: a report and how to post it. `gates` is None if the line has no such member."""
-
-    report: bytes
-    level: int
-    group: int | None
-    gates: tuple[Gate, ...] | None
-    source: int | None
-    community: int | None
-
-
-def post_line(text: bytes, place: int) -> PostLine:
-    bad = Usage(f'line {place} must be {{"community":..,"document":..,"gates":[..],"group":..,"level":..,"source":..}}')
-    try:
-        value = json.loads(text)
-    except (ValueError, RecursionError):
-        raise bad from None
-    if not isinstance(value, dict) or set(value) - {"community", "document", "gates", "group", "level", "source"}:
-        raise bad
-    document, gates, group, source = value.get("document"), value.get("gates", []), value.get("group"), value.get("source")
-    community = value.get("community")
-    are_numbers = all(each is None or type(each) is int and 0 <= each <= LAST_NUMBER for each in (group, source, community))
-    if not isinstance(document, dict) or not isinstance(gates, list) or type(value.get("level")) is not int or not are_numbers:
-        raise bad
-    try:
-        read = tuple(gate(each) for each in gates) if "gates" in value else None
-    except (AttributeError, argparse.ArgumentTypeError):
-        raise bad from None
-    try:
-        return PostLine(report_bytes(document), value["level"], group, read, source, community)
-    except ValueError as fault:
-        raise Usage(f"line {place}: {fault}") from None
-
-
-def post_lines(given: argparse.Namespace) -> list[PostLine]:
-    """All lines, each with the community that the command's words name. Raises Usage if a line names another one, or if a line for
-    --replace has no gates."""
-    lines: list[PostLine] = []
-    for text in _unmarked(read_file(given.file)).split(b"\n"):
-        if not text.strip():
-            continue
-        place = len(lines) + 1
-        line = post_line(text, place)
-        if line.community is not None and (given.any_community or given.community not in (None, line.community)):
-            said = "--any-community" if given.any_community else f"--community {given.community}"
-            raise Usage(f"line {place} is for community {line.community}, but you gave {said}")
-        if given.replace and line.gates is None:
-            raise Usage(f'line {place} needs "gates", as a new revision removes the gates of the stored one')
-        lines.append(replace(line, community=line.community if given.community is None else given.community))
-    return lines
-
-
-def do_post_all(hub: Hub, given: argparse.Namespace, teller: Teller) -> None:
-    """Posts each line. All are read, and their source is compared with the caller's organisation, before the first is sent."""
-    if given.replace:
-        check_replacement(given, has_gates=True)
-    lines = post_lines(given)
-    org = hub.me().org
-    for place, line in enumerate(lines):
-        if line.source not in (None, org):
-            raise Usage(f"line {place + 1}: the report is from organisation {line.source}, but your key is for organisation {org}")
-    for place, line in enumerate(lines):
-        gates = line.gates or ()
-        try:
-            try:
-                told = " ".join(map(str, hub.post(line.report, line.level, line.group, gates, line.community)))
-            except Refused as refusal:
-                if not (given.replace and refusal.code == "S1" and refusal.detail.isdigit()):
-                    raise
-                stored = int(refusal.detail)
-                seen = hub.view(stored).revision
-                revision = hub.replace(stored, seen, line.report, line.level, line.group, gates=gates, community=line.community)
-                told = f"{stored}\tr{revision}"
-        except HubError:
-            print(f"iodef-hub-ask: {place} of {len(lines)} lines were posted; line {place + 1} failed:", file=sys.stderr)
-            raise
-        teller.tell(told)
-
-
-def do_add_person(hub: Hub, given: argparse.Namespace, teller: Teller) -> None:
-    if given.digest is not None:
-        made = hub.add_person(given.org, given.name, given.role, given.digest)
-        teller.tell(str(made))
-        return
-    key = new_key()
-    if given.key_file is not None:
-        # Before it is sent, so that a key which was taken is never lost; a file that is there stays as it is.
-        with os.fdopen(os.open(given.key_file, os.O_WRONLY | os.O_CREAT | os.O_EXCL, 0o600), "w") as file:
-            file.write(key + "\n")
-            file.flush()
-            os.fsync(file.fileno())
-    try:
-        made = hub.add_person(given.org, given.name, given.role, digest_of(key))
-    except MayBeTaken:
-        if given.key_file is None:
-            print(f"iodef-hub-ask: the key, in case the person was added: {key}", file=sys.stderr)
-        else:
-            print(f"iodef-hub-ask: the key is in {given.key_file}, in case the person was added", file=sys.stderr)
-        raise
-    except HubError:
-        if given.key_file is not None:
-            os.unlink(given.key_file)
-        raise
-    given.digest = digest_of(key)  # a further hub of the circle gets the same key
-    teller.tell(str(made), *([f"key, shown this once: {key}"] if given.key_file is None else []))
-    if given.json and given.key_file is None:
-        print(f"key, shown this once: {key}", file=sys.stderr)
-
-
-# What another reader would get of a report that isn't posted yet. The verdicts are those of iodef-redact, which is proved.
-
-# What holds of a reader that --for names; of the source nothing is known but that the reader is of another organisation.
-READERS: dict[str, dict[str, object]] = {
-    "stranger": {"who": 1, "org": 1},
-    "partner": {"who": 1, "org": 1, "community": True, "peer": True},
-    "addressed": {"who": 1, "org": 1, "community": True, "peer": True, "addressed": True, "nominated": True},
-}
-NO_ORGANISATION = 0  # stands for the source, as organisations are numbered from 1
-
-
-def reader_of(name: str) -> dict[str, object]:
-    """The reader of this name, or the one in a file: a JSON object with `who`, `org` and what holds of the reader."""
-    if name in READERS:
-        return READERS[name]
-    try:
-        value = json.loads(pathlib.Path(name).read_bytes())
-    except (ValueError, RecursionError):
-        raise Usage(f"{name} is not JSON") from None
-    if not isinstance(value, dict):
-        raise Usage(f"{name} is not a JSON object")
-    return value
-
-
-def description_of(given: argparse.Namespace) -> dict[str, object]:
-    """The view description of iodef-redact: the report's gates as `post` would store them, no permissions, and the reader."""
-    gates = [Gate(given.level, given.group or 0, ""), *given.gate]
-    told = [{"path": each.path, "level": each.level, **({"group": each.group} if each.level == 4 else {})} for each in gates]
-    named = {} if given.community is None else {"community": given.community}
-    groups = {"groups": given.in_group, "active_groups": given.in_group} if given.in_group else {}
-    case = {"source": NO_ORGANISATION, **named, "gates": told}
-    return {"incident": given.incident, "case": case, "reader": {**reader_of(given.reader), **groups}}
-
-
-def previewed(report: bytes, description: Mapping[str, object], engine: str) -> bytes:
-    """The body of the View that such a reader would get. Raises Usage with the engine's words if it has none."""
-    with tempfile.NamedTemporaryFile("w", suffix=".json") as file:
-        json.dump(description, file)
-        file.flush()
-        try:
-            ran = subprocess.run([engine, "excerpt", "--for", file.name], input=report, capture_output=True, check=False)
-        except FileNotFoundError:
-            raise Usage(f"{engine} was not found: install it, or name the program with --engine") from None
-    if ran.returncode == 0:
-        return ran.stdout
-    told = " ".join(ran.stderr.decode(errors="replace").split("\n")).strip()
-    raise Unseen("such a reader would get nothing") if told.startswith("NothingVisible") else Usage(f"{engine}: {told}")
-
-
-def do_preview(given: argparse.Namespace) -> None:
-    whole = previewed(report_bytes(read_file(given.file)), description_of(given), given.engine)
-    if given.json:
-        print(whole.decode().rstrip("\n"))
-        return
-    value = json.loads(whole)
-    print(shown_json(value["document"]))
-    for place, rule in value["withheld"]:
-        print(f"withheld at {shown(place) or 'the root'}: {RULES.get(rule, 'withheld')} ({shown(rule)})", file=sys.stderr)
-
-
-Command = Callable[[Hub, argparse.Namespace, Teller], None]
-
-
-def done(change: Callable[[Hub, argparse.Namespace], None]) -> Command:
-    """A command that makes a change and prints `done`."""
-    def command(hub: Hub, given: argparse.Namespace, teller: Teller) -> None:
-        change(hub, given)
-        teller.tell("done")
-    return command
-
-
-def told(ask: Callable[[Hub, argparse.Namespace], Sequence[str]]) -> Command:
-    """A command that prints lines."""
-    def command(hub: Hub, given: argparse.Namespace, teller: Teller) -> None:
-        teller.tell(*ask(hub, given))
-    return command
-
-
-def listed(page: Callable[[Hub, argparse.Namespace, int], tuple[Entry, ...]]) -> Command:
-    return lambda hub, given, teller: teller.pages(lambda after: page(hub, given, after))
-
-
-KINDS: dict[str, Callable[[str], Any]] = {
-    "number": place,
-    **dict.fromkeys(("level", "target", "person", "org", "client", "community", "other", "group_number"), number),
-}
-CHOICES = {"grantee": GRANTEES, "recipient": RECIPIENTS, "role": ROLES, "handling": HANDLINGS, "state": ("on", "off")}
-HELPS = {
-    "level": "0 your organisation, 1 organisations that share a community with it, 2 also those of connected communities, 3 everybody in the"
-    " hub, including organisations in no community, 4 the group of --group",
-    "number": "the incident's number; with several hubs HUB/NUMBER, such as 2/17",
-    "path": "the JSON pointer of a class in the Incident's document, such as /Incident/0/EventData/1",
-    "file": "the file, or - for standard input",
-}
-
-
-DEFAULT_URL = "http://127.0.0.1:8080"
-
-# What the commands do if there are several hubs. Those of an incident ask its hub, and all that aren't here ask each hub in turn.
-AT_INCIDENT = {"show", "indicators", "why", "replace", "redistribute", "address", "unaddress", "grant", "withdraw"}
-AT_NEWEST = {"post", "post-all"}
-LISTS = {"list", "addressed", "find"}
-NUMBERING = {"add-org", "add-person", "add-community", "new-group"}
-
-
-class Words:
-    """The words that the command knows, and what each command does."""
-
-    def __init__(self) -> None:
-        self.parser = argparse.ArgumentParser(
-            prog="iodef-hub-ask", description="Sends requests to an iodef-hub. The key is in IODEF_HUB_KEY, or in a file that IODEF_HUB_KEY_FILE names.",
-        )
-        add = self.parser.add_argument
-        add("--url", action="append", metavar="URL",
-            help=f"the hub's address (default: IODEF_HUB_URL, else {DEFAULT_URL}). Several, by --url again or with spaces between them in"
-            " IODEF_HUB_URL, are the hubs of one circle, the oldest first")
-        add("--ca", default=os.environ.get("IODEF_HUB_CA") or None, help="a file of certificates to trust instead of the system's (default: IODEF_HUB_CA)")
-        add("--json", action="store_true", help="print the hub's own answers, one per line")
-        add("--tries", type=number, default=5, help="the most times that a request is sent (default: %(default)s)")
-        add("--timeout", type=float, default=70, help="seconds without a byte after which a connection counts as lost (default: %(default)s)")
-        add("--version", action="version", version=f"%(prog)s {__version__}")
-        self.commands = self.parser.add_subparsers(dest="command", required=True, metavar="COMMAND")
-        self.known: dict[str, Command] = {}
-        self.offline: dict[str, Callable[[argparse.Namespace], None]] = {"preview": do_preview}
-        self.add_reading()
-        self.add_reports()
-        self.add_sharing()
-        self.add_circle()
-        self.add_groups()
-
-    def add(self, name: str, run: Command, about: str, *names: str) -> argparse.ArgumentParser:
-        """A command with its positional words. One that ends with ? may be left out."""
-        made: argparse.ArgumentParser = self.commands.add_parser(name, help=about, description=about[0].upper() + about[1:] + ".")
-        for each in names:
-            if each.endswith("?"):
-                made.add_argument(each[:-1], nargs="?", metavar=each[:-1].upper())
-            elif each in CHOICES:
-                made.add_argument(each, choices=CHOICES[each])
-            else:
-                made.add_argument(each, type=KINDS.get(each, str), metavar=each.upper(), help=HELPS.get(each))
-        self.known[name] = run
-        return made
-
-    def add_reading(self) -> None:
-        self.add("me", told(lambda hub, given: [shown_json(asdict(hub.me()))]), "who the hub says you are")
-        self.add("groups", told(lambda hub, given: [shown(json.dumps(asdict(each), ensure_ascii=False)) for each in hub.groups()]),
-                 "the sharing groups of your organisation")
-        self.add("list", listed(lambda hub, given, after: hub.incidents(after)), "the incidents of which you may see something")
-        self.add("addressed", listed(lambda hub, given, after: hub.addressed(after)), "the incidents that address you or your organisation")
-        self.add("show", do_show, "what you may see of an incident; standard error lists what is withheld", "number")
-        found = self.add("indicators", do_indicators, "what to block or look for in an incident: kind, value, place and role", "number")
-        found.add_argument("--all", action="store_true",
-                           help="also what is neither below Indicator nor in a source, such as the addresses of victims: look at the role")
-        self.add("find", listed(lambda hub, given, after: hub.search(given.needle, given.class_name, after)),
-                 "the incidents in which you may read this text, in a class of this name if one is given", "needle", "class_name?")
-        watch = self.add("watch", lambda hub, given, teller: None, "prints new incidents as they arrive")
-        watch.add_argument("--every", type=float, default=60, help="seconds between two looks at the hub (default: %(default)s)")
-        watch.add_argument("--from", dest="start", type=number, metavar="NUMBER", help="incidents above this number are new (default: 0); for one hub only")
-        watch.add_argument("--all", action="store_true", help="also new revisions, and incidents that become visible; each look then reads the whole list")
-        watch.add_argument("--rounds", type=number, default=0, help="how often to look; 0 means for ever (default: %(default)s)")
-        watch.add_argument("--exec", metavar="COMMAND", help="run COMMAND NUMBER SOURCE for each, without a shell, and never with content or"
-                           " the key; if it fails, that incident and those after it are tried again at the next look")
-        watch.add_argument("--state", metavar="FILE", help="keep in FILE what was printed; if FILE doesn't exist and --from isn't given, what the"
-                           " hub has already isn't new; for a second hub FILE.2, and so on")
-
-    def add_reports(self) -> None:
-        post = self.add("post", told(lambda hub, given: [str(each) for each in hub.post(
-            read_file(given.file), given.level, given.group, given.gate, given.community)]), "posts a report and prints its numbers", "file", "level")
-        add_spread(post)
-        exchange = self.add("replace", do_replace, "replaces the stored revision with a new one, and says again who may read it",
-                            "number", "file", "level")
-        gates = add_spread(exchange)
-        gates.add_argument("--no-gates", action="store_true", help="no class has a gate of its own in the new revision")
-        add_dropping(exchange, True)
-        add_revision(exchange)
-        post_all = self.add("post-all", do_post_all, "posts the lines that iodef-hub-misp to-iodef writes", "file")
-        add_communities(post_all)
-        post_all.add_argument("--replace", action="store_true", help="replace a report that was posted before with a new revision")
-        add_dropping(post_all, False)
-        preview = self.commands.add_parser("preview", help="shows what a reader would get of a report, before it is posted; needs no hub",
-                                           description="Shows what a reader would get of a report, before it is posted. Needs no hub.")
-        preview.add_argument("file", metavar="FILE", help=HELPS["file"])
-        preview.add_argument("level", type=number, metavar="LEVEL", help=HELPS["level"])
-        add_spread(preview)
-        preview.add_argument("--for", dest="reader", required=True, metavar="READER", help="stranger: of an organisation that shares no community"
-                             " with yours; partner: of one that does; addressed: a nominated person of a partner that is a recipient; or a"
-                             " file with a JSON object, such as {\"who\":4,\"org\":2,\"peer\":true}")
-        preview.add_argument("--in-group", type=number, action="append", default=[], metavar="N", help="the reader's organisation is a member of this group")
-        preview.add_argument("--incident", type=number, default=0, metavar="K", help="the place of the Incident in the report, from 0 (default: %(default)s)")
-        preview.add_argument("--engine", default="iodef-redact", metavar="PROGRAM", help="the program that redacts (default: %(default)s)")
-
-    def add_sharing(self) -> None:
-        redistribute = self.add("redistribute", done(lambda hub, given: hub.redistribute(
-            given.number, revision_of(hub, given), given.path, given.level, given.group)),
-            "sets a gate at a class (level 5: as the class above), or with an empty path at the root", "number", "path", "level")
-        redistribute.add_argument("--group", type=number, help="the sharing group of level 4")
-        add_revision(redistribute)
-        self.add("address", done(lambda hub, given: hub.address(given.number, given.recipient, given.target)),
-                 "adds a recipient", "number", "recipient", "target")
-        self.add("unaddress", done(lambda hub, given: hub.unaddress(given.number, given.recipient, given.target)),
-                 "removes a recipient", "number", "recipient", "target")
-        grant = self.add("grant", do_grant, "permits somebody to see a class", "number", "path", "grantee", "target")
-        grant.add_argument("--until", type=moment, metavar="MOMENT",
-                           help="when it ends: 2026-12-31 (the beginning of that day) or 2026-12-31T18:00, in this machine's time zone, unless"
-                           " an offset such as +01:00 or Z follows the time")
-        add_revision(grant)
-        self.add("withdraw", done(lambda hub, given: hub.withdraw(given.number, given.path, given.grantee, given.target)),
-                 "removes a permission", "number", "path", "grantee", "target")
-
-    def add_circle(self) -> None:
-        self.add("why", told(lambda hub, given: [shown(each) for each in hub.explain(given.person, given.number, given.path).splitlines()]),
-                 "why a person sees a class of an incident, or doesn't", "person", "number", "path")
-        self.add("add-org", told(lambda hub, given: [str(hub.add_org(given.name))]), "adds an organisation", "name")
-        self.add("client", done(lambda hub, given: hub.add_client(given.org, given.client)), "makes CLIENT a client of ORG", "org", "client")
-        self.add("unclient", done(lambda hub, given: hub.remove_client(given.org, given.client)), "removes CLIENT as a client of ORG", "org", "client")
-        person = self.add("add-person", do_add_person, "adds a person with a new key, which is shown only once", "org", "name", "role")
-        person.add_argument("--key-file", help="write the new key into this file, which must not exist")
-        person.add_argument("--digest", help="the SHA-256 of a key that the person has made, instead of a new one")
-        self.add("suspend", done(lambda hub, given: hub.suspend(given.person)), "suspends a person for ever: the hub refuses the key", "person")
-        self.add("add-community", told(lambda hub, given: [str(hub.add_community(given.name))]), "adds a community", "name")
-        self.add("join", done(lambda hub, given: hub.join(given.community, given.org)), "puts an organisation into a community", "community", "org")
-        self.add("leave", done(lambda hub, given: hub.leave(given.community, given.org)), "removes an organisation from a community", "community", "org")
-        self.add("link", done(lambda hub, given: hub.link(given.community, given.other)), "connects two communities", "community", "other")
-        self.add("unlink", done(lambda hub, given: hub.unlink(given.community, given.other)), "ends the connection of two communities", "community", "other")
-
-    def add_groups(self) -> None:
-        self.add("nominate", done(lambda hub, given: hub.nominate(given.person)), "lets a person receive what is for your organisation", "person")
-        self.add("unnominate", done(lambda hub, given: hub.unnominate(given.person)), "ends a nomination", "person")
-        self.add("new-group", told(lambda hub, given: [str(hub.new_group(given.name, given.releasability or ""))]),
-                 "creates a sharing group of your organisation", "name", "releasability?")
-        group_add = self.add("group-add", done(lambda hub, given: hub.group_add(given.group_number, given.org, given.extend)),
-                             "puts an organisation into a group", "group_number", "org")
-        group_add.add_argument("--extend", action="store_true", help="the new member may add others")
-        self.add("group-remove", done(lambda hub, given: hub.group_remove(given.group_number, given.org)),
-                 "removes an organisation from a group", "group_number", "org")
-        self.add("group-active", done(lambda hub, given: hub.group_active(given.group_number, given.state == "on")),
-                 "switches a group on or off", "group_number", "state")
-        self.add("arrange", done(lambda hub, given: hub.arrange(given.org, given.handling)),
-                 "sets what your label `default` means to another organisation", "org", "handling")
-        self.add("cancel-arrange", done(lambda hub, given: hub.cancel_arrange(given.org)), "ends an arrangement", "org")
-
-
-def add_revision(made: argparse.ArgumentParser) -> None:
-    made.add_argument("--revision", type=number, help="the revision that you have seen (default: the hub is asked for the current one)")
-
-
-def add_communities(made: argparse.ArgumentParser) -> None:
-    either = made.add_mutually_exclusive_group()
-    either.add_argument("--community", type=number, metavar="N", help="what is marked green is for the members of this one of your communities only")
-    either.add_argument("--any-community", action="store_true", help="what is marked green is for the members of any of your communities")
-
-
-def add_spread(made: argparse.ArgumentParser) -> Any:
-    """Adds the words that say who may read a report. Returns the group of those for gates, of which only one kind may be given."""
-    add_communities(made)
-    made.add_argument("--group", type=number, metavar="N", help="the sharing group of level 4")
-    gates = made.add_mutually_exclusive_group()
-    gates.add_argument("--gate", type=gate, action="append", default=[], metavar="LEVEL:GROUP:POINTER",
-                       help="give a class a level of its own; GROUP is 0 except at level 4")
-    return gates
-
-
-def add_dropping(made: argparse.ArgumentParser, is_wanted: bool) -> None:
-    wanted = "required" if is_wanted else "required with --replace"
-    made.add_argument("--drop-permissions", action="store_true", help=f"{wanted}: a new revision removes all permissions of the stored one")
-
-
-def told_of(fault: Exception) -> str:
-    """The text of a fault for standard error, with advice if the hub gives none."""
-    is_number = isinstance(fault, Refused) and fault.detail.split(" ")[0] == "NotWhole"
-    return shown(str(fault)) + (": write a whole number of at most 64 bits, such as 1000 instead of 1000.0, or a string" if is_number else "")
-
-
-def status_of(fault: Exception) -> int:
-    """The exit status of a fault."""
-    return 1 if isinstance(fault, (Refused, Unseen)) else 4 if isinstance(fault, MayBeTaken) else 3 if isinstance(fault, HubError) else 2
-
-
-def urls_of(given: argparse.Namespace, environment: Mapping[str, str]) -> list[str]:
-    return given.url or environment.get("IODEF_HUB_URL", "").split() or [DEFAULT_URL]
-
-
-def run_one(words: Words, given: argparse.Namespace, hub: Hub, teller: Teller) -> None:
-    """Runs a command at one hub."""
-    try:
-        words.known[given.command](hub, given, teller)
-    except Refused:
-        if given.json:
-            teller.tell()
-        raise
-
-
-def run_at_incident(words: Words, given: argparse.Namespace, hubs: Hubs) -> None:
-    """Runs a command at the hub that its incident's number names."""
-    if not given.number.hub and len(hubs.all) > 1:
-        raise Usage(f"which hub's incident {given.number.number} do you mean? There are {len(hubs.all)} hubs: give HUB/NUMBER, such as 2/{given.number.number}")
-    hub = hubs.at(given.number.hub or 1)
-    given.number = given.number.number
-    run_one(words, given, hub, Teller(hub, given.json))
-
-
-def run_at_newest(words: Words, given: argparse.Namespace, hubs: Hubs) -> None:
-    """Posts at the newest hub. It can't know what an older one has, so for a replacement the hub must be named."""
-    at = len(hubs.all)
-    if given.command == "post-all" and given.replace and at > 1:
-        raise Usage("post-all --replace needs one hub: an older hub's report would be posted a second time; name only its hub with --url")
-    teller = Teller(hubs.newest, given.json, at, f"{at}/") if at > 1 else Teller(hubs.newest, given.json)
-    run_one(words, given, hubs.newest, teller)
-
-
-def run_at_each(words: Words, given: argparse.Namespace, hubs: Hubs) -> int:
-    """Runs a command at each hub in turn, and returns the first status that isn't 0. The others are asked even if one hub fails. But
-    if the command gets a number, a fault ends it, as the numbers must be the same in all hubs, unless that hub has it already."""
-    numbers: dict[int, str] = {}
-    status = 0
-    for at, hub in enumerate(hubs.all, 1):
-        teller = Teller(hub, given.json, at, f"{at}/" if given.command in LISTS else f"hub {at}: ")
-        try:
-            run_one(words, given, hub, teller)
-            numbers[at] = "".join(teller.told[:1])
-        except HubError as fault:
-            print(f"iodef-hub-ask: hub {at}: {told_of(fault)}", file=sys.stderr)
-            status = status or status_of(fault)
-            if given.command in NUMBERING and fault.code != "S1":
-                if numbers and given.command == "add-person":
-                    print(f"iodef-hub-ask: for the hubs that lack the person, run this again with --digest {given.digest}", file=sys.stderr)
-                return status
-    if given.command in NUMBERING and len(set(numbers.values())) > 1:
-        print("iodef-hub-ask: the hubs gave different numbers, so a number doesn't mean the same at each hub", file=sys.stderr)
-        status = status or 1
-    return status
-
-
-def run(words: Words, given: argparse.Namespace, hubs: Hubs) -> int:
-    """Runs a command at the hubs that it concerns, and returns the status."""
-    if given.command == "watch":
-        do_watch(hubs, given)
-    elif given.command in AT_INCIDENT:
-        run_at_incident(words, given, hubs)
-    elif given.command in AT_NEWEST:
-        run_at_newest(words, given, hubs)
-    elif len(hubs.all) > 1:
-        return run_at_each(words, given, hubs)
-    else:
-        run_one(words, given, hubs.newest, Teller(hubs.newest, given.json))
-    return 0
-
-
-def main() -> int:
-    """Returns 0 done, 1 refused, 2 usage, 3 not reached or not a hub, 4 a change that may have been taken."""
-    words = Words()
-    given = words.parser.parse_args()
-    try:
-        if offline := words.offline.get(given.command):
-            offline(given)
-            return 0
-        return run(words, given, Hubs(urls_of(given, os.environ), key_of(os.environ), given.ca, given.timeout, given.tries))
-    except BrokenPipeError:
-        os.dup2(os.open(os.devnull, os.O_WRONLY), sys.stdout.fileno())
-        return 0
-    except (HubError, Usage, Unseen, ValueError, OSError) as fault:
-        print(f"iodef-hub-ask: {told_of(fault)}", file=sys.stderr)
-        return status_of(fault)
-    except KeyboardInterrupt:
-        return 130
+                yield Indicator(kind, value, path, role, label)
 
 
 if __name__ == "__main__":
-    sys.exit(main())
+    import importlib
+
+    raise SystemExit(importlib.import_module("iodef_hub_ask.words").main())

@@ -1,7 +1,7 @@
 #!/usr/bin/env python3
 """MISP events to IODEF reports for iodef-hub, and back: the library and the command iodef-hub-misp. Needs Python 3.11 only.
 
-    iodef-hub-misp to-iodef --map MAP.json EVENT.json | iodef-hub-ask post-all -
+    iodef-hub-misp to-iodef --map MAP.json EVENT.json | iodef-hub-ask post-all --any-community -
     iodef-hub-ask --json show 1 | iodef-hub-misp to-misp --map MAP.json > event.json
 
 It opens no connection. If a choice is in doubt, it takes the stricter one and says so on standard error. It refuses what doesn't
@@ -22,6 +22,8 @@ from collections import Counter
 from collections.abc import Iterator, Sequence
 from dataclasses import dataclass, field, replace
 from typing import Any, Union
+
+from iodef_hub_ask.characters import shown
 
 MOST_BYTES, MOST_LINES, MOST_GATES = 262_144, 4_096, 16
 LAST_NUMBER = 2**32 - 1
@@ -138,7 +140,7 @@ def counted(what: Counter[str]) -> str:
 
 
 def say(text: str) -> None:
-    print("iodef-hub-misp: " + "".join(each if each.isprintable() else f"\\u{ord(each):04x}" for each in text), file=sys.stderr)
+    print(f"iodef-hub-misp: {shown(text)}", file=sys.stderr)
 
 
 # Reading JSON

@@ -2,16 +2,17 @@
 
     import iodef_redact
     seen = iodef_redact.excerpt(report, to="GREEN")
-    print(seen.document, seen.withheld)
+    print(seen.label, seen.document, seen.withheld)
 
 A report is an IODEF v2 document in JSON (RFC 7970 and RFC 8727), as bytes or str. `to` says for whom it is redacted:
 
-- the name of a handling (CLEAR, GREEN, AMBER, STRICT or RED): a reader with that clearance and nothing stricter;
+- a clearance (one of CLEARANCES, such as GREEN or TLP:GREEN): a reader with that one and nothing stricter;
 - a Reader, with a Case. What a Reader leaves out doesn't apply, and what a Case leaves out isn't granted;
 - a View: a view description as its JSON text.
 
-A call that has no answer raises the Fault of that name. A call lets other threads run, and calls may run in parallel. In the forked
-child of a process that had threads no call may be made: start processes by "spawn" or "forkserver".
+A call that has no answer raises the Fault of that name, and one with a word of another type than its signature's a TypeError. A call
+lets other threads run, and calls may run in parallel. In the forked child of a process that had threads no call may be made: start
+processes by "spawn" or "forkserver".
 
 The module loads the library by the name libiodef_redact.so.1, or from the file that IODEF_REDACT_LIBRARY names.
 """
@@ -21,24 +22,50 @@ import ctypes
 import datetime
 import functools
 import json
+import operator
 import os
-from collections.abc import Sequence
+from collections.abc import Iterable, Sequence
 from dataclasses import dataclass, field
-from typing import Any, ClassVar
+from typing import Any, ClassVar, SupportsIndex, TypeVar
 
 LIBRARY = "libiodef_redact.so.1"
 HANDLINGS = ("CLEAR", "GREEN", "AMBER", "STRICT", "RED")
+CLEARANCES = (*HANDLINGS, "TLP:CLEAR", "TLP:WHITE", "TLP:GREEN", "TLP:AMBER", "TLP:AMBER+STRICT", "TLP:RED")
+
+# The words of each export, in their order. `incident` and `dated` are numbers, and each other word is a text: its start and its length.
+EXPORTS: dict[str, tuple[str, ...]] = {
+    "excerpt": ("report", "view"),
+    "document": ("report", "view"),
+    "whole": ("report", "view"),
+    "whole_with_id": ("report", "view", "name", "id"),
+    "first_fault": ("report", "view", "dated"),
+    "finds": ("report", "view", "text"),
+    "finds_in_class": ("report", "view", "text", "class_name"),
+    "explain": ("report", "view", "pointer"),
+    "marks": ("report", "incident"),
+}
+NUMBERS = ("incident", "dated")
+DATED = ("whole", "whole_with_id")  # the exports whose view must have `now`
+
+Kind = TypeVar("Kind")
 
 
 class Fault(Exception):
     """Why a call has no answer. If there are several faults, the one with the lowest number is raised; NoMemory may replace any
-    answer."""
+    answer.
+
+    `place` is the JSON pointer of what is at fault: in the view up to SourceUnsaid, and for NoIncident and NoClass; else in the report.
+    It is empty if all of it is at fault, and None if the fault has no place there, as one of another word."""
 
     number: ClassVar[int] = 0
     reason: ClassVar[str] = ""
 
-    def __init__(self) -> None:
-        super().__init__(self.reason)
+    def __init__(self, place: str | None = None) -> None:
+        super().__init__(place)
+        self.place = place
+
+    def __str__(self) -> str:
+        return f"{self.reason}: {self.place}" if self.place else self.reason
 
 
 class NoMemory(Fault):
@@ -82,7 +109,7 @@ class BadMoment(Fault):
 
 
 class SourceUnsaid(Fault):
-    number, reason = 11, "the reader's organisation is the source, and `source` isn't true"
+    number, reason = 11, "`source` isn't true exactly if the reader's organisation is the source"
 
 
 class NotUtf8(Fault):
@@ -133,6 +160,14 @@ class NothingVisible(Fault):
     number, reason = 23, "no class is visible"
 
 
+class NotReadable(Fault):
+    number, reason = 24, "the excerpt has too many lines for a report, or is too deep"
+
+
+class IdMissing(Fault):
+    number, reason = 25, "the IncidentID is withheld, and none is given"
+
+
 FAULTS: dict[int, type[Fault]] = {each.number: each for each in Fault.__subclasses__()}
 
 
@@ -173,13 +208,13 @@ class Case:
 class Reader:
     """A person, and the person's relation to the source and to the Incident.
 
-    `who` is its number, `org` that of its organisation. `source`: its organisation is the source; it must be true if `org` is
-    the case's `source`. `person`: it is addressed itself. `nominated`: its organisation nominated it. `addressed`: its organisation
-    is addressed. `client`: its organisation is a client of the source, or of an organisation that is addressed. `community`: its
-    organisation and the source are in one community. `peer`: its organisation is in the community that the case names; if it
-    names none, as `community`. `connected`: its organisation is in a community that is connected to one of the source's.
-    `arrangement`: the handling that the source arranged with its organisation for the label `default`. `groups` are the groups of
-    its organisation, `active_groups` the groups that are active, and `communities` the communities of its organisation."""
+    `who` is its number, `org` that of its organisation. `source`: its organisation is the source; it must be true if `org` is the
+    case's `source`, and false if it isn't. `person`: it is addressed itself. `nominated`: its organisation nominated it. `addressed`:
+    its organisation is addressed. `client`: its organisation is a client of the source, or of an organisation that is addressed.
+    `community`: its organisation and the source are in one community. `peer`: its organisation is in the community that the case
+    names; if it names none, it must be as `community`. `connected`: its organisation is in a community that is connected to one of the
+    source's. `arrangement`: the handling that the source arranged with its organisation for the label `default`. `groups` are the
+    groups of its organisation, `active_groups` those of them that are active, and `communities` its communities."""
 
     who: int
     org: int
@@ -205,6 +240,14 @@ class View:
 
 
 @dataclass(frozen=True)
+class Identifier:
+    """An IncidentID for a report whose own one is withheld: the `id`, and the `name` of who gives it, such as a domain name."""
+
+    name: bytes | str
+    id: bytes | str
+
+
+@dataclass(frozen=True)
 class Withheld:
     """At `place` of an excerpt (a JSON pointer) something is withheld, by `rule`."""
 
@@ -214,11 +257,14 @@ class Withheld:
 
 @dataclass(frozen=True)
 class Excerpt:
-    """What a reader may see: how many classes, the report without the others, and where something is withheld. `text` is the JSON text
-    of all three as the library gives it."""
+    """What a reader may see: how many classes, the report without the others, the highest label of these classes (a TLP name such as
+    TLP:AMBER+STRICT), whether the document is a report again, and where something is withheld. `text` is the JSON text of all of
+    them as the library gives it."""
 
     classes: int
     document: dict[str, Any]
+    label: str
+    readable: bool
     withheld: tuple[Withheld, ...]
     text: bytes = field(repr=False)
 
@@ -231,21 +277,35 @@ def excerpt(
     text = _answer("excerpt", report, _described(to, case, incident, now))
     told = json.loads(text)
     withheld = tuple(Withheld(place, rule) for place, rule in told["withheld"])
-    return Excerpt(told["classes"], told["document"], withheld, text)
+    return Excerpt(told["classes"], told["document"], told["label"], told["readable"], withheld, text)
 
 
 def document(
     report: bytes | str, to: str | Reader | View, case: Case | None = None, *, incident: int | None = None, now: str | datetime.datetime | None = None
 ) -> bytes:
-    """The document of that excerpt, alone, as its JSON text: a report to send on."""
+    """The document of that excerpt, alone, as its JSON text. It may lack what a report must have."""
     return _answer("document", report, _described(to, case, incident, now))
+
+
+def whole(
+    report: bytes | str, to: str | Reader | View, case: Case | None = None, *, identifier: Identifier | None = None, incident: int | None = None,
+    now: str | datetime.datetime | None = None,
+) -> bytes:
+    """That document made a report again. Placeholders replace the members that a report must have and that are withheld: most say
+    "withheld", GenerationTime is `now`, which is required, and IncidentID is `identifier`."""
+    view = _described(to, case, incident, now)
+    if identifier is None:
+        return _answer("whole", report, view)
+    given = _checked("identifier", identifier, Identifier)
+    return _answer("whole_with_id", report, view, given.name, given.id)
 
 
 def finds(
     report: bytes | str, text: bytes | str, to: str | Reader | View, case: Case | None = None, *, class_name: bytes | str | None = None,
     incident: int | None = None, now: str | datetime.datetime | None = None,
 ) -> bool:
-    """Whether a class that the reader may see directly holds a text that contains `text`; with `class_name`, a class of that name."""
+    """Whether a class that the reader may see directly holds a text that contains `text`; with `class_name`, a class of that name,
+    which may be empty."""
     view = _described(to, case, incident, now)
     if class_name is None:
         return _answer("finds", report, view, text) == b"true"
@@ -266,10 +326,26 @@ def marks(report: bytes | str, incident: int = 0) -> str:
     return _answer("marks", report, incident).decode()
 
 
-def _moment(moment: str | datetime.datetime) -> str:
+def _checked(name: str, value: object, kind: type[Kind]) -> Kind:
+    """The value, if it is of that kind."""
+    if not isinstance(value, kind):
+        raise TypeError(f"{name} must be {kind.__name__}, not {type(value).__name__}")
+    return value
+
+
+def _items(name: str, items: object, kind: type[Kind]) -> list[Kind]:
+    """The items of a list, each of that kind. To Python bytes are a list of numbers; here no text is a list."""
+    if isinstance(items, (str, bytes, bytearray)) or not isinstance(items, Iterable):
+        raise TypeError(f"{name} must be a sequence, not {type(items).__name__}")
+    return [_checked(f"an item of {name}", each, kind) for each in items]
+
+
+def _moment(name: str, moment: object) -> str:
     """A moment as RFC 3339 writes it."""
     if isinstance(moment, str):
         return moment
+    if not isinstance(moment, datetime.datetime):
+        raise TypeError(f"{name} must be str or datetime, not {type(moment).__name__}")
     if moment.tzinfo is None:
         raise ValueError(f"{moment!r} has no time zone")
     if moment.microsecond:
@@ -277,89 +353,124 @@ def _moment(moment: str | datetime.datetime) -> str:
     return moment.isoformat()
 
 
-def _members(**given: object) -> dict[str, object]:
-    """The members of an object: those that say something."""
-    return {name: value for name, value in given.items() if value is not None and value is not False and value != []}
+def _given(**members: object) -> dict[str, object]:
+    """The members that are given. Each may be left out, which is None here and would be a fault in a view."""
+    return {name: value for name, value in members.items() if value is not None}
 
 
 def _gate(gate: Gate) -> dict[str, object]:
-    return _members(path=gate.path, level=gate.level, group=gate.group)
+    return {"path": gate.path, "level": gate.level, **_given(group=gate.group)}
 
 
 def _permission(given: Permission) -> dict[str, object]:
-    until = None if given.until is None else _moment(given.until)
-    return _members(path=given.path, person=given.person, org=given.org, community=given.community, group=given.group, until=until)
+    until = None if given.until is None else _moment("until", given.until)
+    return {"path": given.path, **_given(person=given.person, org=given.org, community=given.community, group=given.group, until=until)}
 
 
 def _case(case: Case) -> dict[str, object]:
-    permissions = [_permission(each) for each in case.permissions]
-    return {**_members(source=case.source, community=case.community, permissions=permissions), "gates": [_gate(each) for each in case.gates]}
+    gates = [_gate(each) for each in _items("gates", case.gates, Gate)]
+    permissions = [_permission(each) for each in _items("permissions", case.permissions, Permission)]
+    return {"source": case.source, "gates": gates, "permissions": permissions, **_given(community=case.community)}
 
 
 def _reader(reader: Reader) -> dict[str, object]:
-    lists = {name: list(getattr(reader, name)) for name in ("groups", "active_groups", "communities")}
-    return _members(**{**vars(reader), **lists})
+    """What is said of the reader. The library judges it, member by member."""
+    members = vars(reader)
+    lists = {name: _items(name, members[name], object) for name in ("groups", "active_groups", "communities")}
+    arrangement = {} if reader.arrangement is None else {"arrangement": reader.arrangement}
+    return {name: value for name, value in members.items() if name != "arrangement"} | lists | arrangement
 
 
-def _described(to: str | Reader | View, case: Case | None, incident: int | None, now: str | datetime.datetime | None) -> bytes | str:
+def _described(to: object, case: object, incident: object, now: object) -> object:
     """The view description as a JSON text."""
-    moment = None if now is None else _moment(now)
+    moment = None if now is None else _moment("now", now)
     if isinstance(to, Reader):
         if case is None:
             raise TypeError("a Reader needs a Case")
-        return json.dumps(_members(now=moment, incident=incident, case=_case(case), reader=_reader(to)))
+        return json.dumps({**_given(now=moment, incident=incident), "case": _case(_checked("case", case, Case)), "reader": _reader(to)})
     if isinstance(to, View):
         if case is not None or incident is not None or now is not None:
             raise TypeError("a View says all of it: case, incident and now go with a Reader")
         return to.text
-    if to not in HANDLINGS:
-        raise ValueError(f"{to!r} is not one of {', '.join(HANDLINGS)}")
-    if case is not None or now is not None:
-        raise TypeError("case and now go with a Reader")
-    return json.dumps(_members(clearance=to, incident=incident))
+    if not isinstance(to, str):
+        raise TypeError(f"to must be str, Reader or View, not {type(to).__name__}")
+    if to not in CLEARANCES:
+        raise ValueError(f"{to!r} is not one of {', '.join(CLEARANCES)}")
+    if case is not None:
+        raise TypeError("a Case goes with a Reader")
+    return json.dumps({"clearance": to, **_given(incident=incident, now=moment)})
 
 
 @functools.cache
 def _library() -> ctypes.CDLL:
-    return ctypes.CDLL(os.environ.get("IODEF_REDACT_LIBRARY") or LIBRARY)
+    """The library. The signature of each export is set here, and stays the same whatever a call is given."""
+    library = ctypes.CDLL(os.environ.get("IODEF_REDACT_LIBRARY") or LIBRARY)
+    number, text = (ctypes.c_uint32,), (ctypes.c_char_p, ctypes.c_size_t)
+    for name, words in EXPORTS.items():
+        function = getattr(library, f"iodef_redact_{name}_into")
+        taken = [kind for word in words for kind in (number if word in NUMBERS else text)]
+        function.argtypes = [*taken, ctypes.c_void_p, ctypes.c_size_t, ctypes.POINTER(ctypes.c_size_t)]
+        function.restype = ctypes.c_uint32
+    return library
 
 
-@functools.cache
-def _function(name: str, words: tuple[type, ...]) -> Any:
-    """An export of the library, of so many words: bytes (their start and their length) and numbers."""
-    function = getattr(_library(), f"iodef_redact_{name}_into")
-    taken = [kind for word in words for kind in ((ctypes.c_uint32,) if word is int else (ctypes.c_char_p, ctypes.c_size_t))]
-    function.argtypes = [*taken, ctypes.c_void_p, ctypes.c_size_t, ctypes.POINTER(ctypes.c_size_t)]
-    function.restype = ctypes.c_uint32
-    return function
-
-
-def _word(word: object) -> bytes | int:
-    """A word as the library takes it, without a copy of bytes."""
+def _text(name: str, word: object) -> tuple[bytes, int]:
+    """A text as the library takes it, without a copy of bytes."""
     if isinstance(word, str):
-        return word.encode()
-    if isinstance(word, bytes):
-        return word
-    if isinstance(word, int) and not isinstance(word, bool):
-        if not 0 <= word < 2**32:
-            raise ValueError(f"{word} is not a number from 0 to {2**32 - 1}")
-        return word
-    raise TypeError(f"it must be bytes, str or a number, not {type(word).__name__}")
+        word = word.encode()
+    if not isinstance(word, bytes):
+        raise TypeError(f"{name} must be str or bytes, not {type(word).__name__}")
+    # A class derived from bytes may say another length than it has.
+    plain = word if type(word) is bytes else bytes(memoryview(word))
+    return plain, len(plain)
 
 
-def _answer(name: str, report: bytes | str, *words: object) -> bytes:
-    """The library's answer. If it is longer than the first room for it, the library is called again."""
-    if not isinstance(report, (bytes, str)):
-        raise TypeError(f"a report must be bytes or str, not {type(report).__name__}")
-    handed = [_word(word) for word in (report, *words)]
-    function = _function(name, tuple(map(type, handed)))
-    taken = [part for word in handed for part in ((word,) if isinstance(word, int) else (word, len(word)))]
-    needed = ctypes.c_size_t(len(handed[0]) + 4096 if isinstance(handed[0], bytes) else 0)
+def _number(name: str, word: object) -> int:
+    """A number as the library takes it. To Python a truth is a number; here it isn't."""
+    if isinstance(word, bool) or not isinstance(word, SupportsIndex):
+        raise TypeError(f"{name} must be int, not {type(word).__name__}")
+    number = operator.index(word)
+    if not 0 <= number < 2**32:
+        raise ValueError(f"{name} must be a number from 0 to {2**32 - 1}")
+    return number
+
+
+def _words(name: str, given: Sequence[object]) -> list[bytes | int]:
+    """The words of a call as the library takes them. None is of another type than the export's signature has."""
+    taken: list[bytes | int] = []
+    for word, value in zip(EXPORTS[name], given, strict=True):
+        if word in NUMBERS:
+            taken.append(_number(word, value))
+        else:
+            taken.extend(_text(word, value))
+    return taken
+
+
+def _asked(name: str, words: Sequence[bytes | int]) -> tuple[int, bytes]:
+    """The number that the library returns, and its answer. If that is longer than the first room for it, the library is called
+    again."""
+    function = getattr(_library(), f"iodef_redact_{name}_into")
+    needed = ctypes.c_size_t(4096 + sum(len(each) for each in words if isinstance(each, bytes)))
     while True:
         room = needed.value
         out = ctypes.create_string_buffer(room or 1)
-        number = function(*taken, out, room, ctypes.byref(needed))
-        if number:
-            raise FAULTS.get(number, Fault)()
+        number = function(*words, out, room, ctypes.byref(needed))
         if needed.value <= room:
-            return ctypes.string_at(out, needed.value)
+            return number, ctypes.string_at(out, needed.value)
+
+
+def _place(number: int, name: str, given: Sequence[object]) -> str | None:
+    """Where the fault of a call is, if the view and the report have it as their first one. Otherwise it is of another word. A call
+    without a view asks with any one."""
+    view = '{"clearance":"RED"}' if name == "marks" else given[1]
+    missing, told = _asked("first_fault", _words("first_fault", (given[0], view, int(name in DATED))))
+    found, _, place = told.decode().partition(" ")
+    return None if missing or found != str(number) else place
+
+
+def _answer(name: str, *given: object) -> bytes:
+    """The library's answer."""
+    number, answer = _asked(name, _words(name, given))
+    if number:
+        raise FAULTS.get(number, Fault)(_place(number, name, given))
+    return answer
