@@ -40,11 +40,13 @@ class Given:
 Files = dict[str, bytes | Link]
 # Where a file of the package comes from, by the beginning of its path. What isn't named here is generated.
 FROM = [
-    (r"usr/bin/iodef-hub-ask", "clients/python/iodef_hub.py"),
+    (r"usr/bin/(iodef-hub-ask)", r"clients/python/\1"),
+    (r"usr/share/iodef-hub/client/(.*)", r"clients/python/\1"),
     (r"usr/sbin/(.*)", r"deploy/bin/\1"),
     (r"usr/lib/iodef-hub/(.*)", r"deploy/lib/\1"),
     (r"(?:usr/)?lib/systemd/system/(.*)", r"deploy/systemd/\1"),
     (r"usr/share/iodef-hub/nginx/(?!iodef-hub-csp\.conf)(.*)", r"deploy/nginx/\1"),
+    (r"usr/share/iodef-hub/nftables/(.*)", r"deploy/nftables/\1"),
     (r"usr/share/iodef-hub/page/(.*)", r"web/\1"),
     # Of a commit without make-docs, which makes them otherwise.
     (r"usr/share/doc/iodef-hub/([\w-]+\.md|openapi\.yaml)", r"docs/\1"),
@@ -52,6 +54,7 @@ FROM = [
     (r"usr/share/doc/iodef-hub/examples/(site\.conf)", r"deploy/nginx/\1"),
     (r"usr/share/doc/iodef-hub/examples/(haproxy\.cfg)", r"deploy/haproxy/\1"),
     (r"usr/share/doc/iodef-hub/examples/(iodef-hub\.nft)", r"deploy/nftables/\1"),
+    (r"usr/share/doc/iodef-hub/examples/(receipts/.*)", r"deploy/\1"),
     (r"usr/share/doc/iodef-hub/examples/(alerts\.yml)", r"deploy/monitoring/\1"),
     (r"usr/share/doc/iodef-hub/examples/(mail-news)", r"clients/python/examples/\1"),
     (r"usr/share/man/man1/(iodef-hub-ask\.1)\.gz", r"clients/python/\1"),

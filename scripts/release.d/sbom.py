@@ -125,11 +125,9 @@ def of_kit_dependencies(components: list[Json], kit: Kit) -> list[Json]:
     return [{"ref": it["bom-ref"], "dependsOn": [f"kit/{name}" for name in kit.below(it["name"])]} for it in components]
 
 
-def made(tree: Tree, kit: Kit, version: str, programs: dict[str, str]) -> Json:
-    """Of the proved programs and libraries, by their paths in the packages."""
-    digests, parts = " ".join(it for _, it in sorted(programs.items())), of_kit(tree, kit)
-    tool = {"type": "application", "name": "Rattle kit", "version": kit.line}
-    more = [{"name": name, "value": digest} for name, digest in kit.made_of]
+def head(tree: Tree, version: str, programs: dict[str, str], kit: str, made_of: Json) -> Json:
+    """The members beside the parts and what they stand on. `kit` is the kit's line, and `made_of` what it says of itself."""
+    digests = " ".join(it for _, it in sorted(programs.items()))
     return {
         "bomFormat": "CycloneDX",
         "specVersion": "1.5",
@@ -137,7 +135,7 @@ def made(tree: Tree, kit: Kit, version: str, programs: dict[str, str]) -> Json:
         "version": 1,
         "metadata": {
             "timestamp": tree.moment(),
-            "tools": {"components": [{**tool, "properties": more}]},
+            "tools": {"components": [{"type": "application", "name": "Rattle kit", "version": kit, **made_of}]},
             "component": {
                 "type": "application",
                 "bom-ref": "iodef-hub",
@@ -147,6 +145,14 @@ def made(tree: Tree, kit: Kit, version: str, programs: dict[str, str]) -> Json:
                 "licenses": [{"license": {"id": "Apache-2.0"}}],
             },
         },
+    }
+
+
+def made(tree: Tree, kit: Kit, version: str, programs: dict[str, str]) -> Json:
+    """Of the proved programs and libraries, by their paths in the packages."""
+    parts, more = of_kit(tree, kit), [{"name": name, "value": digest} for name, digest in kit.made_of]
+    return {
+        **head(tree, version, programs, kit.line, {"properties": more}),
         "components": beside(programs, version) + own(tree, version) + parts,
         "dependencies": dependencies(tree, programs) + of_kit_dependencies(parts, kit),
     }
@@ -190,13 +196,24 @@ def faults_of_shape(sbom: Json) -> list[str]:
     return faults
 
 
-def faults_of_tree(sbom: Json, tree: Tree, version: str, programs: dict[str, str]) -> list[str]:
-    """Where it differs from what can be told without the kit: the programs and libraries, the repository's crates, and what they
-    stand on."""
+def faults_of_head(sbom: Json, tree: Tree, version: str, programs: dict[str, str], kit: str) -> list[str]:
+    """Which members beside the parts differ from the commit, but for what the kit says of itself."""
+    tools = sbom.get("metadata", {}).get("tools", {}).get("components", [{}])
+    due = head(tree, version, programs, kit, {"properties": tools[0].get("properties", [])})
+    found = {name: it for name, it in sbom.items() if name not in ("components", "dependencies")}
+    inside, wanted = found.pop("metadata", {}), due.pop("metadata")
+    faults = [f"`{name}` differs from the commit" for name in sorted({*found, *due}) if found.get(name) != due.get(name)]
+    return faults + [f"`metadata.{name}` differs from the commit" for name in sorted({*inside, *wanted}) if inside.get(name) != wanted.get(name)]
+
+
+def faults_of_tree(sbom: Json, tree: Tree, version: str, programs: dict[str, str], kit: str) -> list[str]:
+    """Where it differs from what can be told without the kit: the members beside the parts, the programs and libraries, the
+    repository's crates, what they stand on, and the kit's line, which PROVENANCE.json has."""
     components, named = sbom.get("components", []), dependencies(tree, programs)
     found = {it["bom-ref"]: it for it in components if it.get("group") == "iodef-hub"}
     due = {it["bom-ref"]: it for it in beside(programs, version) + own(tree, version)}
-    faults = [f"{name} differs from what the commit and PROVENANCE.json say" for name in sorted({*found, *due}) if found.get(name) != due.get(name)]
+    faults = faults_of_head(sbom, tree, version, programs, kit)
+    faults += [f"{name} differs from what the commit and PROVENANCE.json say" for name in sorted({*found, *due}) if found.get(name) != due.get(name)]
     if [it for it in sbom.get("dependencies", []) if not it["ref"].startswith("kit/")] != named:
         faults.append("the dependencies differ from crates.txt")
     lacking = {name for it in named for name in it["dependsOn"]} - {it["bom-ref"] for it in components}
@@ -205,4 +222,4 @@ def faults_of_tree(sbom: Json, tree: Tree, version: str, programs: dict[str, str
     of_kits = [it for it in components if it.get("group") == "rattle"]
     faults += [f"{it['bom-ref']} is called {it['name']}" for it in of_kits if it["bom-ref"] != f"kit/{it['name']}"]
     kits = {it["version"] for it in of_kits}
-    return faults + ([] if kits == {tree.kit_line()} else [f"the kit is {sorted(kits)}, but README names {tree.kit_line()}"])
+    return faults + ([] if kits == {kit} else [f"the kit is {sorted(kits)}, but PROVENANCE.json names {kit}"])

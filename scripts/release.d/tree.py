@@ -1,4 +1,4 @@
-"""What the files of a commit say of a release: their digests, crates and edits, the kit's line, and what its gate must print."""
+"""What the files of a commit say of a release: their digests, crates and edits, the kit's logic, and what its gate must print."""
 from __future__ import annotations
 
 import datetime
@@ -31,6 +31,12 @@ def git(*words: str) -> str:
 
 def sha256(file: pathlib.Path) -> str:
     return hashlib.sha256(file.read_bytes()).hexdigest()
+
+
+def logic_of(line: str) -> str | None:
+    """The digest of a kit's logic, of the line that `rt version` prints."""
+    found = re.fullmatch(r"rattle-kit-\S+ logic ([0-9a-f]+)", line)
+    return found[1] if found else None
 
 
 class Tree:
@@ -93,12 +99,17 @@ class Tree:
     def edits(self) -> int:
         return len(list((self.folder / "crates").glob("*/must-fail/*.edit")))
 
-    def kit_line(self) -> str:
-        """The kit that README says it is proved with."""
-        found = re.search(r"^    (rattle-kit-\S+ logic [0-9a-f]+)$", self.text("README.md"), re.M)
+    def logic(self) -> str:
+        """The digest of the logic in which README says that it is proved. Kits of other names may have the same."""
+        found = re.search(r"^    (?:rattle-kit-\S+ )?logic ([0-9a-f]+)$", self.text("README.md"), re.M)
         if not found:
-            raise Refused("README.md names no kit")
+            raise Refused("README.md names no logic of a kit")
         return found[1]
+
+    def judge_kit(self, line: str) -> None:
+        """Refuses a kit of another logic. `line` is what `rt version` prints."""
+        if logic_of(line) != self.logic():
+            raise Refused(f"the kits differ: {line!r} isn't of logic {self.logic()}, which README names")
 
     def gate(self, log: str) -> dict[str, Any]:
         """The last lines and the counts of a log of `rt ci`, which passes each crate and refuses each edit of this tree."""
@@ -112,13 +123,15 @@ class Tree:
             raise Refused(f"the gate's log is of {ends[1]} crates and edits, but {self.commit[:10]} has {due}")
         return {"passed": due, "failed": 0, "lines": [said[-1], lines[-1]]}
 
-    def provenance(self, log: str, version: str, programs: dict[str, str]) -> dict[str, Any]:
+    def provenance(self, log: str, version: str, programs: dict[str, str], kit: str) -> dict[str, Any]:
+        """`kit` is what `rt version` printed of the kit that built the programs."""
+        self.judge_kit(kit)
         return {
             "commit": self.commit,
             "committed": self.moment(),
             "definitions": self.definitions(),
             "gate": self.gate(log),
-            "kit": self.kit_line(),
+            "kit": kit,
             "policy": {"sha256": subprocess.check_output([sys.executable, "scripts/check-docs", "--policy-digest"], cwd=self.folder, text=True).strip()},
             "programs": programs,
             "sources": self.sources(),

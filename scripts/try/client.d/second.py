@@ -14,7 +14,7 @@ from watching import MAIL_NEWS, MailServer, program
 
 TOP = pathlib.Path(__file__).resolve().parent.parent.parent.parent
 TOOLS = TOP / "deploy" / "bin"
-CLIENT = TOP / "clients" / "python" / "iodef_hub.py"
+CLIENT = TOP / "clients" / "python" / "iodef-hub-ask"
 REPORT = TOP / "docs" / "examples" / "phishing.json"
 KEYS = {1: "admin-key", 2: "bank-key", 3: "telco-key", 4: "stranger-key", 5: "guest-key", 6: "second-key", 7: "fay-key"}
 SUSPENDED = (1, 5)
@@ -77,7 +77,7 @@ def fill(hub: Any, url: str) -> None:
     admin.suspend(5)
     by(6).suspend(1)
     for name in ("first", "second"):
-        bank.post(report(name), 3)
+        bank.post(report(name), 3, community=None)
 
 
 def second_store(check: Check, given: str, folder: pathlib.Path, port: int) -> pathlib.Path:
@@ -156,7 +156,7 @@ def by_persons(two: Two) -> None:
 
 def by_lists(two: Two) -> None:
     bank, check = two.ask(2), two.check
-    check("a report is posted at the newest hub", bank("post", "-", "3", given=report("third")), (0, "2/1\n"))
+    check("a report is posted at the newest hub", bank("post", "-", "3", "--any-community", given=report("third")), (0, "2/1\n"))
     lines = "1/1\tr1\torg 2\n1/2\tr1\torg 2\n2/1\tr1\torg 2\n"
     check("a list asks both, the oldest first", bank("list"), (0, lines))
     check("and so does a search", bank("find", "payroll-login"), (0, lines))
@@ -186,15 +186,17 @@ def by_incident(two: Two) -> None:
     check("with one address its number may be 1/2", json.loads(two.ask(2, 1)("show", "1/2")[1])["Incident"][0]["IncidentID"]["id"], "second")
     check("indicators of one", bank("indicators", "2/1")[1].startswith(INDICATORS.split("\t")[0] + "\t192.0.2.17\t"), True)
     check("4 of 23 classes are for the stranger, at both", (classes(1), classes(2)), (4, 4))
-    check("a permission is given at the older hub", bank("grant", "1/1", "/Incident/0/Contact/0", "org", "4"), (0, "done\n"))
+    check("a permission is given at the older hub", bank("grant", "1/1", "/Incident/0/Contact/0", "org", "4"), (
+        0, "organisation 4 may see Contact /Incident/0/Contact/0 (TLP:GREEN) of incident 1/1, revision 1, for ever\n"))
     check("and shows Contact, Email and Telephone there alone", (classes(1), classes(2)), (7, 4))
-    check("and is withdrawn there", (bank("withdraw", "1/1", "/Incident/0/Contact/0", "org", "4"), classes(1)), ((0, "done\n"), 4))
+    check("and is withdrawn there", (bank("withdraw", "1/1", "/Incident/0/Contact/0", "org", "4"), classes(1)), (
+        (0, "organisation 4 has no permission any more at Contact /Incident/0/Contact/0 (TLP:GREEN) of incident 1/1\n"), 4))
     replaced = ("--any-community", "--no-gates", "--drop-permissions")
     check("a report of the older hub is replaced there", bank("replace", "1/2", "-", "0", *replaced, given=report("second")), (0, "2\n"))
     check("and is for its source alone then", (stranger("list"), bank("list")[1].splitlines()[1]), ((0, "1/1\tr1\torg 2\n2/1\tr1\torg 2\n"), "1/2\tr2\torg 2"))
     check("why is asked of the incident's hub", two.ask(6)("why", "4", "1/2", "/Incident/0")[1].split("\n")[0], "verdict Hidden G0")
     line = json.dumps({"document": json.loads(report("fourth")), "level": 3, "gates": []}).encode()
-    check("post-all posts at the newest", bank("post-all", "-", given=line), (0, "2/2\n"))
+    check("post-all posts at the newest", bank("post-all", "--any-community", "-", given=line), (0, "2/2\n"))
     check("and replaces nothing unless a hub is named", (bank("post-all", "-", "--replace", *replaced[::2], given=line)[0], "name only its hub with --url" in bank.errors), (2, True))
 
 
@@ -208,7 +210,7 @@ def by_watch(two: Two, port: int) -> None:
     check("all that stands at a hub that is named later is news", both(*words), (0, "2/1\tr1\torg 2\n2/2\tr1\torg 2\n"))
     check("and is told once", both(*words), (0, ""))
     check("the command gets hub and number", notes.read_text(), "2/1 2\n2/2 2\n")
-    older = first("post", "-", "3", given=report("late"))
+    older = first("post", "-", "3", "--any-community", given=report("late"))
     check("a report at the older hub is news too", (older, both(*words)), ((0, "3\n"), (0, "1/3\tr1\torg 2\n")))
     words = ("watch", "--rounds", "1", "--state", str(two.folder / "fresh"))
     check("a first watch of both tells nothing that stands there", both(*words), (0, ""))
@@ -229,12 +231,12 @@ def by_circle(two: Two) -> None:
     """What is said of the circle is said to both hubs."""
     admin, check = two.ask(6), two.check
     check("an organisation is added at both", admin("add-org", "New"), (0, "hub 1: 5\nhub 2: 5\n"))
-    check("a community is joined at both", admin("join", "1", "4"), (0, "hub 1: done\nhub 2: done\n"))
+    check("a community is joined at both", admin("join", "1", "4"), (0, "".join(f"hub {hub}: organisation 4 is in community 1\n" for hub in (1, 2))))
     status, text = admin("add-person", "5", "Gus", "reader")
     key = text.split("once: ")[1].split("\n")[0]
     check("a person is added at both, with one key", (status, text), (0, f"hub 1: 8\nhub 1: key, shown this once: {key}\nhub 2: 8\n"))
     check("which both serve", [two.hub.Hub(url, key).me().number for url in two.urls], [8, 8])
-    check("a person is suspended at both", (admin("suspend", "8"), [code_of(two.hub, url, key) for url in two.urls]), ((0, "hub 1: done\nhub 2: done\n"), ["K1", "K1"]))
+    check("a person is suspended at both", (admin("suspend", "8"), [code_of(two.hub, url, key) for url in two.urls]), ((0, "hub 1: person 8 is suspended\nhub 2: person 8 is suspended\n"), ["K1", "K1"]))
     check("what one hub has already is added at the other", (two.ask(6, 1)("add-org", "Half"), admin("add-org", "Half"), admin.errors),
           ((0, "6\n"), (1, "hub 2: 6\n"), "iodef-hub-ask: hub 1: S1: already so\n"))
     two.ask(6, 2)("add-org", "Odd")
@@ -257,7 +259,7 @@ def by_classes(two: Two) -> None:
     check("Hubs: every one that is found", [str(place) for place, _ in hubs.every_found("third", "IncidentID")], ["2/1"])
     check("Hubs: every one that is addressed", list(hubs.every_addressed()), [])
     check("Hubs: view", hubs.view(two.hub.Place(1, 2)).document["Incident"][0]["IncidentID"]["id"], "second")
-    check("Hubs: the newest", hubs.newest.post(report("fifth"), 3), (3,))
+    check("Hubs: the newest", hubs.newest.post(report("fifth"), 3, community=None), (3,))
     for wrong in (lambda: hubs.at(0), lambda: hubs.at(3), lambda: two.hub.Hubs([], "key")):
         try:
             check("Hubs: no such hub", wrong(), "ValueError")
@@ -271,8 +273,8 @@ def by_absence(two: Two) -> None:
     bank, admin = [two.asker(0, KEYS[person], "--tries", "1", IODEF_HUB_URL=words) for person in (2, 6)]
     check("a list tells what the other has, and fails", (bank("list"), bank.errors.startswith("iodef-hub-ask: hub 1: Unreachable")),
           ((3, "2/1\tr1\torg 2\n2/2\tr1\torg 2\n2/3\tr1\torg 2\n"), True))
-    check("a report is posted all the same", bank("post", "-", "3", given=report("sixth")), (0, "2/4\n"))
-    check("a person is suspended at the other all the same", (admin("suspend", "4"), code_of(two.hub, two.urls[1], KEYS[4])), ((3, "hub 2: done\n"), "K1"))
+    check("a report is posted all the same", bank("post", "-", "3", "--any-community", given=report("sixth")), (0, "2/4\n"))
+    check("a person is suspended at the other all the same", (admin("suspend", "4"), code_of(two.hub, two.urls[1], KEYS[4])), ((3, "hub 2: person 4 is suspended\n"), "K1"))
     check("nothing is added at the other, whose numbers would differ", (admin("add-org", "Never"), two.ask(6, 2)("add-org", "Next")), ((3, ""), (0, "9\n")))
     watch = bank("watch", "--rounds", "1")
     check("a watch goes on with the other", (watch[0], watch[1].count("\n"), "hub 1: Unreachable" in bank.errors), (0, 4, True))

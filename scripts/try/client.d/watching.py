@@ -1,6 +1,7 @@
 """What `iodef-hub-ask watch` tells and runs, and what the example mails, against a mail server of its own on loopback."""
 from __future__ import annotations
 
+import copy
 import json
 import os
 import pathlib
@@ -72,7 +73,7 @@ class Watching:
         """A report with a text that no command may get."""
         self.posted += 1
         incident = {"purpose": "reporting", "IncidentID": {"id": f"{secret} {self.posted}", "name": "x"}, "GenerationTime": secret, "Contact": [{"role": secret}]}
-        status, told = self.bank("post", "-", "3", given=json.dumps({"Incident": [incident]}).encode())
+        status, told = self.bank("post", "-", "3", "--any-community", given=json.dumps({"Incident": [incident]}).encode())
         assert status == 0, self.bank.errors
         return int(told)
 
@@ -90,6 +91,8 @@ def by_watching(check: Check, bank: Any, hub: Any, between: Any, folder: pathlib
     newest = watching.post()
     by_command(watching, hub, newest)
     by_state(watching, newest)
+    by_addressed(watching)
+    by_unit(check)
     by_faults(watching, hub, between, away)
     by_mail(watching, port)
 
@@ -161,6 +164,52 @@ def by_state(watching: Watching, newest: int) -> None:
         state.write_text(text)
         check(f"a file that holds {text} is usage", (watching.look("--state", str(state), *words), "was not written by a watch" in watching.bank.errors), ((2, ""), True))
     check("a file that can't be written is told", watching.look("--state", "/nowhere/state", "--from", "0")[0], 2)
+
+
+def by_addressed(watching: Watching) -> None:
+    """Who is addressed late, in an incident of a low number, hears of it."""
+    check, bank, state = watching.check, watching.bank, watching.folder / "addressed"
+    reader = copy.copy(bank)
+    reader.environment = {**bank.environment, "IODEF_HUB_KEY": "stranger-key"}
+    fail = pathlib.Path(f"{watching.notes}.fail")
+
+    def look(*words: str, file: pathlib.Path = state) -> tuple[int, str]:
+        status, told = reader("watch", "--rounds", "1", "--state", str(file), *words)
+        return status, str(told)
+
+    for words in ((), ("--all",)):
+        file = watching.folder / f"addressed{len(words)}"
+        hidden, line = [watching.post() for _ in range(2)], "{}\tr1\torg 2\n"
+        first, second = [line.format(number) for number in hidden]
+        bank("address", str(hidden[1]), "person", "4")
+        check(f"watch --state {' '.join(words)}: what addresses the caller at first isn't news", look(*words, file=file), (0, ""))
+        bank("address", str(hidden[0]), "org", "4")
+        bank("address", str(hidden[0]), "person", "4")
+        check("  but what does so later, though its number is lower", look(*words, file=file), (0, first))
+        check("  and once", look(*words, file=file), (0, ""))
+        check("  the file has the numbers", set(hidden) <= set(json.loads(file.read_text())["addressed"]), True)
+        bank("unaddress", str(hidden[0]), "person", "4")
+        check("  who isn't addressed any more hears nothing", look(*words, file=file), (0, ""))
+        bank("address", str(hidden[0]), "person", "4")
+        fail.touch()
+        check("  addressed again, but the command fails", look(*words, "--exec", str(watching.command), file=file), (0, ""))
+        fail.unlink()
+        check("  so it is told at the next look", look(*words, "--exec", str(watching.command), file=file), (0, first))
+        both = watching.post()
+        bank("address", str(both), "person", "4")
+        check("  what is new and addressed is told once", [look(*words, file=file), look(*words, file=file)], [(0, line.format(both)), (0, "")])
+    state.write_text(json.dumps({"last": both}))
+    check("by a file from before, what addresses the caller is told once", [second in look()[1], look()], [True, (0, "")])
+    state.write_text(json.dumps({"last": both, "addressed": "x"}))
+    check("a file of other numbers is usage", look()[0], 2)
+    check("with --from what addresses the caller below isn't news", look("--from", str(both), file=watching.folder / "from"), (0, ""))
+
+
+def by_unit(check: Check) -> None:
+    unit = (TOP / "deploy" / "systemd" / "iodef-hub-watch@.service").read_text().splitlines()
+    wanted = ("Environment=EVERY=300 WATCH_WORDS=", "EnvironmentFile=/etc/iodef-hub-watch/%i.conf")
+    check("the unit has WATCH_WORDS, empty at first and then by the settings", [line for line in unit if line in wanted], list(wanted))
+    check("  as words of its command", [line.endswith(" $WATCH_WORDS") for line in unit if line.startswith("ExecStart=")], [True])
 
 
 def by_faults(watching: Watching, hub: Any, between: Any, away: str) -> None:

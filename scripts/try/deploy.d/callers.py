@@ -5,9 +5,11 @@
     drip NAME KEY ADDRESSES         20 connections of each address drip a body, while another address asks with the key
     network NAME KEY                20 connections of one IPv6 address drip, while another of its network and one of another ask
     silent NAME ADDRESS COUNT       connections of an address that send nothing: how many are taken
+    half NAME ADDRESS COUNT         heads of an address that never end, until they are closed
+    lists NAME                      searches at once of one key and of one address, with a hub `lists` in the circle's place
     slow NAME SECONDS               a reply that is taken only after some seconds: its bytes, and the status of a request meanwhile
-    hub PORT SECONDS KIND           in a hub's place: it `closes` after each request, answers `F2`, or `long` (40 MB) below /incidents;
-                                    it tells how often it was asked what
+    hub PORT SECONDS KIND           in a hub's place: it `closes` after each request, answers `F2`, `long` (40 MB) below /incidents, or
+                                    `lists` in 3 s; it tells how often it was asked what
 """
 
 import concurrent.futures
@@ -15,6 +17,7 @@ import contextlib
 import json
 import socket
 import ssl
+import subprocess
 import sys
 import threading
 import time
@@ -215,6 +218,50 @@ def silent(name: str, address: str, count: int) -> None:
     print(json.dumps({"taken": len(held), "refused": refused, "other": other}))
 
 
+def half(name: str, address: str, count: int) -> None:
+    caller = Caller(name)
+    held = [caller.connect(address) for _ in range(count)]
+    for place, it in enumerate(held):
+        it.sendall(b"GET /me HT" if place % 2 else f"GET /me HTTP/1.1\r\nHost: {name}\r\nX: ".encode())
+    for it in held:
+        read(it)
+
+
+def curl(name: str, version: str, source: str, key: str, count: int) -> subprocess.Popen[str]:
+    """So many searches at once, with HTTP/2 as streams of one connection."""
+    words = ["curl", "-s", "-Z", "--parallel-max", str(count), "--interface", source, "--cacert", AUTHORITY, "-o", "/dev/null", "-w", "%{http_code}\n"]
+    words += ["--http2"] if version == "http2" else ["--http1.1", "--parallel-immediate"]
+    words += ["-H", f"Authorization: Bearer {key}", f"https://{name}/search?needle=[1-{count}]"]
+    return subprocess.Popen(words, stdout=subprocess.PIPE, text=True)
+
+
+def statuses(*running: subprocess.Popen[str]) -> str:
+    return " ".join(sorted(word for each in running for word in each.communicate()[0].split()))
+
+
+def lists(name: str) -> None:
+    caller, told = Caller(name), dict[str, dict[str, str]]()
+    search = caller.request(b"GET", b"/search?needle=x", b"Authorization: Bearer first\r\n")
+    for place, version in enumerate(("http1", "http2")):
+        first = curl(name, version, f"127.0.8.{place + 1}", "first", 4)
+        time.sleep(0.5)
+        refused = caller.ask(f"127.0.8.{place + 11}", search)
+        begun = time.monotonic()
+        caller.status("127.0.8.9", "other")
+        waited = time.monotonic() - begun
+        of_key = f"{statuses(first)} {status(refused)}"
+        of_address = statuses(*(curl(name, version, f"127.0.8.{place + 21}", f"key{it}", 1) for it in range(4)))
+        told |= {version: {"key": " ".join(sorted(of_key.split())), "address": of_address}}
+    head, _, body = refused.decode().partition("\r\n\r\n")
+    after = [line.partition(": ")[2] for line in head.split("\r\n") if line.lower().startswith("retry-after:")]
+    for _ in range(2):
+        with caller.connect("127.0.8.31") as it:
+            it.sendall(search)
+            time.sleep(0.3)
+    left = [status(caller.ask("127.0.8.32", search)), caller.status("127.0.8.33", "other")]
+    print(json.dumps({**told, "after": after[0], "body": body, "waited": round(waited, 1), "left": " ".join(left)}))
+
+
 def slow(name: str, seconds: float) -> None:
     caller = Caller(name)
     with caller.connect("127.0.6.1", buffer=4096) as it:
@@ -239,6 +286,9 @@ def hub(port: int, seconds: float, kind: str) -> None:
                 request = it.recv(65536)
                 asked.append(b" ".join(request.split(b" ")[:2]).decode())
                 answer = [b"503 Service Unavailable", b'{"code":"F2","detail":"","reason":"no memory"}']
+                if kind == "lists":
+                    time.sleep(3 if b" /search" in request else 0)
+                    answer = [b"200 OK", b"{}"]
                 if kind == "long":
                     answer = [b"200 OK", b"x" * (LONG if b" /incidents" in request else 2)]
                 if kind != "closes":
@@ -258,6 +308,10 @@ def main() -> None:
         network(words[0], words[1])
     elif what == "silent":
         silent(words[0], words[1], int(words[2]))
+    elif what == "half":
+        half(words[0], words[1], int(words[2]))
+    elif what == "lists":
+        lists(words[0])
     elif what == "slow":
         slow(words[0], float(words[1]))
     else:

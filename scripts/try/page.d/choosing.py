@@ -21,11 +21,11 @@ def by_name(trial: Trial) -> None:
         ("group", "phishing", {"group": "1"}, "phishing (sharing group 1)"),
         ("org", "1", {"org": "1"}, "Hub (organisation 1)"),
     ):
-        trial.fill(PERMIT, {"Class": PLACE, "To": [kind, text]})
+        trial.permit({"Class": PLACE, "To": [kind, text]})
         trial.done(f"{kind} {text.strip()} is chosen", f"Permitted {PLACE} to {told}, without an end.")
         last = trial.origin.forms("POST", path)[-1]
         trial.check("and its number is sent", last.items() >= sent.items(), last)
-    trial.fill(DISTRIBUTE, {"Who may get it": "4", "Sharing group": "phishing"})
+    trial.set_whole({"Who may get it": "4", "Sharing group": "phishing"})
     trial.done("a group of a level is chosen", "Set the whole report to level 4, phishing (sharing group 1).")
     offered = trial.browser.run("return [...document.querySelectorAll('#orgs option')].map(one => one.value)")
     trial.check("what is offered has its number", offered == ["Hub (1)", "Bank (2)", "Telco (3)", "University (4)"], offered)
@@ -62,20 +62,20 @@ def strange_names(trial: Trial, number: int) -> None:
     unknown, double = "No organisation of this name is known", "More than one has this name"
     for text, words in (("Nobody", unknown), ("Twin", double), ("telco", unknown)):
         before = trial.sent("POST", path)
-        trial.fill(PERMIT, {"Class": PLACE, "To": ["org", text]})
+        trial.permit({"Class": PLACE, "To": ["org", text]})
         trial.check_has(f"{text} is refused before anything is sent", browser.text("#refused"), words, "Nothing was sent.")
         trial.check("and isn't sent", trial.sent("POST", path) == before)
     for text, sent in (("Twin (3)", "3"), ("3", "3"), ("Te[U+202E]lco (5)", "5"), ("Te\u202elco", "5"), ("x (3)", "1")):
-        trial.fill(PERMIT, {"Class": PLACE, "To": ["org", text]})
+        trial.permit({"Class": PLACE, "To": ["org", text]})
         trial.fill(WITHDRAW, {"Class": PLACE, "From": ["org", sent]})
         last = trial.origin.forms("POST", path)[-1]
         trial.check(f"{text!r} is organisation {sent}", last.get("org") == sent, last)
     trial.origin.names = None
     trial.enter("bank")
     trial.go(f"#incidents/{number}")
-    trial.fill(PERMIT, {"Class": PLACE, "To": ["org", "Telco"]})
+    trial.permit({"Class": PLACE, "To": ["org", "Telco"]})
     trial.check_has("without names a name is nobody's", browser.text("#refused"), "No organisation of this name is known")
-    trial.fill(PERMIT, {"Class": PLACE, "To": ["org", "3"]})
+    trial.permit({"Class": PLACE, "To": ["org", "3"]})
     trial.done("and a number does", "organisation 3")
     trial.origin.names = json.dumps(NAMES).encode()
 
@@ -88,7 +88,7 @@ def in_lines(trial: Trial, folder: pathlib.Path) -> None:
     browser.save_into(into)
     number = post_of_bank(trial, "in lines")
     browser.cdp("Emulation.setTimezoneOverride", timezoneId="Europe/Berlin")
-    trial.fill(PERMIT, {"Class": PLACE, "To": ["org", "Telco"], "Up to": "2030-07-01T18:00"})
+    trial.permit({"Class": PLACE, "To": ["org", "Telco"], "Up to": "2030-07-01T18:00"})
     trial.done("a class is permitted up to a moment", "until 2030-07-01 18:00 (UTC+02:00)")
     permitted = ["Ada (person 2)", PERMIT, f"incident {number} {PLACE}", "Telco (organisation 3)", "2030-07-01T18:00:00+02:00"]
     browser.run("[...document.querySelectorAll('#done button')].find(one => one.textContent === 'Copy as a line').click()")
@@ -96,9 +96,9 @@ def in_lines(trial: Trial, folder: pathlib.Path) -> None:
     line = browser.copied().rstrip("\n").split("\t")
     trial.check("it has who, what, where, for whom and until when", line[1:] == permitted, line)
     browser.cdp("Emulation.setTimezoneOverride", timezoneId="")
-    trial.fill(PERMIT, {"To": ["person", "Cleo"], "Up to": ""})
+    trial.permit({"To": ["person", "Cleo"]})
     trial.fill(WITHDRAW, {"Class": PLACE, "From": ["org", "Telco"]})
-    trial.fill(DISTRIBUTE, {"Who may get it": "1"})
+    trial.set_whole({"Who may get it": "1"})
     trial.fill("Address somebody", {"To": ["org", "University"]})
     trial.go("#groups")
     trial.fill("New group", {"Name": "a\u202eb", "To whom": "one\ttwo"})

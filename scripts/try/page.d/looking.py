@@ -4,16 +4,15 @@ import json
 import pathlib
 
 from saving import saved
-from trial import EXAMPLES, REPLACE, Trial, incident, report
-from writing import POST, marked_by
+from trial import EXAMPLES, FORM, POST, REPLACE, Trial, incident, report
+from writing import marked_by
 
 LOOK = "What is about to be posted"
-FIELDS: dict[str, object] = {"Who may get it": "3", "Levels of single": "", "or its text": ""}
+FIELDS: dict[str, object] = {"any community": True, "Who may get it": "3", "Levels of single": "", "or its text": ""}
 
 # Puts values into the form of this title as FILL does, and doesn't hand it in; opens what shows the report.
-PUT = """
+PUT = f"const form = {FORM};" """
 const [title, values] = arguments;
-const form = [...document.querySelectorAll('main form')].find(one => one.querySelector('button.main')?.textContent === title);
 for (let above = form; above; above = above.parentElement) if (above.tagName === 'DETAILS') above.open = true;
 for (const [words, value] of Object.entries(values)) {
   const label = [...form.querySelectorAll('label')].find(one => one.textContent.trim().startsWith(words));
@@ -112,14 +111,15 @@ def levels(trial: Trial) -> None:
     trial.check("a group that is chosen by name", {row[3] for row in rows} == {"level 4, phishing (sharing group 1)"}, rows[:2])
     asks(trial, "with a group that is chosen by name", "4 --group 1")
     trial.picture("look")
-    show(trial, POST, {"or its text": phishing, "Community": "payments", "Levels of single": "0:0:/Incident/0/it's"})
+    show(trial, POST, {"or its text": phishing, "community N": True, "Community": "payments", "Levels of single": "0:0:/Incident/0/it's"})
     asks(trial, "with a community, and a place in quotes", "3 --community 1 --gate '0:0:/Incident/0/it'\\''s'")
-    show(trial, POST, {"Community": ""})
+    show(trial, POST, {"or its text": phishing, "community N": True, "Community": ""})
+    asks(trial, "with a community that isn't given yet", "3 --community N")
 
 
 def asks(trial: Trial, what: str, words: str) -> None:
     told = trial.browser.run(COMMAND)
-    trial.check(f"the command that asks the engine, {what}", told == f"iodef-hub-ask preview report.json {words} --for partner", told)
+    trial.check(f"the command that asks the engine, {what}", told == f"iodef-hub-ask preview report.json {words} --for everyone", told)
 
 
 def wrongs(trial: Trial) -> None:

@@ -5,8 +5,8 @@ import pathlib
 
 from circle import Circle
 from looking import PUT
-from trial import EXAMPLES, NAMES, Trial, report
-from writing import MAKE, POST, WRITTEN
+from trial import EXAMPLES, NAMES, POST, Trial, report
+from writing import MAKE, WRITTEN
 
 FOLDED = ".tree > li > details > ul > li:nth-child(-n + 3) > details"
 
@@ -49,11 +49,11 @@ def take(trial: Trial) -> None:
     trial.row_is_read(1)
     trial.go("#post")
     trial.fill(MAKE, WRITTEN | {"Description": "Mails in the name of a payroll provider lead to a page that asks for passwords."})
-    browser.run(PUT, POST, {"Who may get it": "3", "Levels of single": "4:1:/Incident/0/EventData/0"})
+    browser.run(PUT, POST, {"any community": True, "Who may get it": "3", "Levels of single": "4:1:/Incident/0/EventData/0"})
     browser.click("#done button")
     browser.wait("document.querySelectorAll('#pane .marks tbody tr').length > 10")
     browser.size(1160, 820)
-    browser.run("document.querySelector('#pane form details').scrollIntoView({ block: 'center' })")
+    browser.run("document.querySelector('.side').scrollTop = 0; document.querySelector('#pane form details').scrollIntoView({ block: 'center' })")
     if trial.pictures is not None:
         browser.picture(trial.pictures / "page-post.png", is_whole=False)
     browser.size(1280, 900)

@@ -91,7 +91,7 @@ def changing_at_each(trial: Trial) -> None:
         path = f"{'/2' if place == 2 else ''}/incidents/1/grant"
         before = {each: trial.sent("POST", each) for each in (path, f"{others}/incidents/1/grant")}
         trial.go("#incidents/1")
-        trial.fill(PERMIT, {"Class": PLACE, "To": ["person", "Cleo"]})
+        trial.permit({"Class": PLACE, "To": ["person", "Cleo"]})
         trial.done(f"a class of hub {place} is permitted", f"Permitted {PLACE}")
         after = {each: trial.sent("POST", each) - count for each, count in before.items()}
         trial.check("at that hub alone", list(after.values()) == [1, 0], after)

@@ -17,10 +17,12 @@ NAMES = {
     "groups": {},
 }
 
-# Fills the form whose last button has this title, by the words that its labels begin with, and hands it in.
-FILL = """
+# The form of this title.
+FORM = "[...document.querySelectorAll('main form')].find(one => [one.ariaLabel, one.querySelector('button.main')?.textContent].includes(arguments[0]))"
+
+# Fills the form of this title, by the words that its labels begin with, and hands it in.
+FILL = f"const form = {FORM};" """
 const [title, values] = arguments;
-const form = [...document.querySelectorAll('main form')].find(one => one.querySelector('button.main')?.textContent === title);
 for (let above = form; above; above = above.parentElement) if (above.tagName === 'DETAILS') above.open = true;
 const put = (control, value) => {
   if (['checkbox', 'radio'].includes(control.type)) control.checked = value; else control.value = value;
@@ -37,9 +39,8 @@ for (const [words, value] of Object.entries(values)) {
 form.requestSubmit();
 """
 
-# The form whose last button has this title: what its controls hold, by the words that its labels begin with.
-HELD = """
-const form = [...document.querySelectorAll('main form')].find(one => one.querySelector('button.main')?.textContent === arguments[0]);
+# What the controls of the form of this title hold, by the words that its labels begin with.
+HELD = f"const form = {FORM};" """
 const held = {};
 for (const label of form.querySelectorAll('label, legend')) {
   const controls = label.tagName === 'LEGEND' ? [...label.parentNode.querySelectorAll('select, input')] : [label.control];
@@ -48,6 +49,9 @@ for (const label of form.querySelectorAll('label, legend')) {
 }
 return held;
 """
+
+# Says in the form of this title that the revision that is shown was looked at.
+TAKE_UP = f"[...({FORM}).querySelectorAll('p.wrong button')].find(one => one.checkVisibility()).click()"
 
 # Elements and attributes that a served text could only have brought in as markup.
 FOREIGN = """
@@ -63,7 +67,7 @@ return found;
 
 # The titles of forms
 PERMIT, WITHDRAW, DISTRIBUTE = "Permit a class to somebody", "Withdraw a permission", "Set a gate"
-REPLACE = "Replace the report"
+REPLACE, POST = "Replace the report", "Post a report"
 
 
 def incident(name: str, **members: object) -> dict[str, object]:
@@ -122,7 +126,8 @@ class Trial:
         self.browser.run(
             "document.querySelector('#search details').open = false;"
             "document.getElementById('report').classList.remove('places');"
-            "for (const details of document.querySelectorAll(arguments[0])) details.open = false; scrollTo(0, 0);",
+            "for (const details of document.querySelectorAll(arguments[0])) details.open = false; scrollTo(0, 0);"
+            "document.querySelector('.side').scrollTop = 0;",
             folded,
         )
         self.browser.picture(self.pictures / f"{name}.png", is_whole=False)
@@ -147,6 +152,28 @@ class Trial:
     def fill(self, title: str, values: typing.Mapping[str, object]) -> None:
         self.browser.run(FILL, title, values)
         self.browser.settle()
+
+    def put(self, title: str, values: typing.Mapping[str, object]) -> None:
+        """Fills a form, and doesn't hand it in."""
+        self.browser.run(FILL.replace("form.requestSubmit();", ""), title, values)
+
+    def says(self, title: str) -> str:
+        """What the form of this title says that its button is about to do, and the button's words."""
+        parts = self.browser.run(f"return [...({FORM}).querySelectorAll('.says, button.main')].map(one => one.textContent)", title)
+        return " | ".join(parts)
+
+    def permit(self, values: typing.Mapping[str, object]) -> None:
+        """Permits a class, without an end where none is given."""
+        self.fill(PERMIT, {"to a moment" if "Up to" in values else "without an end": True} | values)
+
+    def set_whole(self, values: typing.Mapping[str, object]) -> None:
+        """Sets the gate of the whole report, which is confirmed once its level is chosen."""
+        self.fill(DISTRIBUTE, {"the whole report": True} | values)
+        self.fill(DISTRIBUTE, {"Yes, the whole report": True})
+
+    def post(self, values: typing.Mapping[str, object]) -> None:
+        """Posts a report, for any community where none is given."""
+        self.fill(POST, {"community N" if "Community" in values else "any community": True} | values)
 
     def row_is_read(self, number: int) -> bool:
         """Waits until the row of an incident tells more than numbers."""

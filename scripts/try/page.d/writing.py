@@ -6,9 +6,9 @@ import re
 import subprocess
 
 from saving import saved
-from trial import Trial
+from trial import POST, Trial
 
-MAKE, POST = "Make the report", "Post a report"
+MAKE = "Make the report"
 VALUES = {
     "ipv4-addr": ["192.0.2.7", "198.51.100.8"],
     "ipv4-net": ["192.0.2.0/24"],
@@ -98,9 +98,9 @@ def writing(trial: Trial, folder: pathlib.Path) -> None:
     status, lines = marked_by(trial.circle.program, text)
     told = {path: f"{label} {handling}" for path, label, handling, _ in lines}
     trial.check("the program's own mark reads its labels so", status == 0 and told.items() >= MARKED.items(), lines)
-    command = browser.run("return document.querySelector('#pane pre:not(.preview)').textContent")
+    command = browser.run("return document.querySelector('#pane > div > details pre').textContent")
     trial.check_has("the page tells the command that does", command, "iodef-hub mark < report.json\n")
-    trial.fill(POST, {"Who may get it": "3"})
+    trial.post({"Who may get it": "3"})
     trial.done("it is posted", "Posted as incident ")
     number = browser.run("return document.querySelector('#done a').hash").split("/")[1]
     view = trial.circle.ask("bank", "GET", f"/incidents/{number}")

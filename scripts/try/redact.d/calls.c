@@ -7,9 +7,9 @@
  *     calls stack N       answers all cases in a thread with a stack of N bytes
  *     calls null          passes NULL
  *     calls refuse        answers each case while the first, second, .. piece of memory is refused, and all behind it; wanted for
- *                         it are -DREFUSE and -Wl,--wrap=malloc,--wrap=realloc,--wrap=free
+ *                         it are -DREFUSE and -Wl,--wrap=malloc,--wrap=realloc,--wrap=free. Behind ALL_PIECES some are tried alone
  *     calls growths       answers each case while the first, second, .. growth of the heap alone is refused, and once more behind
- *                         it; wanted is the heap of scripts/refuse-growth.d/refuse.c, preloaded
+ *                         it; wanted is the heap of scripts/refuse-growth.d/refuse.c, preloaded. Behind ALL_PIECES likewise
  */
 #include "iodef_redact.h"
 
@@ -19,19 +19,33 @@
 #include <stdlib.h>
 #include <string.h>
 
-enum { FILL = 0xA5, ALL_LENGTHS = 3000 };
+enum { FILL = 0xA5, ALL_LENGTHS = 3000, ALL_PIECES = 3000 };
 
 typedef struct {
     uint8_t *start; /* of a piece of its own, with nothing behind it; NULL where it is empty */
     size_t length;
 } Bytes;
 
-typedef enum { TEXT, REPORT, FAULTS, EXCERPT, DOCUMENT, FINDS, FINDS_IN_CLASS, EXPLAIN, MARKS } Verb;
+typedef enum {
+    TEXT,
+    REPORT,
+    FAULTS,
+    EXCERPT, /* the calls, from here on */
+    READS,
+    DOCUMENT,
+    WHOLE,
+    WHOLE_WITH_ID,
+    FAULT,
+    FINDS,
+    FINDS_IN_CLASS,
+    EXPLAIN,
+    MARKS
+} Verb;
 
 typedef struct {
     Verb verb;
-    Bytes report, view, word, name;
-    uint32_t incident;
+    Bytes report, view, word, name; /* the name of a class, or that of an identifier */
+    uint32_t number; /* the place of an Incident, or whether the moment of the view is wanted */
     char *text; /* a line that is printed as it is */
 } Case;
 
@@ -46,6 +60,9 @@ static void fail(const char *what, size_t place) {
 }
 
 /* ---- memory that is refused ---- */
+
+/* The piece that is refused next: each up to ALL_PIECES, and then some, as a long case asks for many thousands. */
+static size_t next_piece(size_t piece) { return piece + (piece < ALL_PIECES ? 1 : piece / 16); }
 
 #ifdef REFUSE
 static long allowed = -1, taken = 0, live = 0; /* allowed: how many pieces more are given, or -1 */
@@ -95,30 +112,55 @@ static Bytes bytes_of(const char *from, size_t length) {
 
 static int is_word(const char *line, size_t length, const char *word) { return strlen(word) == length && !strncmp(line, word, length); }
 
+static Verb verb_of(const char *line, size_t length) {
+    static const struct {
+        const char *word;
+        Verb verb;
+    } verbs[] = {{"report", REPORT},   {"faults", FAULTS}, {"excerpt", EXCERPT}, {"reads", READS},     {"document", DOCUMENT}, {"whole", WHOLE},
+                 {"fault", FAULT},     {"faultd", FAULT},  {"finds", FINDS},     {"explain", EXPLAIN}, {"marks", MARKS}};
+    for (size_t at = 0; at < sizeof verbs / sizeof *verbs; at++)
+        if (is_word(line, length, verbs[at].word)) return verbs[at].verb;
+    return TEXT;
+}
+
+/* The parts of a line behind its verb: words, and the rest. A word ends at a space, and that of a search at @ too. */
+static void part(Case *made, const char *rest) {
+    size_t word = strcspn(rest, " "), name = strcspn(rest, " @");
+    const char *behind = rest[word] ? rest + word + 1 : "";
+    if (made->verb == FINDS && name < word) {
+        made->verb = FINDS_IN_CLASS;
+        made->name = bytes_of(rest + name + 1, word - name - 1);
+        word = name;
+    }
+    if (made->verb == WHOLE) {
+        size_t id = strcspn(behind, " ");
+        if (!is_word(behind, id, "-")) {
+            made->verb = WHOLE_WITH_ID;
+            made->name = bytes_of(rest, word);
+            made->word = bytes_of(behind, id);
+        }
+        behind += behind[id] ? id + 1 : id;
+    } else {
+        made->word = bytes_of(rest, word);
+    }
+    made->view = bytes_of(behind, strlen(behind));
+}
+
 /* What a line asks. A report is for the lines behind it too, and is freed with its own. */
 static Case case_of(const char *line, Bytes *report) {
-    Case made = {0, {NULL, 0}, {NULL, 0}, {NULL, 0}, {NULL, 0}, 0, NULL};
+    Case made = {TEXT, {NULL, 0}, {NULL, 0}, {NULL, 0}, {NULL, 0}, 0, NULL};
     size_t verb = strcspn(line, " ");
     const char *rest = line[verb] ? line + verb + 1 : "";
-    size_t word = strcspn(rest, " "), name = strcspn(rest, " @");
-    const char *view = rest[word] ? rest + word + 1 : "";
-    made.verb = is_word(line, verb, "report")     ? REPORT
-                : is_word(line, verb, "excerpt")  ? EXCERPT
-                : is_word(line, verb, "document") ? DOCUMENT
-                : is_word(line, verb, "finds")    ? (name < word ? FINDS_IN_CLASS : FINDS)
-                : is_word(line, verb, "explain")  ? EXPLAIN
-                : is_word(line, verb, "marks")    ? MARKS
-                : is_word(line, verb, "faults")   ? FAULTS
-                                                  : TEXT;
-    if (made.verb == REPORT) *report = bytes_of(rest, strlen(rest));
-    if (made.verb == EXCERPT || made.verb == DOCUMENT) made.view = bytes_of(rest, strlen(rest));
-    if (made.verb == MARKS) made.incident = (uint32_t)strtoul(rest, NULL, 10);
-    if (made.verb == FINDS || made.verb == FINDS_IN_CLASS || made.verb == EXPLAIN) {
-        made.view = bytes_of(view, strlen(view));
-        made.word = bytes_of(rest, made.verb == FINDS_IN_CLASS ? name : word);
+    made.verb = verb_of(line, verb);
+    switch (made.verb) {
+        case TEXT: made.text = strdup(line); break;
+        case REPORT: *report = bytes_of(rest, strlen(rest)); break;
+        case FAULTS: break;
+        case MARKS: made.number = (uint32_t)strtoul(rest, NULL, 10); break;
+        case FAULT: made.number = (uint32_t)is_word(line, verb, "faultd"); /* fallthrough */
+        case EXCERPT: case READS: case DOCUMENT: made.view = bytes_of(rest, strlen(rest)); break;
+        default: part(&made, rest);
     }
-    if (made.verb == FINDS_IN_CLASS) made.name = bytes_of(rest + name + 1, word - name - 1);
-    if (made.verb == TEXT) made.text = strdup(line);
     made.report = *report;
     return made;
 }
@@ -159,14 +201,19 @@ static int asks(const Case *c) { return c->verb >= EXCERPT; }
 static uint32_t call(const Case *c, uint8_t *out, size_t room, size_t *needed) {
     Bytes r = c->report, v = c->view, w = c->word, n = c->name;
     switch (c->verb) {
-        case EXCERPT: return iodef_redact_excerpt(r.start, r.length, v.start, v.length, out, room, needed);
+        case EXCERPT: case READS: return iodef_redact_excerpt(r.start, r.length, v.start, v.length, out, room, needed);
         case DOCUMENT: return iodef_redact_document(r.start, r.length, v.start, v.length, out, room, needed);
+        case WHOLE: return iodef_redact_whole(r.start, r.length, v.start, v.length, out, room, needed);
+        case WHOLE_WITH_ID:
+            return iodef_redact_whole_with_id(r.start, r.length, v.start, v.length, n.start, n.length, w.start, w.length, out, room,
+                                              needed);
+        case FAULT: return iodef_redact_first_fault(r.start, r.length, v.start, v.length, c->number, out, room, needed);
         case FINDS: return iodef_redact_finds(r.start, r.length, v.start, v.length, w.start, w.length, out, room, needed);
         case FINDS_IN_CLASS:
             return iodef_redact_finds_in_class(r.start, r.length, v.start, v.length, w.start, w.length, n.start, n.length, out, room,
                                                needed);
         case EXPLAIN: return iodef_redact_explain(r.start, r.length, v.start, v.length, w.start, w.length, out, room, needed);
-        default: return iodef_redact_marks(r.start, r.length, c->incident, out, room, needed);
+        default: return iodef_redact_marks(r.start, r.length, c->number, out, room, needed);
     }
 }
 
@@ -220,9 +267,21 @@ static void print_faults(void) {
             printf("%u %s: %s\n", (unsigned)number, iodef_redact_fault_name(number), iodef_redact_fault_reason(number));
 }
 
-static void print(const Answer *answer) {
+/* Whether an excerpt says that its document is a report again: by its last such member, as behind that are texts alone. */
+static int is_readable(const Answer *answer) {
+    static const char member[] = ",\"readable\":";
+    size_t length = sizeof member - 1, at = answer->text.length - length;
+    while (at && memcmp(answer->text.start + at, member, length)) at--;
+    return answer->text.start[at + length] == 't';
+}
+
+static void print(const Case *c, const Answer *answer) {
     if (answer->number) {
         printf("%u %s\n", (unsigned)answer->number, iodef_redact_fault_name(answer->number));
+        return;
+    }
+    if (c->verb == READS) {
+        puts(is_readable(answer) ? "true" : "false");
         return;
     }
     fwrite(answer->text.start, 1, answer->text.length, stdout);
@@ -236,7 +295,7 @@ static void by_rooms(void (*in_rooms)(const Case *, const Answer *, size_t)) {
         if (!asks(&cases[at])) continue;
         Answer answer = answer_of(&cases[at], at + 1);
         in_rooms(&cases[at], &answer, at + 1);
-        print(&answer);
+        print(&cases[at], &answer);
         free(answer.text.start);
     }
 }
@@ -288,12 +347,15 @@ static void by_threads(size_t threads, size_t stack) {
 static void by_null(void) {
     uint8_t out[4] = {FILL, FILL, FILL, FILL};
     size_t needed, *none = NULL;
-    const char *view = "{\"clearance\":\"GREEN\"}";
+    const char *view = "{\"clearance\":\"GREEN\"}", *dated = "{\"clearance\":\"GREEN\",\"now\":\"2026-01-01T00:00:00Z\"}";
     size_t length = strlen(view), huge = (size_t)PTRDIFF_MAX + 1;
     /* NULL with length 0 is an empty text: no report, and no view */
     WANTED(iodef_redact_excerpt(NULL, 0, view, length, out, 4, &needed), IODEF_REDACT_NOT_JSON);
     WANTED(iodef_redact_excerpt(NULL, 0, NULL, 0, NULL, 0, &needed), IODEF_REDACT_VIEW_NOT_JSON);
     WANTED(iodef_redact_document(NULL, 0, NULL, 0, NULL, 0, &needed), IODEF_REDACT_VIEW_NOT_JSON);
+    WANTED(iodef_redact_whole(NULL, 0, view, length, NULL, 0, &needed), IODEF_REDACT_MISSING_MEMBER);
+    WANTED(iodef_redact_whole_with_id(NULL, 0, dated, strlen(dated), NULL, 0, NULL, 0, NULL, 0, &needed), IODEF_REDACT_NOT_JSON);
+    WANTED(iodef_redact_first_fault(NULL, 0, view, length, 0, NULL, 0, &needed), IODEF_REDACT_DONE);
     WANTED(iodef_redact_finds(NULL, 0, view, length, NULL, 0, NULL, 0, &needed), IODEF_REDACT_NOT_JSON);
     WANTED(iodef_redact_finds_in_class(NULL, 0, view, length, NULL, 0, NULL, 0, NULL, 0, &needed), IODEF_REDACT_NOT_JSON);
     WANTED(iodef_redact_explain(NULL, 0, view, length, NULL, 0, NULL, 0, &needed), IODEF_REDACT_NOT_JSON);
@@ -306,6 +368,12 @@ static void by_null(void) {
     WANTED(iodef_redact_excerpt("", 0, view, length, out, huge, &needed), IODEF_REDACT_NULL_POINTER);
     WANTED(iodef_redact_document(NULL, 1, view, length, out, 4, &needed), IODEF_REDACT_NULL_POINTER);
     WANTED(iodef_redact_document("", 0, NULL, 1, out, 4, &needed), IODEF_REDACT_NULL_POINTER);
+    WANTED(iodef_redact_whole(NULL, 1, view, length, out, 4, &needed), IODEF_REDACT_NULL_POINTER);
+    WANTED(iodef_redact_whole("", 0, NULL, 1, out, 4, &needed), IODEF_REDACT_NULL_POINTER);
+    WANTED(iodef_redact_whole_with_id("", 0, view, length, NULL, 1, "", 0, out, 4, &needed), IODEF_REDACT_NULL_POINTER);
+    WANTED(iodef_redact_whole_with_id("", 0, view, length, "", 0, NULL, 1, out, 4, &needed), IODEF_REDACT_NULL_POINTER);
+    WANTED(iodef_redact_first_fault(NULL, 1, view, length, 0, out, 4, &needed), IODEF_REDACT_NULL_POINTER);
+    WANTED(iodef_redact_first_fault("", 0, NULL, 1, 1, out, 4, &needed), IODEF_REDACT_NULL_POINTER);
     WANTED(iodef_redact_finds("", 0, view, length, NULL, 1, out, 4, &needed), IODEF_REDACT_NULL_POINTER);
     WANTED(iodef_redact_finds_in_class("", 0, view, length, "", 0, NULL, 1, out, 4, &needed), IODEF_REDACT_NULL_POINTER);
     WANTED(iodef_redact_explain("", 0, view, length, NULL, 1, out, 4, &needed), IODEF_REDACT_NULL_POINTER);
@@ -315,7 +383,7 @@ static void by_null(void) {
     for (int at = 0; at < 4; at++)
         if (out[at] != FILL) fail("a byte was written on a fault", 0);
     if (strcmp(iodef_redact_fault_name(IODEF_REDACT_NULL_POINTER), "NullPointer") || *iodef_redact_fault_name(0) ||
-        *iodef_redact_fault_name(24) || *iodef_redact_fault_reason(0))
+        *iodef_redact_fault_name(26) || *iodef_redact_fault_reason(0))
         fail("the table of faults", 0);
     puts("NULL");
 }
@@ -329,7 +397,7 @@ static void by_refusals(void) {
         if (!asks(&cases[at])) continue;
         Answer answer = answer_of(&cases[at], at + 1);
         uint8_t *out = malloc(answer.text.length + 1);
-        for (long given = 0;; given++) {
+        for (long given = 0;; given = (long)next_piece((size_t)given)) {
             long before = live;
             taken = 0;
             allowed = given;
@@ -379,17 +447,20 @@ static long refusals_of(const Case *c, size_t place) {
     Answer answer = answer_of(c, place);
     uint8_t *out = malloc(answer.text.length + 1);
     size_t growth = 0;
+    long refused = 0;
     for (int is_hit = 1; is_hit;) {
-        arm(++growth);
+        growth = next_piece(growth);
+        arm(growth);
         uint32_t number = call_in(c, answer.text.length + 1, answer.text.length, out, place);
         is_hit = has_refused();
+        refused += is_hit;
         arm(0);
         if (number != (is_hit ? IODEF_REDACT_NO_MEMORY : answer.number)) fail("a growth was refused, and another number told", place);
         call_and_compare(c, &answer, out, place);
     }
     free(out);
     free(answer.text.start);
-    return (long)growth - 1;
+    return refused;
 }
 
 static void by_growths(void) {

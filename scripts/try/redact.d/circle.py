@@ -206,7 +206,7 @@ class Circle:
         paths = [[path for path, _ in classes_of({**report, "Incident": [one]})] for one in report["Incident"]]
         gates = [[self.gate(path, source) for path in self.random.sample(each, min(len(each), self.random.choice((0, 0, 1, 2, 3))))] for each in paths]
         sent = [iodef_hub.Gate(each["level"], each.get("group", 0), each["path"]) for each in gates[0]] if len(paths) == 1 else []
-        numbers = hub.post(text, root["level"], root.get("group"), sent, community)
+        numbers = hub.post(text, root["level"], root.get("group"), sent, community=community)
         made = []
         for place, number in enumerate(numbers):
             one = Posted(number, text, place, source, community, [root, *gates[place]], self.permissions(paths[place], source), self.recipients())

@@ -14,6 +14,10 @@ from typing import Any
 
 HANDLINGS = ("CLEAR", "GREEN", "AMBER", "STRICT", "RED")
 WORDS = ("public", "white", "partner", "green", "need-to-know", "amber", "private", "red", "default")
+CLEARANCES = {
+    "CLEAR": "CLEAR", "GREEN": "GREEN", "AMBER": "AMBER", "STRICT": "STRICT", "RED": "RED", "TLP:CLEAR": "CLEAR", "TLP:WHITE": "CLEAR",
+    "TLP:GREEN": "GREEN", "TLP:AMBER": "AMBER", "TLP:AMBER+STRICT": "STRICT", "TLP:RED": "RED",
+}
 TLP = ("TLP:CLEAR", "TLP:WHITE", "TLP:GREEN", "TLP:AMBER", "TLP:AMBER+STRICT", "TLP:RED", "tlp:amber", "Tlp:Green", " TLP:CLEAR", "own")
 NAMES = ("EventData", "Indicator", "Assessment", "History", "Method", "AdditionalData", "Node", "Address", "a/b", "a~b", "é", "", "x y", '"', "withheld")
 TEXTS = ("x", "src.example", "ä@src.example", "198.51.100.23", "two\nlines", 'a "quoted" \\', "\u0000\u001f\u007f", "\U0001f600", "", "TLP:RED", "x" * 90)
@@ -22,7 +26,13 @@ FLAGS = ("source", "person", "nominated", "addressed", "client", "community", "p
 LISTS = ("groups", "active_groups", "communities")
 GRANTEES = ("person", "org", "community", "group")
 MOMENTS = ("2026-01-01T00:00:00Z", "2026-06-01T00:00:00Z", "2026-06-01T02:00:00+02:00", "2026-05-31T23:59:59Z", "9999-12-30T22:00:00Z", "2026-06-30T23:59:60Z")
+# Moments, but not as RFC 3339 writes them, or not of a whole second.
+BAD_MOMENTS = (
+    "soon", "", "2026-01-01", "2026-01-01T00:00:00", "2026-01-01T00:00:00.5Z", "2026-02-30T00:00:00Z", "20260101T000000Z", "2026-01-01T00Z",
+    "2026-01-01T00:00Z", "2026-01-01T00:00:00+02", "2026-01-01T00:00:00+25:59", "+002026-01-01T00:00:00Z", "2026-01-01T00:00:00+01:00[Europe/Vienna]",
+)
 MISFITS: tuple[Any, ...] = (None, True, "", "x", -1, 1.5, 2**32, [], {}, [1], {"a": 1}, 4, 0)
+IDENTIFIERS = ((b"", None), (b"7", b"x.example"), (b"an id", b""), (b"", "ä".encode()), (b"\xff", b"x"), (b"7", b"\xfe"))  # id and name
 REQUIRED = ("Contact", "GenerationTime", "IncidentID", "purpose")
 
 Document = dict[str, Any]
@@ -30,21 +40,28 @@ Document = dict[str, Any]
 
 @dataclass(frozen=True)
 class Asked:
-    """A call and what it is asked of: `word` is the needle or the pointer. `sound` is the view where it is a sound one."""
+    """A call and what it is asked of: `word` is the needle, the pointer or the id of an identifier, and `name` that of a class or of
+    the identifier. `sound` is the view where it is a sound one."""
 
     verb: str
     report: bytes
     view: bytes = b""
     word: bytes = b""
-    class_name: bytes | None = None
+    name: bytes | None = None
     incident: int = 0
     sound: Document | None = None
 
     def lines(self) -> str:
         """The report's line and the call's, as the table of redaction_cases writes them."""
-        word = quoted(self.word) + ("" if self.class_name is None else f"@{quoted(self.class_name)}")
-        rest = {"marks": str(self.incident), "finds": f"{word} {quoted(self.view)}", "explain": f"{word} {quoted(self.view)}"}
-        return f"report {quoted(self.report)}\n{self.verb} {rest.get(self.verb, quoted(self.view))}\n"
+        return f"report {quoted(self.report)}\n{self.verb} {self.words()}{str(self.incident) if self.verb == 'marks' else quoted(self.view)}\n"
+
+    def words(self) -> str:
+        """What is between the verb and the view."""
+        if self.verb == "whole":
+            return "- - " if self.name is None else f"{quoted(self.name)} {quoted(self.word)} "
+        if self.verb not in ("finds", "explain"):
+            return ""
+        return quoted(self.word) + ("" if self.name is None else f"@{quoted(self.name)}") + " "
 
 
 def quoted(text: bytes) -> str:
@@ -187,29 +204,34 @@ class Maker:
 
     def gates(self, paths: list[str]) -> list[Document]:
         made = []
-        for path in ["", *self.random.choices(paths, k=self.random.choice((0, 0, 1, 2, 4)))]:
+        for path in ["", *self.random.sample(paths, min(len(paths), self.random.choice((0, 0, 1, 2, 4))))]:
             level = self.random.choice((3, 3, 3, 1, 2, 4, 5 if path else 3, 0))
             made.append({"path": path, "level": level, **({"group": self.number()} if level == 4 else {})})
         self.random.shuffle(made)
         return made
 
     def permissions(self, paths: list[str]) -> list[Document]:
-        made = []
+        """At most one for a path and a grantee."""
+        made = {}
         for path in self.random.choices(paths, k=self.random.choice((0, 0, 1, 2, 5))):
             until = {"until": self.random.choice(MOMENTS)} if self.is_so(0.4) else {}
-            made.append({"path": path, self.random.choice(GRANTEES): self.number(), **until})
-        return made
+            kind, number = self.random.choice(GRANTEES), self.number()
+            made[path, kind, number] = {"path": path, kind: number, **until}
+        return list(made.values())
 
-    def reader(self, source: int) -> Document:
+    def reader(self, case: Document) -> Document:
         made: Document = {"who": self.number(), "org": self.number()}
         for name in FLAGS[1:]:
             if self.is_so(0.35):
                 made[name] = self.is_so(0.85)
-        if made["org"] == source or self.is_so(0.05):
+        if "community" not in case:
+            made["peer"] = made.get("community", False)
+        if made["org"] == case["source"]:
             made["source"] = True
         for name in LISTS:
             if self.is_so(0.6):
-                made[name] = self.random.sample(range(1, 5), self.random.randrange(4))
+                numbers = made.get("groups", []) if name == "active_groups" else range(1, 5)
+                made[name] = self.random.sample(numbers, self.random.randrange(min(len(numbers), 3) + 1))
         if self.is_so(0.4):
             made["arrangement"] = self.random.choice(HANDLINGS)
         return made
@@ -218,7 +240,8 @@ class Maker:
         """A sound view, of the Incident at a place, whose classes have these paths."""
         at = {"incident": place} if place or self.is_so(0.2) else {}
         if self.is_so(0.25):
-            return {"clearance": self.random.choice(HANDLINGS), **at}
+            now = {"now": self.random.choice(MOMENTS)} if self.is_so(0.3) else {}
+            return {"clearance": self.random.choice(tuple(CLEARANCES)), **at, **now}
         source, permissions = self.number(), self.permissions(paths)
         case: Document = {"source": source, "gates": self.gates(paths)}
         if permissions or self.is_so(0.1):
@@ -227,7 +250,7 @@ class Maker:
             case["community"] = self.number()
         ends = any("until" in each for each in permissions)
         now = {"now": self.random.choice(MOMENTS)} if ends or self.is_so(0.1) else {}
-        return {**now, **at, "case": case, "reader": self.reader(source)}
+        return {**now, **at, "case": case, "reader": self.reader(case)}
 
     def places(self, value: Any) -> Iterator[tuple[Any, Any]]:
         """Each object or list of a view, with a name or a place in it."""
@@ -251,17 +274,33 @@ class Maker:
             holder[name] = copy.deepcopy(self.random.choice(MISFITS))
 
     def spoil_member(self, made: Document) -> None:
-        """Gives a long form one fault that chance alone would seldom give: a moment, a path, or a source that isn't said."""
-        kind = self.random.randrange(3)
+        """Gives a long form one fault that chance alone would seldom give: a moment, a path, or what doesn't agree."""
+        kind = self.random.randrange(4)
         if kind == 0:
-            made["now"] = self.random.choice(("soon", "2026-01-01", "2026-01-01T00:00:00", "2026-01-01T00:00:00.5Z", "2026-02-30T00:00:00Z", ""))
+            made["now"] = self.random.choice(BAD_MOMENTS)
         elif kind == 1:
             path = self.random.choice(("/~", "x", "Incident/0", "/Incident", "/Incident/0/none", "/Incident/1"))
             where, rest = self.random.choice((("gates", "level"), ("permissions", "org")))
             made["case"].setdefault(where, []).append({"path": path, rest: 3})
+        elif kind == 2:
+            made["reader"]["org"] = made["case"]["source"] + self.random.randrange(2)
+            made["reader"]["source"] = made["reader"]["org"] != made["case"]["source"]
         else:
-            made["reader"]["org"] = made["case"]["source"]
-            made["reader"].pop("source", None)
+            self.spoil_agreement(made["case"], made["reader"])
+
+    def spoil_agreement(self, case: Document, reader: Document) -> None:
+        """Doubles a gate or a permission, or gives a reader what no reader of the case has."""
+        kind = self.random.randrange(4)
+        if kind == 0:
+            case["gates"].append({"path": self.random.choice(case["gates"])["path"], "level": 3})
+        elif kind == 1:
+            given = case.setdefault("permissions", []) or [{"path": "/Incident/0", "org": 3}]
+            case["permissions"] = given + [{name: value for name, value in given[0].items() if name != "until"}]
+        elif kind == 2:
+            reader["active_groups"] = [9]
+        else:
+            case.pop("community", None)
+            reader["peer"] = not reader.get("community", False)
 
     def spoiled_view(self, view: Document) -> bytes:
         """The view with a fault or some."""
@@ -301,8 +340,17 @@ class Maker:
             return None
         return b"\xff" if self.is_so(0.1) else self.random.choice(names).encode()
 
+    def whole_of_many_lines(self) -> Asked:
+        """A whole excerpt of a report that is near the limit of 4,096 lines. It may have too many with its placeholders."""
+        contact = {"restriction": "red"}
+        one = {"purpose": "watch", "GenerationTime": "g", "IncidentID": "1", "restriction": "green", "Contact": [contact], "x": [1] * self.random.randrange(4085, 4091)}
+        view = {"clearance": "GREEN", "now": self.random.choice(MOMENTS)}
+        return Asked("whole", self.text({"Incident": [one]}), self.text(view), sound=view)
+
     def asked(self, ident: str) -> Asked:
         """A case: a report, a view, and what is asked."""
+        if self.is_so(0.003):
+            return self.whole_of_many_lines()
         report = self.report(ident)
         place = self.random.randrange(len(report["Incident"]))
         one = {**report, "Incident": [report["Incident"][place]]}
@@ -313,13 +361,17 @@ class Maker:
         if self.is_so(0.02):
             view["incident"], has_view_fault = self.random.choice((len(report["Incident"]), 2**32 - 1)), False
         text = self.spoiled_report(report) if has_report_fault else self.text(report)
-        verb = self.random.choice(("excerpt", "excerpt", "excerpt", "document", "finds", "explain", "marks"))
+        verb = self.random.choice(("excerpt", "excerpt", "excerpt", "document", "reads", "whole", "whole", "fault", "faultd", "finds", "explain", "marks"))
         if verb == "marks":
             return Asked(verb, text, incident=place if self.is_so(0.9) else len(report["Incident"]))
+        if verb in ("whole", "faultd") and self.is_so(0.9):
+            view.setdefault("now", self.random.choice(MOMENTS))
         described = self.spoiled_view(view) if has_view_fault else self.text(view)
         sound = None if has_view_fault else view
-        if verb in ("excerpt", "document"):
+        if verb in ("excerpt", "document", "reads", "fault", "faultd"):
             return Asked(verb, text, described, sound=sound)
+        if verb == "whole":
+            return Asked(verb, text, described, *self.random.choice(IDENTIFIERS), sound=sound)
         name = self.class_name(names) if verb == "finds" else None
         return Asked(verb, text, described, self.word(verb, paths), name, sound=sound)
 

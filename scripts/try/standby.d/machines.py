@@ -22,7 +22,7 @@ SYSTEMCTL = """#!/bin/bash
 echo "$*" >>/run/systemctl.asked
 pid=/run/iodef-hub.pid
 case "$*" in
-'reload nginx.service') exec nginx -c /etc/nginx.conf -s reload ;;
+'reload nginx.service') exec nginx -s reload ;;
 start*iodef-hub@*)
     . /etc/iodef-hub/CIRCLE.conf
     setsid "$IODEF_HUB_PROGRAM" serve /STORE "$PORT" 4294967295 >/run/hub.said 2>&1 </dev/null 9>&- &
@@ -93,7 +93,8 @@ class Machine:
         self.init = 0
         for each in FOLDERS[1:]:
             (self.folder / each).mkdir(parents=True)
-        shutil.copytree("/etc", self.folder / "etc", symlinks=True, ignore_dangling_symlinks=True)
+        # (what this host has of a hub is none of the machine's)
+        shutil.copytree("/etc", self.folder / "etc", symlinks=True, ignore_dangling_symlinks=True, ignore=shutil.ignore_patterns("iodef-hub*"))
         for each in ("iodef-hub", "iodef-hub-standby"):
             (self.folder / "etc" / each).mkdir()
         (self.folder / "bin").mkdir()
@@ -101,7 +102,8 @@ class Machine:
             (self.folder / "bin" / tool.name).symlink_to(tool)
         self.tool("iodef-hub", f'#!/bin/sh\nexec {program} "$@"\n')
         self.tool("systemctl", SYSTEMCTL.replace("CIRCLE", CIRCLE).replace("STORE", STORE))
-        self.tool("by-ssh", f'#!/bin/sh\nPATH={self.path()} IODEF_HUB_PROGRAM={program} exec iodef-hub-standby "$@"\n')
+        self.tool("nginx", '#!/bin/sh\nexec /usr/sbin/nginx -c /etc/nginx.conf "$@"\n')
+        self.by_ssh()
         run("ssh-keygen", "-q", "-t", "ed25519", "-N", "", "-C", name, "-f", self.folder / "etc/ssh/trial_key")
         (self.folder / "etc/ssh/trial_config").write_text(SSHD)
         (self.folder / "etc/ssh/trial_keys").touch()
@@ -112,9 +114,14 @@ class Machine:
 
     def tool(self, name: str, text: str) -> None:
         file = self.folder / "bin" / name
-        file.unlink(missing_ok=True)
+        file.unlink(missing_ok=True)  # it may be a link to the package's own
         file.write_text(text)
         file.chmod(0o755)
+
+    def by_ssh(self, never: str = "") -> None:
+        """What the forced commands start. At a word that is never answered, the login's own process is stopped."""
+        hangs = f'if [ "$SSH_ORIGINAL_COMMAND" = {never} ]; then kill -STOP $PPID; exec sleep 1000; fi\n' if never else ""
+        self.tool("by-ssh", f'#!/bin/sh\n{hangs}PATH={self.path()} IODEF_HUB_PROGRAM={self.program} exec iodef-hub-standby "$@"\n')
 
     def on(self) -> None:
         """Starts the machine with its ssh server."""
@@ -148,7 +155,7 @@ class Machine:
 
     def start_queue(self, address: str) -> None:
         """HAProxy with the package's own settings, at an address that the proxy reaches."""
-        text = (TOP / "deploy/haproxy/haproxy.cfg").read_text().split("listen health")[0]
+        text = (TOP / "deploy/haproxy/haproxy.cfg").read_text().split("frontend health")[0]
         assert "bind 127.0.0.1:21011" in text
         (self.folder / "etc/queue.cfg").write_text(text.replace("bind 127.0.0.1:21011", f"bind {address}:{QUEUE_PORT}"))
         self.do("haproxy", "-f", "/etc/queue.cfg", "-D")
@@ -156,7 +163,7 @@ class Machine:
     def start_front(self) -> None:
         """nginx with the package's own files."""
         (self.folder / "etc/nginx.conf").write_text(NGINX.replace("FOLDER", str(TOP / "deploy/nginx")).replace("FRONT_PORT", str(FRONT_PORT)))
-        self.do("nginx", "-c", "/etc/nginx.conf")
+        self.do("nginx")
 
     def allow(self, other: Machine, *command: str) -> None:
         """What the other machine's key may run here, and nothing else."""
