@@ -142,11 +142,11 @@ class Clap:
 
 def of_usage(text: str) -> Command:
     """Of the line of usage of a shell script: forms with a comma between them, each of which may begin with names of commands."""
-    line = re.search(r"'usage: \S+ (.*)'", text)
+    line = re.search(r"'usage: [\w-]+ ?(.*)'", text)
     if not line:
         raise ValueError("there is no line of usage")
     found = Command()
-    for form in re.split(r", (?:or )?", line[1]):
+    for form in re.split(r", (?:or )?", line[1]) if line[1] else []:
         first, *others = form.split(" ")
         names = first.split("|") if first.islower() else []
         made = [of_written(it) for it in (others if names else [first, *others])]
