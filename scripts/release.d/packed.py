@@ -244,6 +244,7 @@ class Due:
 
     def __init__(self, tree: Tree, versions: dict[str, bytes]) -> None:
         self.tree = tree
+        self.generated: dict[str, bytes | None] = {}
         self.documents = {**documents(tree, "tarball"), **versions}
         for name in tree.packages():
             made = documents(tree, name)
@@ -254,7 +255,10 @@ class Due:
             return self.documents[name]
         source = source_of(name)
         if source is None:
-            return generated(self.tree, name)
+            # The tarball has the same files as the packages, so each is made once.
+            if name not in self.generated:
+                self.generated[name] = generated(self.tree, name)
+            return self.generated[name]
         file = self.tree.folder / source
         return file.read_bytes() if file.is_file() else None
 
