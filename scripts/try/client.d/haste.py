@@ -94,13 +94,14 @@ class Haste:
         return status, text, self.analyst.errors
 
 
-def by_haste(check: Check, asker: Callable[..., Any], library: Any, between: Any, folder: pathlib.Path) -> None:
+def by_haste(check: Check, asker: Callable[..., Any], library: Any, between: Any, folder: pathlib.Path, admin: str) -> None:
     haste = Haste(check, asker, library, between, folder)
     by_colleague(haste)
     by_unseen(haste)
     by_whole(haste)
     by_terminal(haste)
     by_terminals(haste)
+    by_circle(haste, asker(between.port, admin))
     by_files(haste)
     by_many_runs(haste)
     by_lines(haste, folder)
@@ -209,7 +210,7 @@ def by_terminal(haste: Haste) -> None:
     status, told, screen = terminal("replace", number, str(file), "3", "--community", "1", "--no-gates", "--drop-permissions", "--latest", answer="\n")
     check("a report that is about to be replaced is shown", (status, told, screen.split("[y/N]")[0]), (
         1, "", f"incident {number}, revision 1, of organisation 2\nIncident /Incident/0 (TLP:RED): x haste {haste.posted}\n"
-        f"Replace it, {spread}; no class has a gate of its own? "))
+        f"by Incident /Incident/0 (TLP:CLEAR): x haste {haste.posted}\nReplace it, {spread}; no class has a gate of its own? "))
     file.write_bytes(report("a new one", PAGE, restriction="white"))
     post = ("post", str(file), "3", "--community", "1", "--gate", "0:0:/Incident/0/Contact/0")
     asked = f"Incident /Incident/0 (TLP:CLEAR): x a new one\nPost it {spread}; Contact /Incident/0/Contact/0 (TLP:CLEAR) is at level 0 (your organisation)? "
@@ -220,7 +221,52 @@ def by_terminal(haste: Haste) -> None:
     check("and is posted by y", (status, told.strip().isdigit()), (0, True))
     status, told, screen = terminal("redistribute", told.strip(), "", "0")
     check("what narrows isn't asked about", (status, "[y/N]" in screen), (0, False))
+    for kind, target, cleared in (("person", "4", "cleared for TLP:RED"),
+                                  ("org", "4", "its nominated persons are cleared for TLP:AMBER+STRICT, those of its clients for TLP:AMBER")):
+        status, told, screen = terminal("address", number, kind, target, "--latest", answer="\n")
+        words = {"org": "organisation"}.get(kind, kind)
+        check(f"an address of a {kind} says whom it clears for what", (status, told, f"\nAddress {words} {target}, {cleared}? [y/N]" in screen), (1, "", True))
     terminal.close()
+
+
+def by_circle(haste: Haste, admin: Any) -> None:
+    """Changes of the circle after which somebody may see more are asked about, and those that take it away aren't."""
+    check, group = haste.check, str(haste.colleague.new_group("haste", "members only"))
+    haste.colleague.group_active(int(group), False)
+    bank, one = Terminal(haste.analyst), Terminal(admin)
+    digest = haste.library.digest_of("haste-key")
+    for terminal, words, line, undone in (
+        (bank, ("group-add", group, "4"), f"organisation 4 is in group {group} (haste)", ("group-remove", group, "4")),
+        (bank, ("group-add", group, "4", "--extend"), f"organisation 4 is in group {group} (haste), and may add others", ("group-remove", group, "4")),
+        (bank, ("group-active", group, "on"), f"group {group} (haste) is on", ("group-active", group, "off")),
+        (bank, ("nominate", "2"), "person 2 is nominated", ("unnominate", "2")),
+        (bank, ("arrange", "4", "GREEN"), "your label `default` is GREEN to organisation 4", ("cancel-arrange", "4")),
+        (one, ("client", "2", "4"), "organisation 4 is a client of organisation 2", ("unclient", "2", "4")),
+        (one, ("join", "1", "4"), "organisation 4 is in community 1", ("leave", "1", "4")),
+        (one, ("link", "1", "2"), "community 1 and community 2 are connected", ("unlink", "1", "2")),
+        (one, ("add-person", "4", "Eve\u202e", "reader", "--digest", digest), "Eve\\u202e is a reader of organisation 4", ("suspend",)),
+    ):
+        haste.between.take()
+        status, told, screen = terminal(*words, answer="\n")
+        check(f"{words[0]} is asked about, and Enter isn't yes", (status, told, screen.split("[y/N]")[0], [each for each in haste.between.asked if "POST" in each]), (
+            1, "", f"then {line}\nMake this change? ", []))
+        status, told, screen = terminal(*words, answer="y\n")
+        check("  y is", (status, told.strip() if words[0] != "add-person" else line), (0, line))
+        status, told, screen = terminal(*undone, *([told.strip()] if words[0] == "add-person" else []))
+        check(f"  and {undone[0]} isn't asked about", (status, "[y/N]" in screen), (0, False))
+    status, told, screen = bank("group-add", group, "4", "--yes")
+    check("--yes doesn't ask", (status, told, screen), (0, f"organisation 4 is in group {group}\n", ""))
+    status, told, screen = bank("arrange", "4", "RED")
+    check("an arrangement of what holds without one isn't asked about", (status, told, "[y/N]" in screen), (0, "your label `default` is RED to organisation 4\n", False))
+    haste.colleague.group_remove(int(group), 4)
+    haste.colleague.cancel_arrange(4)
+    number = haste.post(VICTIMS, PAGE)
+    for words, question in ((("grant", number, EVENT, "group", group), f"Permit group {group} (haste) to see it, for ever? [y/N]"),
+                            (("redistribute", number, EVENT, "4", "--group", group), f"Set it to level 4 (group {group} (haste))? [y/N]")):
+        status, told, screen = bank(*words, "--latest", answer="\n")
+        check(f"a group is named where {words[0]} asks", (status, told, question in screen), (1, "", True))
+    bank.close()
+    one.close()
 
 
 def by_terminals(haste: Haste) -> None:
@@ -306,7 +352,7 @@ def by_lines(haste: Haste, folder: pathlib.Path) -> None:
     haste.between.take()
     status, told, screen = terminal("post-all", str(file), answer="\n")
     check("at a terminal the lines are told before they are sent", (status, told, screen.split("[y/N]")[0], [each for each in haste.between.asked if "POST" in each]), (
-        1, "", "3 reports at level 3 (everybody in the hub, including organisations in no community); TLP:GREEN is for the members of community 1;"
+        1, "", "3 reports, TLP:RED at level 3 (everybody in the hub, including organisations in no community); TLP:GREEN is for the members of community 1;"
         " no class has a gate of its own\nPost them? ", []))
     terminal.close()
     haste.between.take()

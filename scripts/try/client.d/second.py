@@ -7,9 +7,11 @@ import os
 import pathlib
 import subprocess
 import sys
+import types
 from collections.abc import Callable
 from typing import Any
 
+from haste import Terminal
 from watching import MAIL_NEWS, MailServer, program
 
 TOP = pathlib.Path(__file__).resolve().parent.parent.parent.parent
@@ -94,9 +96,10 @@ def second_store(check: Check, given: str, folder: pathlib.Path, port: int) -> p
     assert ran(TOOLS / "iodef-hub-backup", folder / "first" / "hub.db", copies).returncode == 0
     copy = next(copies.glob("hub-*.db"))
     script.write_text(ran(TOOLS / "iodef-hub-directory", copy, "--commands").stdout)
-    made = ran("bash", script, store, str(port))
-    check("the commands make a second store", (made.returncode, made.stdout, made.stderr),
+    terminal = Terminal(types.SimpleNamespace(words=["bash"], environment=environment))
+    check("the commands make a second store, and ask nothing at a terminal", terminal(str(script), str(store), str(port), answer="n\n"),
           (0, f"{store} has the organisations, persons, communities and groups of the first hub, by the same numbers and keys\n", ""))
+    terminal.close()
     check("  and leave nothing beside it", sorted(each.name for each in folder.glob("second.db*")), ["second.db"])
     directory, other = [ran(TOOLS / "iodef-hub-directory", each).stdout.split("\nIncidents")[0] for each in (copy, store)]
     check("  its directory is the first one's", (other, directory.count("\n") > 20), (directory, True))
@@ -232,6 +235,10 @@ def by_circle(two: Two) -> None:
     admin, check = two.ask(6), two.check
     check("an organisation is added at both", admin("add-org", "New"), (0, "hub 1: 5\nhub 2: 5\n"))
     check("a community is joined at both", admin("join", "1", "4"), (0, "".join(f"hub {hub}: organisation 4 is in community 1\n" for hub in (1, 2))))
+    terminal, line = Terminal(admin), "organisation 5 is a client of organisation 2\n"
+    check("at a terminal it is asked once for both", terminal("client", "2", "5", answer="y\n"),
+          (0, f"hub 1: {line}hub 2: {line}", f"then {line}Make this change? [y/N] y\n"))
+    terminal.close()
     status, text = admin("add-person", "5", "Gus", "reader")
     key = text.split("once: ")[1].split("\n")[0]
     check("a person is added at both, with one key", (status, text), (0, f"hub 1: 8\nhub 1: key, shown this once: {key}\nhub 2: 8\n"))
