@@ -115,9 +115,23 @@ class Room:
         systemctl.chmod(0o755)
         places = {"SETTINGS": folder / "settings", "STORES": folder / "stores", "COPIES": folder / "copies", "HAPROXY": proxies.control}
         around = {"PATH": f"{folder / 'bin'}:{os.environ.get('PATH', '')}", **{f"IODEF_HUB_{name}": str(place) for name, place in places.items()}}
-        self.told = folder / "room.prom"
+        self.told, self.copies = folder / "room.prom", folder / "copies" / "payments"
+        self.around = {**os.environ, **around}
+        self.process: subprocess.Popen[bytes] | None = None
+        self.start()
+
+    def start(self) -> None:
+        """Starts it, or starts it anew, so that it looks for a newer copy at once."""
+        self.close()
+        self.told.unlink(missing_ok=True)
         words = [str(DEPLOY / "lib" / "iodef-hub-room"), str(self.told)]
-        self.process = subprocess.Popen(words, env={**os.environ, **around}, stderr=(folder / "said").open("w"))
+        self.process = subprocess.Popen(words, env=self.around, stderr=(self.folder / "said").open("a"))
+        for _ in range(300):
+            if self.told.exists():
+                break
+            time.sleep(0.1)
+        # The metrics are written just before HAProxy is told.
+        time.sleep(1)
 
     def said(self) -> str:
         return (self.folder / "said").read_text().strip()
@@ -127,5 +141,6 @@ class Room:
         return int(found[1]) if found else -1
 
     def close(self) -> None:
-        self.process.terminate()
-        self.process.wait()
+        if self.process is not None:
+            self.process.terminate()
+            self.process.wait()

@@ -16,8 +16,6 @@ SEARCH = "/search?needle=none-"
 # The longest that a request takes by itself beside one in hand, on a busy machine.
 BESIDE = 1.0
 IN_HAND = 20
-# Seconds of an attack.
-RUN = 25.0
 # What others ask, and of twelve times once a search, which no hub answers faster than one after another.
 QUICK = ["/me", "/incidents/1", "/me/groups"]
 
@@ -117,14 +115,14 @@ def others(proxies: Proxies, ends: Ends, keys: list[str], targets: list[str], ru
     return felt
 
 
-def share(proxies: Proxies, run: int, readers: int, how: str, keys: list[str], alone: float) -> Iterator[tuple[bool, str]]:
+def share(proxies: Proxies, run: int, readers: int, how: str, keys: list[str], alone: float, seconds: float) -> Iterator[tuple[bool, str]]:
     """Beside these readers nobody else is answered Away, and 95 of 100 quick requests wait for one in hand at most. A search alone
-    takes so many seconds. Each run has addresses of its own."""
+    takes `alone` seconds. Each run has addresses of its own."""
     begun = time.monotonic()
     for target in QUICK:
         status_of(proxies, "127.45.0.1", keys[0], target)
     quiet = time.monotonic() - begun
-    ends = Ends(time.monotonic() + RUN)
+    ends = Ends(time.monotonic() + seconds)
     running = attack(proxies, ends, run, readers, how)
     time.sleep(3)
     felt = others(proxies, ends, keys, [*QUICK * 4, f"{SEARCH}other"], run, max(0.5, quiet))
