@@ -68,7 +68,7 @@ REPORTS = (
 
 def at(address: str, key: str) -> iodef_hub.Hub:
     """The hub, asked once: on this machine what fails once fails again."""
-    return iodef_hub.Hub(address, key, tries=1)
+    return iodef_hub.Hub(address, key, timeout=600, tries=1)
 
 
 def fill(address: str, administrator: str, readers: list[Reader]) -> None:

@@ -14,7 +14,7 @@ import iodef_hub
 from . import places
 
 TRIES = 5  # for a free port, which another program may take before the hub does
-SECONDS_TO_LISTEN = 60
+SECONDS_TO_LISTEN = 600  # an unproved program is slow, the more so on a busy machine
 SECONDS_TO_END = 10
 END_WITH_PARENT = 1  # PR_SET_PDEATHSIG of Linux
 

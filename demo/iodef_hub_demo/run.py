@@ -61,6 +61,8 @@ class Demo:
 
     def start(self, program: places.Program) -> None:
         self.is_unproved = program.is_unproved
+        slow = ", which takes a while, as the program is unproved" if self.is_unproved else ""
+        print(f"iodef-hub-demo: making a hub with three organisations and six reports{slow}", file=sys.stderr, flush=True)
         self.hub.make(program.path, self.administrator)
         self.hub.start()
         try:

@@ -17,7 +17,8 @@ import threading
 from . import circle, pages, places
 
 LONGEST_BODY = 1 << 20  # the hub's own limit is lower, and told by it
-SECONDS = 60  # for a reply of the hub, and for each read of a request
+SECONDS = 60  # for each read of a request
+SECONDS_OF_HUB = 600  # for a reply: an unproved program is slow, the more so on a busy machine
 HEADERS = (
     ("Cache-Control", "no-store"),
     ("X-Content-Type-Options", "nosniff"),
@@ -130,7 +131,7 @@ class Handler(http.server.BaseHTTPRequestHandler):
             return self.say(*fault, "request refused")
         body = self.body()
         key = self.headers.get("Authorization")
-        hub = http.client.HTTPConnection("127.0.0.1", self.server.origin.hub_port, timeout=SECONDS)
+        hub = http.client.HTTPConnection("127.0.0.1", self.server.origin.hub_port, timeout=SECONDS_OF_HUB)
         try:
             try:
                 hub.request(self.command, self.path, body or None if self.command == "GET" else body, {} if key is None else {"Authorization": key})

@@ -17,7 +17,7 @@ sys.path.insert(0, str(pathlib.Path(__file__).resolve().parent.parent))
 import common
 
 COMMAND = common.TOP / "demo" / "iodef-hub-demo"
-SECONDS = 120
+SECONDS = 60
 
 
 def is_alive(process: int) -> bool:
@@ -59,10 +59,14 @@ class Shown:
         raise RuntimeError(f"the demo showed nothing: {self.told}")
 
     def end(self, number: int | None = None) -> int:
-        """Sends the signal, and returns the status with which the demo ended."""
+        """Sends the signal, and returns the status with which the demo ended. One that doesn't end is killed."""
         if number is not None and self.process.poll() is None:
             self.process.send_signal(number)
-        said, self.told = self.process.communicate(timeout=SECONDS)
+        try:
+            said, self.told = self.process.communicate(timeout=SECONDS)
+        except subprocess.TimeoutExpired:
+            os.killpg(self.process.pid, signal.SIGKILL)
+            said, self.told = self.process.communicate()
         self.said += said
         return int(self.process.returncode)
 
