@@ -76,7 +76,7 @@ class Installed:
 
 def lintian(package: pathlib.Path) -> list[str]:
     """All that it says of a package, but for overrides of the library's that nothing uses."""
-    words = ["lintian", "--allow-root", "--display-info", "--info", "--display-experimental", "--pedantic", package]
+    words = ["lintian", "--allow-root", "--display-info", "--info", "--display-experimental", "--pedantic", str(package)]
     told = subprocess.run(words, stdout=subprocess.PIPE, stderr=subprocess.STDOUT, text=True).stdout
     said = [line for line in told.splitlines() if line.strip() and not re.fullmatch(UNUSED, line)]
     return [line for line in said if not line.startswith("N:")] or [line for line in said if not told.startswith(("I:", "N:"))]
