@@ -75,7 +75,7 @@ def parser_of(file: pathlib.Path) -> argparse.ArgumentParser:
 
 
 def help_of(action: argparse.Action, parser: argparse.ArgumentParser) -> str:
-    return (action.help or "") % {**vars(action), "prog": parser.prog}
+    return "" if action.help in (None, argparse.SUPPRESS) else str(action.help) % {**vars(action), "prog": parser.prog}
 
 
 def word_of(action: argparse.Action, parser: argparse.ArgumentParser) -> Word:

@@ -17,6 +17,7 @@ import zipfile
 from collections.abc import Iterable
 from dataclasses import dataclass
 
+from tree import PROVED as PROVED_BESIDE
 from tree import Refused, Tree
 
 
@@ -211,8 +212,9 @@ def versions(tree: Tree, version: str, kit: str, programs: dict[str, str]) -> di
 
 
 def version_text(tree: Tree, name: str, version: str, kit: str, files: dict[str, str]) -> bytes:
-    """What a package says of itself; files are what is proved in it, by path with the digest."""
-    words = ["deploy/deb/make-version", name, version, tree.commit, tree.sources()["sha256"], kit, *(f"{path}={it}" for path, it in files.items())]
+    """What a package says of itself; files are what is proved in it, by path with the digest. The wheel has the library."""
+    sources = tree.sources_of(name if name in PROVED_BESIDE else "libiodef-redact")
+    words = ["deploy/deb/make-version", name, version, tree.commit, sources, kit, *(f"{path}={it}" for path, it in files.items())]
     given = {**os.environ, "SOURCE_DATE_EPOCH": str(tree.seconds)}
     return subprocess.run([sys.executable, *words], cwd=tree.folder, env=given, stdout=subprocess.PIPE, check=True).stdout
 

@@ -76,7 +76,7 @@ class Installed:
 
 def lintian(package: pathlib.Path) -> list[str]:
     """All that it says of a package, but for overrides of the library's that nothing uses."""
-    words = ["lintian", "--allow-root", "--display-info", "--info", "--display-experimental", "--pedantic", package]
+    words = ["lintian", "--allow-root", "--display-info", "--info", "--display-experimental", "--pedantic", str(package)]
     told = subprocess.run(words, stdout=subprocess.PIPE, stderr=subprocess.STDOUT, text=True).stdout
     said = [line for line in told.splitlines() if line.strip() and not re.fullmatch(UNUSED, line)]
     return [line for line in said if not line.startswith("N:")] or [line for line in said if not told.startswith(("I:", "N:"))]
@@ -121,8 +121,9 @@ def of_completion(installed: Installed, room: pathlib.Path, tell: Tell) -> None:
 
 
 def options_in(text: str) -> set[str]:
-    """The long options that begin a line of a help."""
-    return {it for line in re.findall(r"^ +(?:-\w, )?(--.*)$", text, re.M) for it in re.findall(r"(?:^|, )(--[\w-]+)", re.split(r"  ", line)[0])}
+    """The long options that begin a line of a help; if there is none, those of its first line, and its own."""
+    listed = {it for line in re.findall(r"^ +(?:-\w, )?(--.*)$", text, re.M) for it in re.findall(r"(?:^|, )(--[\w-]+)", re.split(r"  ", line)[0])}
+    return listed or {"--help", *re.findall(r"--[\w-]+", text.split("\n")[0])}
 
 
 def helps(installed: Installed, command: pathlib.Path) -> Iterator[tuple[pathlib.Path, list[str], set[str]]]:

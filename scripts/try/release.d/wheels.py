@@ -25,7 +25,7 @@ except iodef_redact.Fault as fault:
 """
 
 
-def alone(*words: object, folder: pathlib.Path) -> tuple[int, str]:
+def alone(*words: str | pathlib.Path, folder: pathlib.Path) -> tuple[int, str]:
     """Runs it without a network, if that can be taken away, and without any library but its own."""
     given = {name: it for name, it in os.environ.items() if name not in ("IODEF_REDACT_LIBRARY", "PYTHONPATH")}
     cut = ["unshare", "--net"] if os.geteuid() == 0 else []
@@ -53,7 +53,7 @@ def tried(dist: pathlib.Path, room: pathlib.Path, library: pathlib.Path, redact:
     status, told = alone(folder / "bin/python", "-c", ASKED, REPORT, folder=room)
     if redact:
         tell("the library inside answers what REDACT.md shows", (status, told.strip()) == (0, SHOWN), told)
-        words = [redact, "excerpt", "--clearance", "GREEN", "--document"]
+        words = [str(redact), "excerpt", "--clearance", "GREEN", "--document"]
         wanted = subprocess.run(words, stdin=REPORT.open("rb"), capture_output=True, check=True).stdout
         found = (room / "document").read_bytes()
         tell("byte for byte what iodef-redact prints", found.rstrip(b"\n") == wanted.rstrip(b"\n"), (found[:200], wanted[:200]))
