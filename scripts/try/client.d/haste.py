@@ -251,7 +251,7 @@ def by_circle(haste: Haste, admin: Any) -> None:
         (one, ("client", "2", "4"), "organisation 4 is a client of organisation 2", ("unclient", "2", "4")),
         (one, ("join", "1", "4"), "organisation 4 is in community 1", ("leave", "1", "4")),
         (one, ("link", "1", "2"), "community 1 and community 2 are connected", ("unlink", "1", "2")),
-        (one, ("add-person", "4", "Eve\u202e", "reader", "--digest", digest), "Eve\\u202e is a reader of organisation 4", ("suspend", "--yes")),
+        (one, ("add-person", "4", "Eve\u202e", "reader", "--digest", digest), "Eve\\u202e is a person of organisation 4, as reader", ("suspend", "--yes")),
     ):
         haste.between.take()
         status, told, screen = terminal(*words, answer="\n")
