@@ -4,12 +4,13 @@ from __future__ import annotations
 import argparse
 import json
 import pathlib
+import re
 from collections import Counter
 from collections.abc import Sequence
 from dataclasses import dataclass, replace
 from typing import Any
 
-from iodef_hub import LAST_NUMBER, Gate, Hub, HubError, Refused, doubled_labels, labelled_classes, report_bytes
+from iodef_hub import ARRANGED, LAST_NUMBER, TEXTS, UNLABELLED, Gate, Hub, HubError, Refused, doubled_labels, labelled_classes, report_bytes
 
 from .characters import shown
 from .kept import alone, write
@@ -18,6 +19,7 @@ from .reading import gate, read_file
 from .sharing import INCIDENT, basis, check_yes, class_line, class_words, is_asking, learn_groups, level_words
 from .telling import Teller, Undone, Usage, note, warn
 
+INCIDENTS = re.compile(r"/Incident/\d+(?=/|$)")
 ANY = "--community N or --any-community: whose members may read what is marked green"
 
 
@@ -43,14 +45,24 @@ def document_of(report: bytes) -> dict[str, Any]:
     return value if isinstance(value, dict) else {}
 
 
+WIDEST_FIRST = (*dict.fromkeys(TEXTS.values()), ARRANGED, UNLABELLED)  # all labels
+
+
 def incident_lines(report: bytes) -> list[str]:
-    """The Incidents of a report, for a person who is asked: label and first text."""
-    return [class_line(each) for each in labelled_classes(document_of(report)) if each.name == "Incident"]
+    """The Incidents of a report, for a person who is asked: label and first text, and the other labels that are in it."""
+    found = list(labelled_classes(document_of(report)))
+    lines = []
+    for incident in (each for each in found if INCIDENTS.fullmatch(each.path)):
+        held = {each.label for each in found if each.path.startswith(incident.path + "/") or not INCIDENTS.match(each.path)}
+        others = ", ".join(each for each in WIDEST_FIRST if each in held - {incident.label})
+        lines.append(class_line(incident) + (f" (in it also {others})" if others else ""))
+    return lines
 
 
 def labels_words(report: bytes) -> str:
-    """The labels of the Incidents of a report."""
-    return ", ".join(sorted({each.label for each in labelled_classes(document_of(report)) if each.name == "Incident"}))
+    """The labels of the classes of a report."""
+    held = {each.label for each in labelled_classes(document_of(report))}
+    return ", ".join(each for each in WIDEST_FIRST if each in held)
 
 
 def spread_words(given: argparse.Namespace, level: int, group: int | None, community: int | None, gates: Sequence[Gate], report: bytes) -> str:

@@ -155,6 +155,8 @@ def do_address(hub: Hub, given: argparse.Namespace, teller: Teller) -> None:
     """The hub's request names no revision, so it is compared here; a replacement at the same moment is reported afterwards."""
     to = given.names(given.recipient, given.target)
     found = basis(hub, given, INCIDENT, f"Address {to}, {CLEARED[given.recipient]}?")
+    if is_asking(given):  # an answer takes its time
+        found = Basis(found.revision, hub.view(given.number))
     if found.view.revision != found.revision:
         raise Unchanged(f"nothing was changed: you have seen revision {found.revision} of incident {given.called}, and it is at revision"
                         f" {found.view.revision}: look at it again")

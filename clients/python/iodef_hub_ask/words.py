@@ -34,7 +34,7 @@ def told(ask: Callable[[Hub, argparse.Namespace], Sequence[str]]) -> Command:
 
 
 def always(given: argparse.Namespace) -> bool:
-    """Of a change after which somebody may see more, whatever its words are."""
+    """Of a change that is asked about, whatever its words are."""
     return True
 
 
@@ -111,16 +111,16 @@ class Words:
         return made
 
     def add_change(self, name: str, about: str, names: Sequence[str], change: Callable[[Hub, Any], None], says: Callable[[Any], str],
-                   is_wider: Callable[[Any], object] | None = None) -> argparse.ArgumentParser:
-        """A command that changes the circle, and prints what is so then. `is_wider` says whether somebody may see more then, which is
-        asked about at a terminal."""
+                   is_asked: Callable[[Any], object] | None = None) -> argparse.ArgumentParser:
+        """A command that changes the circle, and prints what is so then. `is_asked` says whether it is asked about at a terminal: if
+        somebody may see more then, or if nothing takes it back."""
         def changed(hub: Hub, given: argparse.Namespace) -> str:
-            if is_wider and is_wider(given):
+            if is_asked and is_asked(given):
                 check_circle(hub, given, says)
             change(hub, given)
             return says(given)
         made = self.add(name, changing(changed), about, *names)
-        if is_wider:
+        if is_asked:
             add_yes(made)
         return made
 
@@ -201,7 +201,7 @@ class Words:
         person.add_argument("--digest", help="the SHA-256 of a key that the person has made, instead of a new one")
         add_yes(person)
         self.add_change("suspend", "suspends a person for ever: the hub refuses the key", ("person",), lambda hub, it: hub.suspend(it.person),
-                        lambda it: f"{it.names('person', it.person)} is suspended")
+                        lambda it: f"{it.names('person', it.person)} is suspended for ever", always)
         self.add("add-community", told(lambda hub, given: [str(hub.add_community(given.name))]), "adds a community", "name")
         both = ("community", "org")
         self.add_change("join", "puts an organisation into a community", both, lambda hub, it: hub.join(it.community, it.org),

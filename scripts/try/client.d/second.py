@@ -243,7 +243,7 @@ def by_circle(two: Two) -> None:
     key = text.split("once: ")[1].split("\n")[0]
     check("a person is added at both, with one key", (status, text), (0, f"hub 1: 8\nhub 1: key, shown this once: {key}\nhub 2: 8\n"))
     check("which both serve", [two.hub.Hub(url, key).me().number for url in two.urls], [8, 8])
-    check("a person is suspended at both", (admin("suspend", "8"), [code_of(two.hub, url, key) for url in two.urls]), ((0, "hub 1: person 8 is suspended\nhub 2: person 8 is suspended\n"), ["K1", "K1"]))
+    check("a person is suspended at both", (admin("suspend", "8"), [code_of(two.hub, url, key) for url in two.urls]), ((0, "hub 1: person 8 is suspended for ever\nhub 2: person 8 is suspended for ever\n"), ["K1", "K1"]))
     check("what one hub has already is added at the other", (two.ask(6, 1)("add-org", "Half"), admin("add-org", "Half"), admin.errors),
           ((0, "6\n"), (1, "hub 2: 6\n"), "iodef-hub-ask: hub 1: S1: already so\n"))
     two.ask(6, 2)("add-org", "Odd")
@@ -281,7 +281,7 @@ def by_absence(two: Two) -> None:
     check("a list tells what the other has, and fails", (bank("list"), bank.errors.startswith("iodef-hub-ask: hub 1: Unreachable")),
           ((3, "2/1\tr1\torg 2\n2/2\tr1\torg 2\n2/3\tr1\torg 2\n"), True))
     check("a report is posted all the same", bank("post", "-", "3", "--any-community", given=report("sixth")), (0, "2/4\n"))
-    check("a person is suspended at the other all the same", (admin("suspend", "4"), code_of(two.hub, two.urls[1], KEYS[4])), ((3, "hub 2: person 4 is suspended\n"), "K1"))
+    check("a person is suspended at the other all the same", (admin("suspend", "4"), code_of(two.hub, two.urls[1], KEYS[4])), ((3, "hub 2: person 4 is suspended for ever\n"), "K1"))
     check("nothing is added at the other, whose numbers would differ", (admin("add-org", "Never"), two.ask(6, 2)("add-org", "Next")), ((3, ""), (0, "9\n")))
     watch = bank("watch", "--rounds", "1")
     check("a watch goes on with the other", (watch[0], watch[1].count("\n"), "hub 1: Unreachable" in bank.errors), (0, 4, True))

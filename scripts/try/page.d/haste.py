@@ -213,7 +213,14 @@ def post_says(trial: Trial) -> None:
         "at level 1, your communities, any of them (not only the named one); TLP:GREEN is for any community of your organisation; "
         f"{SECOND} is at level 4, phishing (sharing group 1); /Incident/0/Contact/0 is at level 0, your organisation only"
     )
-    trial.check("the form says whom it reaches", trial.says(POST) == f"Posts csirt.example.com post says (TLP:GREEN), {reach}; odd. | Post a report", trial.says(POST))
+    trial.check("the form says whom it reaches", trial.says(POST) == f"Posts csirt.example.com post says (TLP:GREEN, in it also TLP:CLEAR, TLP:AMBER+STRICT, TLP:RED), {reach}; odd. | Post a report", trial.says(POST))
+    for body, told in (
+        ("{", "this report"), ('{"a":' * 20000 + "1" + "}" * 20000, "this report"),
+        ('{"Incident":[{"restriction":"green"},{}]}', "an Incident without an IncidentID (TLP:GREEN), an Incident without an IncidentID (TLP:RED)"),
+    ):  # fmt: skip
+        trial.put(POST, {"or its text": body})
+        trial.check_has(f"of {body[:9]} it says what it can", trial.says(POST), f"Posts {told}, at level 1")
+    trial.put(POST, {"or its text": text})
     trial.post({"Levels of single": gates.removesuffix("\nodd")})
     trial.done("and the answer tells the same", "Posted as incident", f", {reach}.")
 
@@ -226,7 +233,7 @@ def replace_says(trial: Trial) -> None:
         ", at level 0, your organisation only; TLP:GREEN is for payments (community 1); "
         f"{FIRST} is at level 3, everybody in the hub, also organisations in no community."
     )
-    wanted = f"Replaces incident {number}, revision 1, by csirt.example.com replace says (TLP:CLEAR){reach} All its permissions are removed, and its recipients stay. | Replace the report"
+    wanted = f"Replaces incident {number}, revision 1, by csirt.example.com replace says (TLP:CLEAR, in it also TLP:RED){reach} All its permissions are removed, and its recipients stay. | Replace the report"
     trial.check("a Replace says whom it reaches", trial.says(REPLACE) == wanted, trial.says(REPLACE))
     trial.fill(REPLACE, {"All permissions": True})
     trial.done("and the answer tells the same", f"Replaced by revision 2{reach}")
@@ -278,6 +285,9 @@ def permit_says(trial: Trial) -> None:
     wanted = "Addresses University (organisation 4): its nominated persons are cleared for TLP:AMBER+STRICT, those of its clients for TLP:AMBER, "
     wanted += f"of incident {number}, revision 1 and later ones."
     trial.check_has("an address says whom it clears for what", trial.says(ADDRESS), wanted)
+    trial.put(WITHDRAW, {"Class": SECOND, "From": ["org", "4"]})
+    wanted = f"Withdraw a permission: incident {number}, path {SECOND}, University (organisation 4)."
+    trial.check_has("and a withdrawal of what, from whom", trial.says(WITHDRAW), wanted)
     trial.go("#groups")
     trial.put("Add a member to a group", {"Group": "1", "Organisation": "4", "May it": "1"})
     wanted = "Add a member to a group: phishing (sharing group 1), University (organisation 4), extend 1."
