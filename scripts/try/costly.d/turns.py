@@ -116,8 +116,8 @@ def others(proxies: Proxies, ends: Ends, keys: list[str], targets: list[str], ru
 
 
 def share(proxies: Proxies, run: int, readers: int, how: str, keys: list[str], alone: float, seconds: float) -> Iterator[tuple[bool, str]]:
-    """Beside these readers nobody else is answered Away, and 95 of 100 quick requests wait for one in hand at most. A search alone
-    takes `alone` seconds. Each run has addresses of its own."""
+    """Beside these readers nobody else is answered Away, 95 of 100 quick requests wait for one in hand at most, and others' searches
+    go before theirs. A search alone takes `alone` seconds. Each run has addresses of its own."""
     begun = time.monotonic()
     for target in QUICK:
         status_of(proxies, "127.45.0.1", keys[0], target)
@@ -137,5 +137,7 @@ def share(proxies: Proxies, run: int, readers: int, how: str, keys: list[str], a
     searches = proxies.waited(rf"127\.4[67]\.{run}\.\d+", "/search")
     one = max(2 * alone, 3 * (time.monotonic() - begun) / max(len(searches), 1))
     yield at_95(took) <= one + quiet + BESIDE, f"{name} 95 of 100 wait at most {at_95(took):.1f} s, one in hand takes {one:.1f} s, all else {quiet:.1f} s"
+    # Each waits for the one in hand and for those of others before it, and for no search of the readers.
     searched = sorted(each.took for each in felt if each.target.startswith("/search"))
-    yield ends.statuses.total() > 0, f"  the readers' answers: {dict(ends.statuses)}; searches of others took {', '.join(f'{each:.1f}' for each in searched)} s"
+    yield searched[-1:] <= [2 * one + BESIDE], f"{name} others search within {', '.join(f'{each:.1f}' for each in searched)} s"
+    yield ends.statuses.total() > 0, f"  the readers' answers: {dict(ends.statuses)}"
