@@ -77,7 +77,8 @@ def lines(count: int, name: str = "a") -> str:
 
 
 def dear_view(first: int) -> bytes:
-    """A report whose View is hundreds of megabytes: 1,300 places below 27 classes with long names."""
+    """A report whose View is hundreds of megabytes: 1,300 places below 27 classes with long names. It is posted at the hub's own port,
+    as the proxy has a limit of names."""
     name, frame = "n" * 7_700, '{"a":{"restriction":"public"}}'
     more = f'"{name}":[{{' * 27 + '"e":[' + ",".join([frame] * 1_300) + "]" + "}]" * 27
     return f'{{"Incident":[{{"Contact":0,"GenerationTime":0,"IncidentID":{first},"purpose":0,"restriction":"red",{more}}}]}}'.encode()
@@ -274,7 +275,7 @@ def one_key_many_addresses(hub: Served, weaker: Changes) -> Iterator[Check]:
 
 def health_key(hub: Served, weaker: Changes) -> Iterator[Check]:
     """Strangers with the key that nginx sends for /healthz, while ten readers search: the monitor is answered all the same."""
-    for turn in range(3):
+    for turn in range(2):
         hub.post(incidents(1_000 + 16 * turn, 16, lines(4_060)))
     one = alone(hub, BEN, "GET", "/search?needle=none")
     with trial(hub, {}, weaker) as at:
