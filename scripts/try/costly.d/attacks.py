@@ -77,10 +77,10 @@ def lines(count: int, name: str = "a") -> str:
 
 
 def dear_view(first: int) -> bytes:
-    """A report whose View is hundreds of megabytes: 1,300 places below 27 classes with long names. It is posted at the hub's own port,
+    """A report whose View has more than a hundred megabytes: 650 places below 27 classes with long names. It is posted at the hub's own port,
     as the proxy has a limit of names."""
     name, frame = "n" * 7_700, '{"a":{"restriction":"public"}}'
-    more = f'"{name}":[{{' * 27 + '"e":[' + ",".join([frame] * 1_300) + "]" + "}]" * 27
+    more = f'"{name}":[{{' * 27 + '"e":[' + ",".join([frame] * 650) + "]" + "}]" * 27
     return f'{{"Incident":[{{"Contact":0,"GenerationTime":0,"IncidentID":{first},"purpose":0,"restriction":"red",{more}}}]}}'.encode()
 
 
