@@ -377,7 +377,7 @@ def posts_within_the_watch(hub: Served, weaker: Changes) -> Iterator[Check]:
     with trial(hub, PATIENT, own) as at, watched(at, most, weaker.get("iodef-hub-room", [])) as room:
         begun = room.metric("next_start_bytes")
         statuses = collections.Counter[tuple[int, str]]()
-        until = time.monotonic() + 60
+        until = time.monotonic() + 150
 
         def one_caller(place: int) -> None:
             turn = 0
