@@ -8,8 +8,12 @@ from typing import Any
 
 from report import Path, classes, compact, pointer
 
+INCIDENT: Path = ("Incident", 0)
 HANDLINGS = ("CLEAR", "GREEN", "AMBER", "STRICT", "RED")  # from the widest audience to the narrowest
 NAMES = {"CLEAR": "TLP:CLEAR", "GREEN": "TLP:GREEN", "AMBER": "TLP:AMBER", "STRICT": "TLP:AMBER+STRICT", "RED": "TLP:RED"}
+
+
+GRANTEES = ("person", "org", "community", "group")
 
 
 @dataclasses.dataclass(frozen=True)
@@ -102,12 +106,13 @@ def on_the_way(document: dict[str, Any], path: Path) -> list[tuple[Path, dict[st
 
 
 def label_at(document: dict[str, Any], path: Path) -> tuple[Path, Label]:
-    """The label that holds for a class, and where it is written: in the class or the nearest one above, else `private`."""
+    """The label that holds for a class, and where it is: written in the class or the nearest one above, else `private`, which is the
+    Incident's and the root's (DECISIONS, "Markings")."""
     for above, node in reversed(on_the_way(document, path)):
         label = written(node)
         if label is not None:
             return above, label
-    return (), Label("private")
+    return (INCIDENT if path[: len(INCIDENT)] == INCIDENT else ()), Label("private")
 
 
 def small(text: str) -> str:
@@ -186,8 +191,10 @@ def lasts(permission: Permission, now: int) -> bool:
 
 
 def covering(view: View, path: Path) -> list[Permission]:
+    """By the places of their classes from the root on, the kinds of grantees and their numbers (COMMAND-LINE, "`explain`")."""
     given = [each for each in view.case.permissions if includes(each, view.reader)]
-    return [each for each in given if reaches(each, view, path) and lasts(each, view.now)]
+    found = [each for each in given if reaches(each, view, path) and lasts(each, view.now)]
+    return sorted(found, key=lambda each: (len(each.path), GRANTEES.index(each.kind), each.grantee))
 
 
 def handling_at(view: View, path: Path) -> str:

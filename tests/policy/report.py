@@ -204,10 +204,10 @@ def arrays(value: Any) -> int:
 
 
 def lines(node: dict[str, Any]) -> int:
-    """One for each object below the root, each other element of an array, and each other member that isn't an array."""
+    """One for each object below the root, each other element of an array, and each other member that isn't an array or is an empty one."""
     count = 0
     for value in node.values():
-        for each in value if isinstance(value, list) else [value]:
+        for each in value if isinstance(value, list) and value else [value]:
             count += 1 + (lines(each) if isinstance(each, dict) else 0)
     return count
 

@@ -19,21 +19,21 @@ WORDS = {
     **{each: each for each in policy.HANDLINGS}, "TLP:CLEAR": "CLEAR", "TLP:WHITE": "CLEAR", "TLP:GREEN": "GREEN", "TLP:AMBER": "AMBER",
     "TLP:AMBER+STRICT": "STRICT", "TLP:RED": "RED",
 }
-GRANTEES = ("person", "org", "community", "group")
+GRANTEES = policy.GRANTEES
 TRUTHS = ("source", "person", "nominated", "addressed", "client", "community", "peer", "connected")
 LISTS = ("groups", "active_groups", "communities")
 MOST_GATES, MOST_PERMISSIONS, MOST_IN_A_LIST = 16, 64, 1000
 NESTING = 128
 
-# The members of each object of a view: those that are required, and the kind of each.
+# The members of each object of a view, in the order of the tables: those that are required, and the kind of each.
 SHORT = ({"clearance"}, {"clearance": "text", "incident": "number", "now": "text"})
 LONG = ({"case", "reader"}, {"now": "text", "incident": "number", "case": "object", "reader": "object"})
 CASE = ({"source", "gates"}, {"source": "number", "community": "number", "gates": "objects", "permissions": "objects"})
 GATE = ({"path", "level"}, {"path": "text", "level": "number", "group": "number"})
-PERMISSION = ({"path"}, {"path": "text", "until": "text", **{each: "number" for each in GRANTEES}})
+PERMISSION = ({"path"}, {"path": "text", **{each: "number" for each in GRANTEES}, "until": "text"})
 READER = (
     {"who", "org"},
-    {"who": "number", "org": "number", "arrangement": "text", **{each: "truth" for each in TRUTHS}, **{each: "numbers" for each in LISTS}},
+    {**{each: "truth" for each in TRUTHS}, "who": "number", "org": "number", "arrangement": "text", **{each: "numbers" for each in LISTS}},
 )
 KINDS: dict[str, Callable[[Any], bool]] = {
     "text": lambda value: isinstance(value, str),
@@ -43,7 +43,7 @@ KINDS: dict[str, Callable[[Any], bool]] = {
     "objects": lambda value: isinstance(value, list),
     "numbers": lambda value: isinstance(value, list),
 }
-Found = list[tuple[Path, "str | None"]]  # where a fault is, in stored order; and its place, if the documents say which
+Found = list[tuple[Path, "str | None"]]  # where a fault is; and None instead of "" if the documents don't say which place it has
 
 
 def moment(text: str) -> int | None:
@@ -81,6 +81,15 @@ def objects_of(view: dict[str, Any]) -> list[tuple[Path, Any, Any]]:
                     found.append((("case", name, place), each, members))
     if isinstance(view.get("reader"), dict):
         found.append((("reader",), view["reader"], READER))
+    return found
+
+
+def in_order(path: Path, members: Any) -> list[int]:
+    """Where a fault is in the order of the tables; an unknown member is before all others, in the order of the text."""
+    found = []
+    for step in path:
+        found.append(step if isinstance(step, int) else list(members).index(step) if step in members else -1)
+        members = {"case": CASE[1], "reader": READER[1], "gates": GATE[1], "permissions": PERMISSION[1]}.get(step, members)
     return found
 
 
@@ -199,7 +208,7 @@ def members_once(pairs: list[tuple[str, Any]]) -> dict[str, Any]:
 
 
 def checked(data: bytes, dated: bool) -> dict[str, Any]:
-    """The view, or its first fault: of all kinds in their order, and of one kind in stored order."""
+    """The view, or its first fault: of all kinds in their order, and of one kind in the order of the tables."""
     try:
         reports.parsed(data, NESTING)
     except ValueError:
@@ -213,9 +222,9 @@ def checked(data: bytes, dated: bool) -> dict[str, Any]:
         ("SourceUnsaid", lambda: source_unsaid(view)),
     ]
     for name, found in kinds:
-        places = sorted(found(), key=lambda each: each[0])
+        places = sorted(found(), key=lambda each: in_order(each[0], (SHORT if "clearance" in view else LONG)[1]))
         if places:
-            raise Fault(name, None if places[0][1] is None else pointer(places[0][0]))
+            raise Fault(name, None if any(said is None for _, said in places) else pointer(places[0][0]))
     return view
 
 
@@ -338,27 +347,18 @@ def marks(report: bytes, number: int) -> str:
 
 def whole(report: bytes, view: bytes, name: str | None = None, identifier: str | None = None) -> str:
     """The excerpt as a report again: placeholders replace the members that a report must have and that are withheld."""
-    looked = seen(report, view, dated=True)
-    served = excerpt_of(looked).document
+    served = excerpt_of(seen(report, view, dated=True)).document
     incident = served.setdefault("Incident", [{}])[0]
-    is_lacking = "IncidentID" not in incident
-    now = datetime.datetime.fromtimestamp(looked.now, datetime.timezone.utc).strftime("%Y-%m-%dT%H:%M:%SZ")
-    defaults = {"purpose": "ext-value", "ext-purpose": "withheld", "GenerationTime": now, "Contact": [{}]}
-    if "purpose" in incident:
-        del defaults["ext-purpose"]
-    incident.update({each: value for each, value in defaults.items() if each not in incident})
-    contacts = incident["Contact"]
-    for contact in contacts if isinstance(contacts, list) else [contacts]:
-        fill_contact(contact)
-    if is_lacking:
+    if "IncidentID" not in incident:
         if identifier is None:
             raise Fault("IdMissing", None)
         incident["IncidentID"] = {"id": identifier, "name": name}
+    if "purpose" not in incident:
+        incident |= withheld("purpose")
+    incident.setdefault("GenerationTime", reports.parsed(view, NESTING)["now"])
+    incident.setdefault("Contact", [{"ContactName": ["withheld"], **withheld("role"), **withheld("type")}])
     return compact(served)
 
 
-def fill_contact(contact: dict[str, Any]) -> None:
-    for member in ("role", "type"):
-        if member not in contact:
-            contact |= {member: "ext-value", f"ext-{member}": "withheld"}
-    contact.setdefault("ContactName", ["withheld"])
+def withheld(member: str) -> dict[str, str]:
+    return {member: "ext-value", f"ext-{member}": "withheld"}
