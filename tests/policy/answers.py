@@ -56,7 +56,7 @@ def asked() -> dict[str, list[Json]]:
 
 def files() -> dict[str, str]:
     made = {name: [with_answers(each) for each in cases] for name, cases in asked().items()}
-    made["hub"] = hub_cases.all_cases(Draws(SEED + " hub"), HUB_CASES)
+    made["hub"] = list(hub_cases.all_cases(Draws(SEED + " hub"), HUB_CASES))
     return {name: written(name, cases) for name, cases in made.items()}
 
 

@@ -118,7 +118,9 @@ class Hub:
     # Requests: each takes the caller's number, the arguments and the moment, and returns the reply
 
     def answer(self, key: str, request: str, given: dict[str, Any], now: int) -> tuple[int, str]:
-        """The status and the body of the reply."""
+        """The status and the body of the reply. No path has the number 0 (HTTP, at its beginning)."""
+        if given.get("number") == 0:
+            return 404, compact({"code": "NoRoute", "detail": "", "reason": "request refused"})
         try:
             caller = next((number for number, each in self.persons.items() if each.key == key and each.is_active), None)
             if caller is None:
@@ -250,7 +252,7 @@ def given_report(asked: Asked, is_replace: bool) -> list[Incident]:
         report = reports.read(asked["report"])
     except Fault as fault:
         raise Refusal("B1", detail_of(fault)) from None
-    refuse_if(bool(gates) and len(report["Incident"]) > 1, "B1", "gates")
+    refuse_if(bool(gates) and len(report["Incident"]) > 1 and not is_replace, "B1", "gates")
     all_gates = {"": Gate(asked["level"], asked["group"] or 0), **{path: Gate(level, group or 0) for level, group, path in gates}}
     found = [Incident(asked.org, each, asked["community"], dict(all_gates)) for each in reports.documents(report)]
     refuse_if(is_replace and len(found) > 1, "B1", "document")

@@ -325,9 +325,12 @@ def directed(hub: Hub) -> Iterator[Json]:
     yield {"requests": talk.requests}
 
 
-def all_cases(draws: Draws, count: int) -> list[Json]:
+def all_cases(draws: Draws, count: int) -> Iterator[Json]:
+    """The cases, in which a draw never depends on an answer."""
     hub = made_hub(CIRCLE)
-    found = list(directed(hub))
-    while len(found) < count:
-        found.append(shared(draws, hub) if len(found) % 5 < 3 else refusals(draws, hub))
-    return found
+    made = 0
+    for each in directed(hub):
+        yield each
+        made += 1
+    for number in range(made, count):
+        yield shared(draws, hub) if number % 5 < 3 else refusals(draws, hub)
