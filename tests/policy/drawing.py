@@ -160,6 +160,9 @@ def long(case: Json, reader: Json, **members: Any) -> Json:
     return {"case": case, "reader": reader, **members}
 
 
+TRUTHS = ("source", "person", "nominated", "addressed", "client", "community", "peer", "connected")
+GRANTEES = ("person", "org", "community", "group")
+
 # A reader of each clearance, with a named community, and one that is of the source
 CLEARED: dict[str, Json] = {
     "CLEAR": {}, "GREEN": {"community": True, "peer": True}, "AMBER": {"nominated": True, "client": True},

@@ -267,12 +267,28 @@ def faults_of_the_view(draws: Draws) -> Iterator[Json]:
         yield the(VIEWED, change, {"call": "excerpt"})
     for text in texts_of_views():
         yield the(VIEWED, text, {"call": "excerpt"})
+    for _ in range(60):
+        view: Json = json.loads(json.dumps(LONG_VIEW))
+        inner = draws.one((view, view["case"], view["case"]["gates"][1], view["case"]["permissions"][draws.below(2)], view["reader"], view["reader"]))
+        names = draws.one((list(inner), list(inner), view_members(inner)))
+        for _ in range(2):
+            name = draws.one(names)
+            inner[name] = draws.one((None, None, "~", "x")) if name in inner else draws.one((None, 7))
+        yield the(VIEWED, view if draws.chance(2, 3) else json.dumps(dict(reversed(view.items()))))
     changes = [change for _, change in every_change()]
     broken = ("{", "[]", '{"Incident":[{}]}', reports.compact(report(incident([{"restriction": "x"}]))), reports.compact(report(incident(a=[[{}]]))))
     for _ in range(90):
         view = changed([draws.one(changes) for _ in range(2 + draws.below(2))])
         asks = [{"call": "explain", "pointer": draws.one((CONTACT, "Contact", "/~2"))} if draws.chance(1, 3) else {"call": draws.one(("excerpt", "whole"))}]
         yield the(draws.one(broken) if draws.chance(1, 3) else VIEWED, view, *asks)
+
+
+def view_members(inner: Json) -> list[str]:
+    """The members that an object of a view may have."""
+    for one, names in (("who", drawing.TRUTHS), ("until", drawing.GRANTEES), ("gates", ("community", "permissions"))):
+        if one in inner:
+            return list(names)
+    return list(inner)
 
 
 Change = tuple[tuple[Any, ...], Any]
@@ -311,7 +327,7 @@ def every_change() -> Iterator[tuple[str, Change]]:
         yield "path", (("case", "gates", 2, "path"), path)
         yield "path", (("case", "permissions", 1, "path"), path)
     for text in (*ENDS, "2026-06-01", "2026-06-01T00:00:00", "2026-13-01T00:00:00Z", "2026-02-29T00:00:00Z", "2026-06-01T24:00:00Z", "2026-06-01T00:60:00Z",
-                 "2026-06-01T00:00:61Z", "2026-06-01T00:00:00.5Z", "now", "", "1780000000", "2026-6-1T00:00:00Z"):
+                 "2026-06-01T00:00:61Z", "2026-06-01T00:00:00.5Z", "2026-06-01T00:00:00+00:60", "2026-06-01T00:00:00+24:00", "2026-06-01T00:00:00+23:59", "now", "", "1780000000", "2026-6-1T00:00:00Z"):
         yield "moment", (("now",), text)
         yield "moment", (("case", "permissions", 0, "until"), text)
     yield "many", (("case", "gates"), [gate(3), *(gate(5, f"/Incident/0/a{each}") for each in range(16))])
@@ -382,7 +398,7 @@ def faults_of_the_report(draws: Draws) -> Iterator[Json]:
     white = {"restriction": "white"}
     for text in ("", " ", "{", "[]", "null", "7", "{}", '{"Incident":[]}', '{"Incident":{}}', '{"Incident":[1]}', '{"Incident":[{}]}', '{"Incident":[[{}]]}', '{"Incident":null}',
                  '{"incident":[]}', '{"Incident":[{},1]}', "\ufeff{}", "{'a':1}", '{"a":01}', '{"a":1,}', '{"a":"\t"}', '{"a":"\\x"}', '{"a":NaN}', '{"a":1e999}', '{"a":-1e999}',
-                 '{"Incident":[{}]} ', '{"Incident":[{}]}]', '{"a":"\\ud834"}', '{"a":"\\udd1e\\ud834"}', '{"a":.5}', '{"a":1.}', '{"a":+1}', "nul", '{"a":' + "9" * 400 + "}"):
+                 '{"Incident":[{}]} ', '{"Incident":[{}]}]', '{"a":"\\ud834"}', '{"\\udd1e":1}', '{"a":"\\udd1e\\ud834"}', '{"a":.5}', '{"a":1.}', '{"a":+1}', "nul", '{"a":' + "9" * 400 + "}"):
         yield the(text, short("RED"))
     numbers = ("1.5", "1.0", "-0", "0.0", "-0.0", "1e3", "1E3", "0e999", "9223372036854775808", "18446744073709551615", "18446744073709551616",
                "-9223372036854775808", "-9223372036854775809", "1e999", "0", "-1", "1e-999")

@@ -102,7 +102,12 @@ def written(node: dict[str, Any]) -> Label | None:
 
 def on_the_way(document: dict[str, Any], path: Path) -> list[tuple[Path, dict[str, Any]]]:
     """The classes above a class, and the class itself."""
-    return [(above, node) for above, node in classes(document) if path[: len(above)] == above]
+    found, node = [], document
+    for steps, step in enumerate(path, 1):
+        node = node[step]
+        if isinstance(node, dict):
+            found.append((path[:steps], node))
+    return found
 
 
 def label_at(document: dict[str, Any], path: Path) -> tuple[Path, Label]:
