@@ -156,8 +156,11 @@ def defaults(draws: Draws) -> Iterator[Json]:
 
 
 def excerpts(draws: Draws, count: int) -> Iterator[Json]:
-    """Reports of all forms, with gates, permissions and readers of all kinds."""
+    """The order of what is withheld; then reports of all forms, with gates, permissions and readers of all kinds."""
     made_ones = 0
+    for made in ordered_places():
+        yield the(made, short("CLEAR"), *excerpt_and("/Incident/0"))
+        made_ones += 1
     while made_ones < count:
         made = drawing.some_report(draws)
         paths = paths_of(made)
@@ -178,6 +181,17 @@ def excerpts(draws: Draws, count: int) -> Iterator[Json]:
             asks.append({"call": "marks", "incident": 0})
         yield the(spelled(draws, made), view, *asks)
         made_ones += 1
+
+
+def ordered_places() -> Iterator[Json]:
+    """Reports of which something is withheld at places whose order differs by text and by the report."""
+    white, red, green = ({"restriction": each} for each in ("white", "red", "green"))
+    yield report(incident([{**white, "a": red} for _ in range(12)], **white))
+    yield report(incident([{**(green if each % 2 else red), "a": white} for each in range(12)], **white))
+    names = ("p/q", "p0", "p~", "pa", "p", "p-", "P", "\u00e9", "\uffee", "\U0001d11e", "p!", "p\"")
+    yield report(incident(**white, **{each: {**white, "a": red} for each in names}))
+    yield report(incident(**white, **{each: {**red, "a": [white, red, green]} for each in names}))
+    yield report(incident([], **{each: [{**red, "a": [white, green]}, {**white, "b": red}] for each in names[:5]}), **{each: {**red, "a": white} for each in names[5:]})
 
 
 def find(draws: Draws, text: str) -> Json:

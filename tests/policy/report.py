@@ -17,7 +17,7 @@ DEPTH = 32
 LINES = 4096
 NESTING = 127
 REQUIRED = ("Contact", "GenerationTime", "IncidentID", "purpose")
-RESTRICTIONS = ("public", "white", "partner", "green", "need-to-know", "amber", "private", "red", "default", "ext-value")
+RESTRICTIONS = {"public", "white", "partner", "green", "need-to-know", "amber", "private", "red", "default", "ext-value"}
 
 
 class Fault(Exception):
@@ -37,7 +37,7 @@ class NotWhole:
 
 def whole(text: str) -> Any:
     """A number without fraction and exponent. `-0` counts as floating point, and one that is out of range is no JSON."""
-    if text == "-0" or len(text) > 25 or not -(2**63) <= int(text) < 2**64:
+    if text == "-0" or not -(2**63) <= int(text) < 2**64:
         return fraction(text)
     return int(text)
 
@@ -222,7 +222,7 @@ def too_many_lines(document: dict[str, Any]) -> bool:
 def breaks_marking(node: dict[str, Any]) -> bool:
     """Any other `restriction` than the ten texts; `ext-value` without `ext-restriction`; one that is alone or no text."""
     restriction, text = node.get("restriction"), node.get("ext-restriction")
-    if "restriction" in node and restriction not in RESTRICTIONS:
+    if "restriction" in node and not (isinstance(restriction, str) and restriction in RESTRICTIONS):
         return True
     if restriction == "ext-value" and "ext-restriction" not in node:
         return True
