@@ -11,6 +11,7 @@ import report as reports
 from drawing import CLEARED, ENDS, FIVE, NOW, PLAIN, SPELLINGS, TLP, Draws, Json, case, gate, incident, long, reader, report, short, spelled
 
 HANDLINGS = tuple(FIVE)
+LATER = "2027-01-01T00:00:00Z"
 CONTACT, EMAIL = "/Incident/0/Contact/0", "/Incident/0/Contact/0/Email/0"
 
 
@@ -117,7 +118,7 @@ def permissions(draws: Draws) -> Iterator[Json]:
         {"person": 9}, {"person": 5}, {"org": 5}, {"org": 9}, {"community": 3}, {"community": 4}, {"group": 4}, {"group": 5}, {"group": 6},
     )
     belongs = {"groups": [4, 5], "active_groups": [4], "communities": [3]}
-    for grantee, end in itertools.product(grantees, (None, *ENDS[:3], ENDS[6])):
+    for grantee, end in itertools.product(grantees, (None, *ENDS[:3], LATER)):
         given = {"path": CONTACT, **grantee, **({"until": end} if end else {})}
         made = report(incident([{"restriction": "red", "Email": [{}]}, {}], restriction="white"))
         yield the(made, long(case(permissions=[given]), reader(**belongs), now=NOW), *excerpt_and(EMAIL))
@@ -263,7 +264,7 @@ LONG_VIEW: Json = {
     "now": NOW, "incident": 0,
     "case": {
         "source": 1, "community": 2, "gates": [gate(3), gate(4, CONTACT, 4), gate(1, EMAIL)],
-        "permissions": [{"path": CONTACT, "org": 5, "until": ENDS[6]}, {"path": EMAIL, "group": 4}, {"path": CONTACT, "person": 9}],
+        "permissions": [{"path": CONTACT, "org": 5, "until": LATER}, {"path": EMAIL, "group": 4}, {"path": CONTACT, "person": 9}],
     },
     "reader": {
         "who": 9, "org": 5, "nominated": True, "client": True, "community": True, "peer": False, "arrangement": "AMBER", "groups": [4, 5],
@@ -348,6 +349,9 @@ def every_change() -> Iterator[tuple[str, Change]]:
     yield "many", (("case", "gates"), [gate(3), *(gate(5, f"/Incident/0/a{each}") for each in range(17))])
     yield "many", (("case", "permissions"), [{"path": CONTACT, "org": each} for each in range(64)])
     yield "many", (("case", "permissions"), [{"path": CONTACT, "org": each} for each in range(65)])
+    for name in ("groups", "communities"):
+        yield "many", (("reader", name), [*range(1000)])
+        yield "many", (("reader", name), [*range(1001)])
     yield "twice", (("case", "gates", 1, "path"), EMAIL)
     yield "twice", (("case", "permissions", 2), {"path": CONTACT, "org": 5})
     yield "twice", (("case", "gates"), [gate(3), gate(3)])

@@ -123,7 +123,9 @@ def some_incident(draws: Draws, ident: int, parts: int = 3) -> Json:
     nodes = [{**drawing.label(draws), **({"Email": [{**drawing.label(draws), "EmailTo": draws.one(("needle", "x"))}]} if draws.chance(1, 3) else {})} for _ in range(1 + draws.below(parts))]
     made = incident(nodes, **drawing.label(draws))
     made["IncidentID"] |= {"id": str(ident)}
-    made["GenerationTime"], made["purpose"] = "t", "other"
+    made["GenerationTime"] = "t"
+    if draws.chance(2, 3):
+        made |= draws.one((FIVE["CLEAR"], FIVE["GREEN"], FIVE["GREEN"], FIVE["AMBER"], FIVE["STRICT"], {"restriction": "default"}))
     return made
 
 
@@ -141,7 +143,7 @@ def shared(draws: Draws, hub: Hub) -> Json:
     at = draws.one(LEVELS)
     gates = [(at, draws.one((1, 2)) if at == 4 else None, draws.one(PATHS[:3]))] if draws.chance(1, 2) else None
     body = reports.compact(report(some_incident(draws, 1))).encode()
-    talk.ask(by, "Post", report=body, level=level, group=group, community=draws.one((None, None, 1, 2, 4)), gates=gates)
+    talk.ask(by, "Post", report=body, level=level, group=group, community=draws.one((None, None, 2 if by == 5 else 1, 4 if by == 2 else 2)), gates=gates)
     for _ in range(draws.below(4)):
         change(draws, talk, by)
     for person in draws.some((2, 3, 4, 5, 6, 8, 9, 11, 12, 13, 14), 4):
@@ -185,9 +187,12 @@ def any_number(draws: Draws, most: int) -> int:
     return 1 + draws.below(most) if draws.chance(8, 9) else draws.one((0, 99))
 
 
-def any_gate(draws: Draws) -> Json:
-    level = draws.one((*LEVELS, 6))
-    return {"level": level, "group": draws.one((1, 2, 3, 4, 9)) if draws.chance(9, 10) == (level == 4) else None}
+def any_gate(draws: Draws, levels: tuple[int, ...] = (*LEVELS, 6)) -> Json:
+    level = draws.one(levels)
+    return {"level": level, "group": draws.one((1, 1, 2, 3, 4, 9)) if draws.chance(14, 15) == (level == 4) else None}
+
+
+ROOT_LEVELS = (0, 1, 1, 2, 3, 3, 3, 3, 3, 4, 4, 5)
 
 
 def any_name(draws: Draws) -> str:
@@ -195,71 +200,83 @@ def any_name(draws: Draws) -> str:
 
 
 def any_report(draws: Draws, ident: int) -> bytes:
-    if draws.chance(1, 6):
+    if draws.chance(1, 4):
         return draws.one((
             b"{", b"[]", b'{"Incident":[]}', b'{"Incident":[{"IncidentID":{}}]}', b'{"Incident":[{"Contact":0,"GenerationTime":0.5,"IncidentID":{},"purpose":0}]}',
             b'{"Incident":[{"Contact":[[{}]],"GenerationTime":0,"IncidentID":{},"purpose":0}]}',
             b'{"Incident":[{"Contact":[{"restriction":"x"}],"GenerationTime":0,"IncidentID":{},"purpose":0}]}',
             b'{"Incident":[{"Contact":0,"GenerationTime":0,"IncidentID":{},"purpose":0},{"Contact":{"ext-restriction":1},"GenerationTime":0,"IncidentID":{"id":"9"},"purpose":0}]}',
         ))
-    made = some_incident(draws, ident)
-    others = [some_incident(draws, draws.one((ident, 8, 9)))] if draws.chance(1, 10) else []
-    if draws.chance(1, 12):
+    made = incident([{"restriction": "red", "Email": [{}]}, {}], **drawing.label(draws))
+    made["IncidentID"]["id"] = str(ident)
+    others = [some_incident(draws, draws.one((ident, 8, 9)))] if draws.chance(1, 8) else []
+    if draws.chance(1, 10):
         made["IncidentID"] = draws.one(("1", 1, {"id": "1", "name": "a", "restriction": "green"}, {"name": "a", "id": "1"}, None))
     return reports.compact(report(made, *others)).encode()
 
 
+# Who asks for what, mostly: those that may, and one that may not
+CALLERS: dict[str, tuple[int, ...]] = {
+    "Explain": (1, 1, 16, 1, 2), "NewGroup": (2, 2, 3, 5, 2, 10), "GroupAdd": (2, 2, 3, 5, 4, 8), "GroupRemove": (2, 2, 2, 3, 5, 9), "GroupActive": (2, 2, 3, 5, 10),
+    "Arrange": (2, 2, 2, 3, 1), "CancelArrange": (2, 2, 2, 3, 10), "Nominate": (2, 2, 3, 6, 10), "Unnominate": (3, 3, 2, 6, 1), "AddPerson": (1, 1, 1, 16, 2),
+    "SuspendPerson": (1, 1, 16, 1, 2), **{each: (2, 2, 2, 2, 10, 2, 3, 1) for each in ("Post", "Replace", "Redistribute", "Address", "Unaddress", "Grant", "Withdraw")},
+    **{each: (2, 3, 4, 8, 11, 13, 1) for each in ("View", "List", "Search", "Addressed", "MyGroups", "WhoAmI")},
+}
+DRAWN = (*ROUTES, *("Post", "Replace", "Grant", "Redistribute", "Withdraw", "Address") * 2, "Post", "Replace", "NewGroup", "GroupAdd", "SuspendPerson", "Nominate", "Explain")
+
+
 def any_request(draws: Draws, talk: Talk) -> None:
     """Any request by mostly one who may make it, with arguments that are mostly right."""
-    request = draws.one((*ROUTES, "Post", "Grant", "Redistribute", "Replace", "Replace", "Grant", "Explain"))
-    by = draws.one({
-        "Post": (2, 2, 10, 3, 13, 1, 8), "Explain": (1, 1, 16, 2), "NewGroup": (2, 2, 3, 5, 10), "GroupAdd": (2, 3, 5, 4, 5), "Arrange": (2, 2, 3, 1),
-    }.get(request, (1, 1, 16, 2) if ROUTES[request][1].startswith(("/orgs", "/communities")) else (2, 2, 2, 3, 10, 4, 1)))
-    if request in ("AddPerson", "SuspendPerson"):
-        by = draws.one((1, 1, 1, 16, 2))
-    if draws.chance(1, 14):
+    request = draws.one(DRAWN)
+    by = draws.one(CALLERS.get(request, (1, 1, 1, 16, 2)))
+    if draws.chance(1, 20):
         by = draws.one((0, 1, 8, 15, 9, 6))
     path = draws.one(PATHS) if draws.chance(3, 4) else draws.one(ODD_PATHS)
-    number = any_number(draws, 2 if ROUTES[request][1].startswith("/incidents/") else 5)
+    number = any_number(draws, 4)
+    if ROUTES[request][1].startswith("/incidents/"):
+        number = draws.one((1, 1, 1, 1, 1, 1, 1, 2, 9, any_number(draws, 2)))
     org = any_number(draws, 8)
-    some_gates = [(each["level"], each["group"], draws.one(PATHS) if draws.chance(5, 6) else draws.one(ODD_PATHS)) for each in (any_gate(draws) for _ in range(draws.below(3)))]
+    some_gates = [(each["level"], each["group"], draws.one(PATHS) if draws.chance(5, 6) else draws.one(ODD_PATHS)) for each in (any_gate(draws) for _ in range(draws.one((0, 0, 0, 1, 2))))]
     given: Json = {
         "View": {"number": number}, "List": {"after": draws.one((None, 0, 1, 7))}, "Addressed": {"after": draws.one((None, 1))}, "MyGroups": {}, "WhoAmI": {},
         "Search": {"needle": draws.one(("needle", "creator", "", "x" * 256, "x" * 257, "a")), "class": draws.one((None, "Contact", "", "y" * 257))},
         "Explain": {"person": any_number(draws, 16), "incident": any_number(draws, 2), "path": path},
-        "Post": {"report": any_report(draws, draws.one((1, 1, 2, 3))), "community": draws.one((None, None, 1, 2, 4, 9)), "gates": some_gates, **any_gate(draws)},
+        "Post": {"report": any_report(draws, draws.one((1, 1, 2, 3))), "community": draws.one((None, None, 1, 2, 4, 9)), "gates": some_gates, **any_gate(draws, ROOT_LEVELS)},
         "Replace": {
-            "number": number, "report": any_report(draws, 1), "revision": draws.one((1, 1, 1, 2, 0)), "community": draws.one((None, None, 1, 3, 9)),
-            "gates": some_gates, **any_gate(draws),
+            "number": number, "report": any_report(draws, draws.one((1, 1, 1, 2))), "revision": draws.one((1, 1, 1, 2, 0)), "community": draws.one((None, None, 1, 3, 9)),
+            "gates": some_gates, **any_gate(draws, ROOT_LEVELS),
         },
         "Redistribute": {"number": number, "revision": draws.one((1, 1, 1, 2)), "path": draws.one(("", path, path)), **any_gate(draws)},
         "Address": {"number": number, **draws.one(({"org": org}, {"person": any_number(draws, 16)}))},
-        "Unaddress": {"number": number, **draws.one(({"org": org}, {"org": 3}, {"person": 4}))},
-        "Grant": {"number": number, "revision": draws.one((1, 1, 1, 2)), "path": path, "until": draws.one((None, None, *ENDS)), **draws.one((grantee(draws), {"org": org}))},
-        "Withdraw": {"number": number, "path": path, **draws.one((grantee(draws), {"org": 3}))},
+        "Unaddress": {"number": number, **draws.one(({"org": org}, {"org": 3}, {"person": 4}, {"person": 99}))},
+        "Grant": {"number": number, "revision": draws.one((1, 1, 1, 2)), "path": path, "until": draws.one((None, ENDS[0], *ENDS)), **draws.one((grantee(draws), {"org": org}, {"org": 3}, {"group": 4}))},
+        "Withdraw": {"number": number, "path": draws.one((path, PATHS[1])), **draws.one((grantee(draws), {"org": 3}, {"group": 1}, {"person": 4}))},
         "AddOrg": {"name": any_name(draws)}, "AddCommunity": {"name": any_name(draws)},
         "AddPerson": {"org": org, "name": any_name(draws), "role": draws.one(("reader", "poster", "coordinator", "administrator")), "key": digest(key_of(draws.one((15, 3, 17, 18, 19))))},
-        "SuspendPerson": {"number": any_number(draws, 16)}, "AddClient": {"number": org, "client": any_number(draws, 8)},
+        "SuspendPerson": {"number": draws.one((1, 15, 99, 8, any_number(draws, 16)))}, "AddClient": {"number": org, "client": any_number(draws, 8)},
         "RemoveClient": {"number": draws.one((2, 3, org)), "client": draws.one((6, 7, org))},
         "Join": {"number": number, "org": org}, "Leave": {"number": number, "org": draws.one((2, 3, org))}, "Link": {"number": number, "other": any_number(draws, 4)},
         "Unlink": {"number": draws.one((3, 2, number)), "other": draws.one((1, 4, number))}, "NewGroup": {"name": any_name(draws), "releasability": draws.one(("", "\n", "r" * 512, "r" * 513))},
-        "GroupAdd": {"number": number, "org": org, "extend": draws.below(2)}, "GroupRemove": {"number": number, "org": draws.one((2, 3, 5, org))},
+        "GroupAdd": {"number": draws.one((1, 1, 2, number)), "org": draws.one((3, 4, org)), "extend": draws.below(2)}, "GroupRemove": {"number": draws.one((1, 1, 2, number)), "org": draws.one((2, 3, 5, org))},
         "GroupActive": {"number": number, "active": draws.below(2)}, "Arrange": {"org": org, "handling": draws.one(tuple(FIVE))},
-        "CancelArrange": {"org": draws.one((3, 6, org))}, "Nominate": {"number": any_number(draws, 16)}, "Unnominate": {"number": draws.one((3, 11, any_number(draws, 16)))},
+        "CancelArrange": {"org": draws.one((3, 6, org))}, "Nominate": {"number": draws.one((9, 3, 11, 15, 99, any_number(draws, 16)))}, "Unnominate": {"number": draws.one((3, 11, any_number(draws, 16)))},
     }[request]
     talk.ask(by, request, **given)
 
 
 def refusals(draws: Draws, hub: Hub) -> Json:
-    """A posted report, then requests of all kinds, of which many are refused."""
+    """Two posted reports, then requests of all kinds, of which many are refused."""
     talk = Talk(hub)
-    if draws.chance(5, 6):
-        body = reports.compact(report(some_incident(draws, 1))).encode()
-        talk.ask(2, "Post", report=body, level=draws.one((1, 3)), gates=[(1, None, "/Incident/0/Contact/0")] if draws.chance(1, 4) else None)
-        for _ in range(draws.below(3)):
-            talk.ask(2, "Address", number=1, **draws.one(({"org": 3}, {"person": 4})))
+    body = reports.compact(report(incident([{"restriction": "red", "Email": [{}]}, {}], restriction="green"))).encode()
+    gates = [(draws.one((1, 3)), None, PATHS[1])] if draws.chance(1, 3) else None
+    talk.ask(2, "Post", report=body, level=draws.one((1, 3)), gates=gates)
+    if draws.chance(1, 2):
+        talk.ask(3, "Post", report=body, level=3)
+    if draws.chance(1, 2):
+        talk.ask(2, "Address", number=1, **draws.one(({"org": 3}, {"person": 4})))
+    if draws.chance(1, 2):
         talk.ask(2, "Grant", number=1, revision=1, path=PATHS[1], until=draws.one((None, ENDS[0])), **draws.one(({"org": 3}, {"group": 1}, {"person": 4})))
-    for _ in range(7):
+    for _ in range(14):
         any_request(draws, talk)
     return {"requests": talk.requests}
 

@@ -7,6 +7,7 @@ A path is a tuple of members' names (str) and places in arrays (int).
 from __future__ import annotations
 
 import json
+import math
 from collections.abc import Iterator
 from typing import Any
 
@@ -43,7 +44,7 @@ def whole(text: str) -> Any:
 
 
 def fraction(text: str) -> NotWhole:
-    if float(text) in (float("inf"), float("-inf")):
+    if math.isinf(float(text)):
         raise ValueError("out of range")
     return NotWhole()
 
@@ -102,7 +103,7 @@ def compact(value: Any) -> str:
 
 def is_pointer(text: str) -> bool:
     """Empty, or a slash first; `0` or `1` after each `~`."""
-    return text == "" or text[0] == "/" and all(rest[:1] in ("0", "1") for rest in text.split("~")[1:])
+    return text == "" or text[0] == "/" and all(rest[:1] in {"0", "1"} for rest in text.split("~")[1:])
 
 
 def pointer(path: Path) -> str:
@@ -186,7 +187,7 @@ def values(value: Any, path: Path = ()) -> Iterator[tuple[Path, Any]]:
 def nests_no_class(report: dict[str, Any]) -> None:
     """No object is in an array inside an array."""
     for path, value in values(report):
-        if isinstance(value, dict) and len(path) > 1 and isinstance(path[-1], int) and isinstance(path[-2], int):
+        if isinstance(value, dict) and [type(step) for step in path[-2:]] == [int, int]:
             raise Fault("NestedClass", pointer(path))
 
 

@@ -43,7 +43,7 @@ KINDS: dict[str, Callable[[Any], bool]] = {
     "objects": lambda value: isinstance(value, list),
     "numbers": lambda value: isinstance(value, list),
 }
-Found = list[tuple[Path, "str | None"]]  # where a fault is; and None instead of "" if the documents don't say which place it has
+Found = list[Path | None]  # where a fault is; None if the documents don't say which place it has
 
 
 def moment(text: str) -> int | None:
@@ -94,7 +94,7 @@ def in_order(path: Path, members: Any) -> list[int]:
 
 
 def unknown(view: dict[str, Any]) -> Found:
-    return [((*path, name), "") for path, node, (_, members) in objects_of(view) for name in node if name not in members]
+    return [(*path, name) for path, node, (_, members) in objects_of(view) for name in node if name not in members]
 
 
 def missing(view: dict[str, Any], dated: bool) -> Found:
@@ -102,15 +102,15 @@ def missing(view: dict[str, Any], dated: bool) -> Found:
     found: Found = []
     is_dated = dated
     for path, node, (required, members) in objects_of(view):
-        found += [((*path, name), "") for name in required if name not in node]
+        found += [(*path, name) for name in required if name not in node]
         if members is GATE[1] and node.get("level") == 4 and "group" not in node:
-            found.append(((*path, "group"), ""))
+            found.append((*path, "group"))
         if members is PERMISSION[1]:
             is_dated = is_dated or "until" in node
             if not any(each in node for each in GRANTEES):
-                found.append((path, None))
+                found.append(None)
     if is_dated and "now" not in view:
-        found.append((("now",), ""))
+        found.append(("now",))
     return found
 
 
@@ -119,10 +119,10 @@ def of_wrong_kind(view: dict[str, Any]) -> Found:
     for path, node, (_, members) in objects_of(view):
         for name, value in node.items():
             if not KINDS[members[name]](value):
-                found.append(((*path, name), ""))
-            elif members[name] in ("objects", "numbers"):
+                found.append((*path, name))
+            elif members[name] in {"objects", "numbers"}:
                 kind = KINDS["object" if members[name] == "objects" else "number"]
-                found += [((*path, name, place), "") for place, each in enumerate(value) if not kind(each)]
+                found += [(*path, name, place) for place, each in enumerate(value) if not kind(each)]
     return found
 
 
@@ -131,12 +131,12 @@ def out_of_range(view: dict[str, Any]) -> Found:
     for path, node, (_, members) in objects_of(view):
         for name, value in node.items():
             if members[name] == "number" and name != "level" and not 0 <= value < NUMBERS:
-                found.append(((*path, name), ""))
+                found.append((*path, name))
             if members[name] == "numbers":
-                found += [((*path, name), "")] if len(value) > MOST_IN_A_LIST else []
-                found += [((*path, name, place), "") for place, each in enumerate(value) if not 0 <= each < NUMBERS]
-            if name in ("clearance", "arrangement") and value not in WORDS:
-                found.append(((*path, name), ""))
+                found += [(*path, name)] if len(value) > MOST_IN_A_LIST else []
+                found += [(*path, name, place) for place, each in enumerate(value) if not 0 <= each < NUMBERS]
+            if name in {"clearance", "arrangement"} and value not in WORDS:
+                found.append((*path, name))
     if "case" in view:
         found += gates_out_of_range(view["case"]["gates"]) + permissions_out_of_range(view["case"].get("permissions", []))
         found += reader_out_of_range(view["reader"], view["case"])
@@ -146,51 +146,48 @@ def out_of_range(view: dict[str, Any]) -> Found:
 def gates_out_of_range(gates: list[dict[str, Any]]) -> Found:
     found: Found = []
     if len([each for each in gates if each["path"] != ""]) > MOST_GATES:
-        found.append((("case", "gates"), ""))
+        found.append(("case", "gates"))
     if not any(each["path"] == "" for each in gates):
-        found.append((("case", "gates"), None))
+        found.append(None)
     for place, each in enumerate(gates):
         at = ("case", "gates", place)
         if not 0 <= each["level"] <= (5 if each["path"] else 4):
-            found.append(((*at, "level"), ""))
+            found.append((*at, "level"))
         elif each["level"] != 4 and "group" in each:
-            found.append(((*at, "group"), None))
+            found.append(None)
         if each["path"] in [other["path"] for other in gates[:place]]:
-            found.append(((*at, "path"), None))
+            found.append(None)
     return found
 
 
 def permissions_out_of_range(permissions: list[dict[str, Any]]) -> Found:
     found: Found = []
     if len(permissions) > MOST_PERMISSIONS:
-        found.append((("case", "permissions"), ""))
+        found.append(("case", "permissions"))
     keys = []
-    for place, each in enumerate(permissions):
+    for each in permissions:
         named = [(each["path"], kind, each[kind]) for kind in GRANTEES if kind in each]
-        if len(named) > 1:
-            found.append((("case", "permissions", place), None))
-        if any(key in keys for key in named):
-            found.append((("case", "permissions", place), None))
+        if len(named) > 1 or any(key in keys for key in named):
+            found.append(None)
         keys += named
     return found
 
 
 def reader_out_of_range(reader: dict[str, Any], case: dict[str, Any]) -> Found:
     groups = reader.get("groups", [])
-    active = enumerate(reader.get("active_groups", []))
-    found: Found = [(("reader", "active_groups", place), None) for place, each in active if each not in groups]
+    found: Found = [None for each in reader.get("active_groups", []) if each not in groups]
     if "community" not in case and reader.get("peer", False) != reader.get("community", False):
-        found.append((("reader", "peer"), None))
+        found.append(None)
     return found
 
 
 def bad_pointers(view: dict[str, Any]) -> Found:
-    return [((*path, "path"), "") for path, node, _ in objects_of(view) if "path" in node and not reports.is_pointer(node["path"])]
+    return [(*path, "path") for path, node, _ in objects_of(view) if "path" in node and not reports.is_pointer(node["path"])]
 
 
 def bad_moments(view: dict[str, Any]) -> Found:
     named = [((*path, name), node[name]) for path, node, _ in objects_of(view) for name in ("now", "until") if name in node]
-    return [(path, "") for path, text in named if moment(text) is None]
+    return [path for path, text in named if moment(text) is None]
 
 
 def source_unsaid(view: dict[str, Any]) -> Found:
@@ -198,7 +195,7 @@ def source_unsaid(view: dict[str, Any]) -> Found:
     if "case" not in view:
         return []
     reader = view["reader"]
-    return [] if reader.get("source", False) == (reader["org"] == view["case"]["source"]) else [(("reader", "source"), "")]
+    return [] if reader.get("source", False) == (reader["org"] == view["case"]["source"]) else [("reader", "source")]
 
 
 def members_once(pairs: list[tuple[str, Any]]) -> dict[str, Any]:
@@ -222,9 +219,10 @@ def checked(data: bytes, dated: bool) -> dict[str, Any]:
         ("SourceUnsaid", lambda: source_unsaid(view)),
     ]
     for name, found in kinds:
-        places = sorted(found(), key=lambda each: in_order(each[0], (SHORT if "clearance" in view else LONG)[1]))
-        if places:
-            raise Fault(name, None if any(said is None for _, said in places) else pointer(places[0][0]))
+        paths = found()
+        said = sorted((each for each in paths if each is not None), key=lambda each: in_order(each, (SHORT if "clearance" in view else LONG)[1]))
+        if paths:
+            raise Fault(name, pointer(said[0]) if len(said) == len(paths) else None)
     return view
 
 
@@ -235,7 +233,7 @@ def short_reader(cleared: str) -> Reader:
     """A reader of whom only the clearance is known; the root's gate lets everybody pass."""
     is_peer = cleared == "GREEN"
     return Reader(
-        who=0, org=0, person=cleared == "RED", nominated=cleared in ("AMBER", "STRICT"), addressed=cleared == "STRICT",
+        who=0, org=0, person=cleared == "RED", nominated=cleared in {"AMBER", "STRICT"}, addressed=cleared == "STRICT",
         client=cleared == "AMBER", community=is_peer, peer=is_peer,
     )
 
