@@ -282,6 +282,8 @@ def faults_of_the_view(draws: Draws) -> Iterator[Json]:
         yield the(VIEWED, change, {"call": "excerpt"})
     for text in texts_of_views():
         yield the(VIEWED, text, {"call": "excerpt"})
+    for view in views_of_two_faults():
+        yield the(VIEWED, view, {"call": "excerpt"})
     for _ in range(60):
         view: Json = json.loads(json.dumps(LONG_VIEW))
         inner = draws.one((view, view["case"], view["case"]["gates"][1], view["case"]["permissions"][draws.below(2)], view["reader"], view["reader"]))
@@ -357,6 +359,24 @@ def every_change() -> Iterator[tuple[str, Change]]:
     yield "twice", (("case", "gates"), [gate(3), gate(3)])
     yield "none", (("case", "gates"), [])
     yield "none", (("case", "gates"), [gate(3, CONTACT)])
+
+
+def views_of_two_faults() -> Iterator[Json]:
+    """What gates and permissions, or the reader's truths, break together, beside a path or a moment that is at fault."""
+    root, other, late = gate(3), gate(3, "x"), "2026-02-29T00:00:00Z"
+    twice, ended = [{"path": CONTACT, "org": 5}] * 2, {"path": CONTACT, "org": 6, "until": late}
+    pairs: tuple[tuple[list[Json], list[Json]], ...] = (
+        ([root], [*twice, ended]), ([root], [{"path": CONTACT, "org": 5, "until": late}, twice[0]]), ([root], [{"path": "x", "org": 5}] * 2), ([root, other], twice),
+        ([root, other, other], []), ([root, gate(3, CONTACT), gate(3, CONTACT), other], []), ([root, root], [ended]), ([root, root], [{"path": "x", "org": 5}]),
+        ([other], []), ([other, other], []), ([root], [{"path": CONTACT, "org": 5, "person": 1}, ended]), ([gate(9)], [ended]), ([root, other], [*twice, ended]),
+        ([root], [{"path": CONTACT, "org": each, "until": late} for each in range(65)]), ([root, *(gate(3, f"x{each}") for each in range(17))], []),
+    )
+    for listed, given in pairs:
+        yield long(case(*listed, permissions=given), reader(), now=NOW)
+    for members, now in itertools.product(({"peer": True}, {"active_groups": [3]}, {"arrangement": "x"}, {"org": 1, "peer": True}, {"org": 1}), (NOW, late)):
+        yield long(case(), reader(**members), now=now)
+    for listed, given in (pairs[0], pairs[3], ([root], twice), ([root, root], []), ([root, other], []), ([root], [ended])):
+        yield long(case(*listed, permissions=given), reader(**{"org": 1} if len(given) > 2 else {"peer": True}), now=NOW)
 
 
 def members_of(value: Any, path: tuple[Any, ...] = ()) -> Iterator[tuple[Any, ...]]:
@@ -516,6 +536,21 @@ def whole(draws: Draws) -> Iterator[Json]:
         view = short(draws.one(HANDLINGS), **({} if draws.chance(1, 12) else {"now": draws.one((NOW, "2026-06-01T02:00:00+02:00"))}))
         given = {} if draws.chance(1, 4) else {"id": draws.one(("7", "a\"b", "\u00e9")), "id_name": draws.one(("x.example", ""))}
         yield the(report(made, **draws.one(({}, {"Extra": {"restriction": "white"}}))), view, {"call": "whole", **given})
+    yield from labels_added()
+
+
+def labels_added() -> Iterator[Json]:
+    """An excerpt that a label makes too deep or too long for a report."""
+    asks: list[Json] = [{"call": "excerpt"}, {"call": "whole", "id": "7", "id_name": "x.example"}]
+    for depth in (29, 30):
+        place = "/Incident/0/a" + "/a" * depth
+        view = long(case(permissions=[{"path": place, "org": 5}]), reader(), now=NOW)
+        yield the(report(incident(restriction="red", a=nest_objects(depth, {}))), view, *asks, {"call": "explain", "pointer": place})
+    text = reports.compact(report(incident(b=["@"])))
+    times = 4096 - reports.lines(json.loads(text))
+    before, _, after = text.partition('"@"')
+    for count in (times - 1, times):
+        yield the([[before, 1], ["0,", count], ["0" + after, 1]], short("RED", now=NOW), *asks)
 
 
 def all_cases(seed: str, count: int) -> dict[str, list[Json]]:

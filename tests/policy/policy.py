@@ -67,7 +67,7 @@ class View:
     document: dict[str, Any]
     case: Case
     reader: Reader
-    now: int = 0
+    now: int
 
 
 # POLICY, "Labels"

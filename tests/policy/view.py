@@ -139,7 +139,7 @@ def out_of_range(view: dict[str, Any]) -> Found:
                 found.append((*path, name))
     if "case" in view:
         found += gates_out_of_range(view["case"]["gates"]) + permissions_out_of_range(view["case"].get("permissions", []))
-        found += reader_out_of_range(view["reader"], view["case"])
+        found += reader_out_of_range(view)
     return found
 
 
@@ -155,8 +155,9 @@ def gates_out_of_range(gates: list[dict[str, Any]]) -> Found:
             found.append((*at, "level"))
         elif each["level"] != 4 and "group" in each:
             found.append(None)
-        if each["path"] in [other["path"] for other in gates[:place]]:
-            found.append(None)
+    paths = [each["path"] for each in gates]
+    if len(set(paths)) < len(paths) and all(map(reports.is_pointer, paths)):
+        found.append(None)
     return found
 
 
@@ -164,19 +165,21 @@ def permissions_out_of_range(permissions: list[dict[str, Any]]) -> Found:
     found: Found = []
     if len(permissions) > MOST_PERMISSIONS:
         found.append(("case", "permissions"))
-    keys = []
-    for each in permissions:
-        named = [(each["path"], kind, each[kind]) for kind in GRANTEES if kind in each]
-        if len(named) > 1 or any(key in keys for key in named):
-            found.append(None)
-        keys += named
+    named = [[(each["path"], kind, each[kind]) for kind in GRANTEES if kind in each] for each in permissions]
+    if any(len(each) > 1 for each in named):
+        found.append(None)
+    keys = [key for each in named for key in each]
+    are_good = all(reports.is_pointer(each["path"]) and ("until" not in each or moment(each["until"]) is not None) for each in permissions)
+    if len(set(keys)) < len(keys) and are_good:
+        found.append(None)
     return found
 
 
-def reader_out_of_range(reader: dict[str, Any], case: dict[str, Any]) -> Found:
+def reader_out_of_range(view: dict[str, Any]) -> Found:
+    reader, case = view["reader"], view["case"]
     groups = reader.get("groups", [])
     found: Found = [None for each in reader.get("active_groups", []) if each not in groups]
-    if "community" not in case and reader.get("peer", False) != reader.get("community", False):
+    if "community" not in case and reader.get("peer", False) != reader.get("community", False) and not bad_pointers(view) + bad_moments(view):
         found.append(None)
     return found
 
@@ -280,8 +283,7 @@ def seen(report: bytes, view: bytes, dated: bool = False, place: str | None = No
                 raise Fault("NoClass", None)
     if place is not None and policy.class_at(document, place) is None:
         raise Fault("NoClass")
-    now = described.get("now")
-    return View(document, case_of(described), reader_of(described), (moment(now) or 0) if now is not None else 0)
+    return View(document, case_of(described), reader_of(described), moment(described.get("now", "")) or 0)
 
 
 def whole_report(report: bytes) -> dict[str, Any]:
@@ -355,6 +357,8 @@ def whole(report: bytes, view: bytes, name: str | None = None, identifier: str |
         incident |= withheld("purpose")
     incident.setdefault("GenerationTime", reports.parsed(view, NESTING)["now"])
     incident.setdefault("Contact", [{"ContactName": ["withheld"], **withheld("role"), **withheld("type")}])
+    if reports.too_deep(served) or reports.too_many_lines(served):
+        raise Fault("NotReadable", None)
     return compact(served)
 
 
