@@ -24,6 +24,8 @@ TRUTHS = ("source", "person", "nominated", "addressed", "client", "community", "
 LISTS = ("groups", "active_groups", "communities")
 MOST_GATES, MOST_PERMISSIONS, MOST_IN_A_LIST = 16, 64, 1000
 NESTING = 128
+LATEST = 253_402_207_200  # 9999-12-30T22:00:00Z
+FOUR_CENTURIES = 146_097 * 86_400
 
 # The members of each object of a view, in the order of the tables: those that are required, and the kind of each.
 SHORT = ({"clearance"}, {"clearance": "text", "incident": "number", "now": "text"})
@@ -48,19 +50,20 @@ Found = list[Path | None]  # where a fault is; None if the documents don't say w
 
 def moment(text: str) -> int | None:
     """The second that a moment of RFC 3339 names: date, time and offset. A fraction has zeros alone; second 60 is read as 59."""
-    found = re.fullmatch(r"(\d{4})-(\d\d)-(\d\d)[Tt](\d\d):(\d\d):(\d\d)(?:\.0+)?(?:[Zz]|([+-])(\d\d):(\d\d))", text, re.ASCII)
+    found = re.fullmatch(r"(\d{4})-(\d\d)-(\d\d)[Tt](\d\d):(\d\d):(\d\d)(?:\.0{1,9})?(?:[Zz]|([+-])(\d\d):(\d\d))", text, re.ASCII)
     if not found:
         return None
     year, month, day, hour, minute, second = map(int, found.groups()[:6])
     sign, hours, minutes = found.groups()[6:]
     try:
-        there = datetime.datetime(year, month, day, hour, minute, 59 if second == 60 else second)
+        there = datetime.datetime(year or 400, month, day, hour, minute, 59 if second == 60 else second)
     except ValueError:
         return None
     if sign and (int(hours) > 23 or int(minutes) > 59):
         return None
     ahead = (int(hours) * 3600 + int(minutes) * 60) * (-1 if sign == "-" else 1) if sign else 0
-    return calendar.timegm(there.timetuple()) - ahead
+    passed = calendar.timegm(there.timetuple()) - ahead - (0 if year else FOUR_CENTURIES)  # datetime has no year 0
+    return passed if passed <= LATEST else None
 
 
 # The objects of a view
@@ -103,7 +106,7 @@ def missing(view: dict[str, Any], dated: bool) -> Found:
     is_dated = dated
     for path, node, (required, members) in objects_of(view):
         found += [(*path, name) for name in required if name not in node]
-        if members is GATE[1] and node.get("level") == 4 and "group" not in node:
+        if node.get("level") == 4 and "group" not in node:
             found.append((*path, "group"))
         if members is PERMISSION[1]:
             is_dated = is_dated or "until" in node
