@@ -210,8 +210,8 @@ def members_once(pairs: list[tuple[str, Any]]) -> dict[str, Any]:
     return dict(pairs)
 
 
-def checked(data: bytes, dated: bool) -> dict[str, Any]:
-    """The view, or its first fault: of all kinds in their order, and of one kind in the order of the tables."""
+def checked(data: bytes, dated: bool, place: str = "") -> dict[str, Any]:
+    """The view, or the first fault of it and of POINTER: of all kinds in their order, and of one kind in the order of the tables."""
     try:
         reports.parsed(data, NESTING)
     except ValueError:
@@ -227,6 +227,8 @@ def checked(data: bytes, dated: bool) -> dict[str, Any]:
     for name, found in kinds:
         paths = found()
         said = sorted((each for each in paths if each is not None), key=lambda each: in_order(each, (SHORT if "clearance" in view else LONG)[1]))
+        if name == "BadPointer" and not reports.is_pointer(place):
+            raise Fault(name, None if paths else "")
         if paths:
             raise Fault(name, pointer(said[0]) if len(said) == len(paths) else None)
     return view
@@ -271,9 +273,7 @@ def permission_of(said: dict[str, Any]) -> Permission:
 
 def seen(report: bytes, view: bytes, dated: bool = False, place: str | None = None) -> View:
     """What a call looks at, or the first fault of the view, of POINTER and of the report."""
-    described = checked(view, dated)
-    if place is not None and not reports.is_pointer(place):
-        raise Fault("BadPointer")
+    described = checked(view, dated, place or "")
     read = whole_report(report)
     number = described.get("incident", 0)
     if number >= len(read["Incident"]):
