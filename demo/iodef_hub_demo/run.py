@@ -126,7 +126,9 @@ def run(named: str | None, is_unproved: bool, port: int, is_kept: bool, with_bro
     # Until there is something to remove, signals wait.
     signal.pthread_sigmask(signal.SIG_BLOCK, ENDING)
     for number in ENDING:
-        signal.signal(number, _end)
+        # What is ignored from the start stays so: SIGHUP under nohup.
+        if signal.getsignal(number) != signal.SIG_IGN:
+            signal.signal(number, _end)
     demo = Demo(port, is_kept)
     try:
         with until_signal():
