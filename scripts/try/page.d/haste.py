@@ -215,8 +215,8 @@ def post_says(trial: Trial) -> None:
     )
     trial.check("the form says whom it reaches", trial.says(POST) == f"Posts csirt.example.com post says (TLP:GREEN, in it also TLP:CLEAR, TLP:AMBER+STRICT, TLP:RED), {reach}; odd. | Post a report", trial.says(POST))
     for body, told in (
-        ("{", "this report"), ('{"a":' * 20000 + "1" + "}" * 20000, "this report"),
         ('{"Incident":[{"restriction":"green"},{}]}', "an Incident without an IncidentID (TLP:GREEN), an Incident without an IncidentID (TLP:RED)"),
+        ('{"Incident":[' + '{"a":' * 20000 + "{}" + "}" * 20000 + "]}", "this report"), ("{", "this report"),
     ):  # fmt: skip
         trial.put(POST, {"or its text": body})
         trial.check_has(f"of {body[:9]} it says what it can", trial.says(POST), f"Posts {told}, at level 1")
