@@ -241,7 +241,7 @@ def short_reader(cleared: str) -> Reader:
     """A reader of whom only the clearance is known; the root's gate lets everybody pass."""
     is_peer = cleared == "GREEN"
     return Reader(
-        who=0, org=0, person=cleared == "RED", nominated=cleared in {"AMBER", "STRICT"}, addressed=cleared == "STRICT",
+        who=None, org=None, person=cleared == "RED", nominated=cleared in {"AMBER", "STRICT"}, addressed=cleared == "STRICT",
         client=cleared == "AMBER", community=is_peer, peer=is_peer,
     )
 
@@ -257,7 +257,7 @@ def reader_of(view: dict[str, Any]) -> Reader:
 
 def case_of(view: dict[str, Any]) -> Case:
     if "clearance" in view:
-        return Case(1, {"": Gate(3)})
+        return Case(None, {"": Gate(3)})
     case = view["case"]
     gates = {each["path"]: Gate(each["level"], each.get("group", 0)) for each in case["gates"]}
     return Case(case["source"], gates, tuple(map(permission_of, case.get("permissions", []))), case.get("community"))
@@ -286,7 +286,7 @@ def seen(report: bytes, view: bytes, dated: bool = False, place: str | None = No
                 raise Fault("NoClass", None)
     if place is not None and policy.class_at(document, place) is None:
         raise Fault("NoClass")
-    return View(document, case_of(described), reader_of(described), moment(described.get("now", "")) or 0)
+    return View(document, case_of(described), reader_of(described), moment(described.get("now", "")))
 
 
 def whole_report(report: bytes) -> dict[str, Any]:
