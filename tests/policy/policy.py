@@ -73,8 +73,14 @@ class View:
 # POLICY, "Labels"
 
 HANDLED = {
-    "public": "CLEAR", "white": "CLEAR", "partner": "GREEN", "green": "GREEN", "need-to-know": "STRICT", "amber": "STRICT",
-    "private": "RED", "red": "RED",
+    "public": "CLEAR",
+    "white": "CLEAR",
+    "partner": "GREEN",
+    "green": "GREEN",
+    "need-to-know": "STRICT",
+    "amber": "STRICT",
+    "private": "RED",
+    "red": "RED",
 }
 EXTENDED = {"TLP:CLEAR": "CLEAR", "TLP:WHITE": "CLEAR", "TLP:GREEN": "GREEN", "TLP:AMBER": "AMBER", "TLP:AMBER+STRICT": "STRICT"}
 
