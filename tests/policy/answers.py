@@ -63,5 +63,8 @@ def files() -> dict[str, str]:
 def written(name: str, cases: list[Json]) -> str:
     """A file: one line for each case."""
     head = f'"circle":{json.dumps(hub_cases.CIRCLE, ensure_ascii=False)},\n' if name == "hub" else ""
-    lines = [json.dumps({"name": f"{name} {number}", **each}, ensure_ascii=False, separators=(",", ":")) for number, each in enumerate(cases, 1)]
+    lines = [
+        json.dumps({"name": f"{name} {number}", **each}, ensure_ascii=False, separators=(",", ":"))
+        for number, each in enumerate(cases, 1)
+    ]
     return "{" + head + '"cases":[\n' + ",\n".join(lines) + "\n]}\n"

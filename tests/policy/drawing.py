@@ -37,19 +37,46 @@ class Draws:
 PLAIN = ("public", "white", "partner", "green", "need-to-know", "amber", "private", "red", "default")
 TLP = ("TLP:CLEAR", "TLP:WHITE", "TLP:GREEN", "TLP:AMBER", "TLP:AMBER+STRICT", "TLP:RED")
 ODD_TEXTS = (
-    "tlp:clear", "Tlp:White", "tlp:GREEN", "TLP:amber", "tLp:aMbEr+StRiCt", "tlp:red", "", " ", "TLP:GREEN ", " TLP:CLEAR", "TLP: GREEN", "GREEN",
-    "TLP:AMBER+", "TLP:AMBER STRICT", "TLP:STRICT", "TLP:GREE", "TLP:GREENS", "TLP:WH\u0131TE", "TLP:AMBER+\u017fTRICT", "green", "TLP-GREEN",
-    "TLP:AMBER+STRICT+", "ext-value", "\u0000", "TLP:CLEAR\n", "a\"b\\c",
+    "tlp:clear",
+    "Tlp:White",
+    "tlp:GREEN",
+    "TLP:amber",
+    "tLp:aMbEr+StRiCt",
+    "tlp:red",
+    "",
+    " ",
+    "TLP:GREEN ",
+    " TLP:CLEAR",
+    "TLP: GREEN",
+    "GREEN",
+    "TLP:AMBER+",
+    "TLP:AMBER STRICT",
+    "TLP:STRICT",
+    "TLP:GREE",
+    "TLP:GREENS",
+    "TLP:WH\u0131TE",
+    "TLP:AMBER+\u017fTRICT",
+    "green",
+    "TLP-GREEN",
+    "TLP:AMBER+STRICT+",
+    "ext-value",
+    "\u0000",
+    "TLP:CLEAR\n",
+    "a\"b\\c",
 )
 SPELLINGS: tuple[Json, ...] = (
     *({"restriction": each} for each in PLAIN),
     *({"restriction": "ext-value", "ext-restriction": each} for each in (*TLP, *ODD_TEXTS)),
-    {"restriction": "green", "ext-restriction": "TLP:RED"}, {"restriction": "red", "ext-restriction": "TLP:CLEAR"},
+    {"restriction": "green", "ext-restriction": "TLP:RED"},
+    {"restriction": "red", "ext-restriction": "TLP:CLEAR"},
     {"restriction": "default", "ext-restriction": ""},
 )
 FIVE: dict[str, Json] = {
-    "CLEAR": {"restriction": "white"}, "GREEN": {"restriction": "green"}, "AMBER": {"restriction": "ext-value", "ext-restriction": "TLP:AMBER"},
-    "STRICT": {"restriction": "amber"}, "RED": {"restriction": "red"},
+    "CLEAR": {"restriction": "white"},
+    "GREEN": {"restriction": "green"},
+    "AMBER": {"restriction": "ext-value", "ext-restriction": "TLP:AMBER"},
+    "STRICT": {"restriction": "amber"},
+    "RED": {"restriction": "red"},
 }
 COMMON: tuple[Json, ...] = (*FIVE.values(), {"restriction": "default"}, {}, {})
 
@@ -69,8 +96,11 @@ def report(*incidents: Json, **root: Any) -> Json:
 def incident(contacts: Any = None, **members: Any) -> Json:
     """An Incident with what it must have."""
     return {
-        "Contact": [{"role": "creator"}] if contacts is None else contacts, "GenerationTime": "2026-01-01T00:00:00Z",
-        "IncidentID": {"id": "1", "name": "a"}, "purpose": "other", **members,
+        "Contact": [{"role": "creator"}] if contacts is None else contacts,
+        "GenerationTime": "2026-01-01T00:00:00Z",
+        "IncidentID": {"id": "1", "name": "a"},
+        "purpose": "other",
+        **members,
     }
 
 
@@ -109,10 +139,14 @@ def some_report(draws: Draws) -> Json:
     made = incident(contacts, **label(draws))
     made["IncidentID"] |= label(draws) if draws.chance(1, 3) else {}
     for _ in range(1 + draws.below(2)):
-        made[draws.one(("EventData", "a", "\u00e9", "", "x~y", "p/q", "Assessment"))] = [some_class(draws, 2) for _ in range(1 + draws.below(3))]
+        made[draws.one(("EventData", "a", "\u00e9", "", "x~y", "p/q", "Assessment"))] = [
+            some_class(draws, 2) for _ in range(1 + draws.below(3))
+        ]
     root: Json = {"version": "2.0"} if draws.chance(1, 2) else {}
     if draws.chance(1, 4):
-        root[draws.one(("Extra", "z", "", "\u00e9"))] = draws.one((some_class(draws, 1), [some_class(draws, 1), "x", some_class(draws, 0)]))
+        root[draws.one(("Extra", "z", "", "\u00e9"))] = draws.one(
+            (some_class(draws, 1), [some_class(draws, 1), "x", some_class(draws, 0)])
+        )
     if draws.chance(1, 8):
         root |= draws.one(({"restriction": "white"}, {"restriction": 7}, {"ext-restriction": []}))
     return report(made, **root)
@@ -165,14 +199,30 @@ GRANTEES = ("person", "org", "community", "group")
 
 # A reader of each clearance, with a named community, and one that is of the source
 CLEARED: dict[str, Json] = {
-    "CLEAR": {}, "GREEN": {"community": True, "peer": True}, "AMBER": {"nominated": True, "client": True},
-    "STRICT": {"nominated": True, "addressed": True}, "RED": {"person": True},
+    "CLEAR": {},
+    "GREEN": {"community": True, "peer": True},
+    "AMBER": {"nominated": True, "client": True},
+    "STRICT": {"nominated": True, "addressed": True},
+    "RED": {"person": True},
 }
 NOW = "2026-06-01T00:00:00Z"
 ENDS = (
-    "2026-06-01T00:00:00Z", "2026-06-01T00:00:01Z", "2026-05-31T23:59:59Z", "2026-06-01T02:00:00+02:00", "2026-06-01T02:00:01+02:00",
-    "2026-05-31T19:30:00-04:30", "2026-05-31T19:30:01-04:30", "2027-01-01T00:00:00Z", "1970-01-01T00:00:00Z", "2026-06-01T00:00:01.000Z", "2026-05-31T23:59:60Z",
-    "2026-06-01t00:00:01z", "1969-12-31T23:59:59Z", "2024-02-29T12:00:00Z", "2026-06-01T00:00:00-00:00", "9999-12-30T22:00:00Z",
+    "2026-06-01T00:00:00Z",
+    "2026-06-01T00:00:01Z",
+    "2026-05-31T23:59:59Z",
+    "2026-06-01T02:00:00+02:00",
+    "2026-06-01T02:00:01+02:00",
+    "2026-05-31T19:30:00-04:30",
+    "2026-05-31T19:30:01-04:30",
+    "2027-01-01T00:00:00Z",
+    "1970-01-01T00:00:00Z",
+    "2026-06-01T00:00:01.000Z",
+    "2026-05-31T23:59:60Z",
+    "2026-06-01t00:00:01z",
+    "1969-12-31T23:59:59Z",
+    "2024-02-29T12:00:00Z",
+    "2026-06-01T00:00:00-00:00",
+    "9999-12-30T22:00:00Z",
 )
 
 
@@ -202,7 +252,11 @@ def some_case(draws: Draws, paths: Sequence[str]) -> Json:
 
     gates = [some_gate(path) for path in ("", *draws.some(paths, 2))]
     given = [
-        {"path": path, draws.one(("person", "org", "community", "group")): draws.one((1, 2, 5, 9)), **({"until": draws.one(ENDS)} if draws.chance(1, 2) else {})}
+        {
+            "path": path,
+            draws.one(("person", "org", "community", "group")): draws.one((1, 2, 5, 9)),
+            **({"until": draws.one(ENDS)} if draws.chance(1, 2) else {}),
+        }
         for path in draws.some(paths, 2)
     ]
     made = case(*gates)

@@ -8,7 +8,25 @@ from typing import Any
 
 import drawing
 import report as reports
-from drawing import CLEARED, ENDS, FIVE, NOW, PLAIN, SPELLINGS, TLP, Draws, Json, case, gate, incident, long, reader, report, short, spelled
+from drawing import (
+    CLEARED,
+    ENDS,
+    FIVE,
+    NOW,
+    PLAIN,
+    SPELLINGS,
+    TLP,
+    Draws,
+    Json,
+    case,
+    gate,
+    incident,
+    long,
+    reader,
+    report,
+    short,
+    spelled,
+)
 
 HANDLINGS = tuple(FIVE)
 LATER = "2027-01-01T00:00:00Z"
@@ -77,13 +95,22 @@ def clearance(draws: Draws) -> Iterator[Json]:
 # POLICY, "Gates"
 
 MEMBERSHIPS: tuple[Json, ...] = (
-    {}, {"groups": [4]}, {"groups": [4], "active_groups": [4]}, {"groups": [4, 5], "active_groups": [5]}, {"groups": [5], "active_groups": [5]},
+    {},
+    {"groups": [4]},
+    {"groups": [4], "active_groups": [4]},
+    {"groups": [4, 5], "active_groups": [5]},
+    {"groups": [5], "active_groups": [5]},
 )
 
 
 def gates(draws: Draws) -> Iterator[Json]:
     """Each level at the root and at a class for each relation of a reader to the source; then gates nested in gates."""
-    shared: tuple[Json, ...] = ({}, {"connected": True}, {"community": True, "peer": True}, {"community": True, "peer": True, "connected": True})
+    shared: tuple[Json, ...] = (
+        {},
+        {"connected": True},
+        {"community": True, "peer": True},
+        {"community": True, "peer": True, "connected": True},
+    )
     others: tuple[Json, ...] = ({}, {"person": True}, {"source": True, "org": 1}, {"nominated": True, "addressed": True, "client": True})
     for level, truths, other, membership in itertools.product(range(5), shared, others, MEMBERSHIPS):
         if level != 4 and membership != draws.one(MEMBERSHIPS[:3]):
@@ -103,7 +130,9 @@ def nested_gates(draws: Draws) -> Json:
         level = draws.one((0, 1, 2, 3, 3, 4, 4, 5)) if path else draws.one((1, 2, 3, 3, 3, 4))
         return gate(level, path, 4 + draws.below(2) if level == 4 else None)
 
-    made = report(incident([{"Email": [{"a": {"b": {}}}, {}]}, {}], restriction="white"), **({"Contact": {}} if draws.chance(1, 4) else {}))
+    made = report(
+        incident([{"Email": [{"a": {"b": {}}}, {}]}, {}], restriction="white"), **({"Contact": {}} if draws.chance(1, 4) else {})
+    )
     paths = ["/Incident/0", CONTACT, EMAIL, EMAIL + "/a", "/Incident/0/Contact/1", "/Incident/0/Contact/0/Email/1"]
     view = long(case(*map(some_gate, ["", *draws.some(paths, 4)])), drawing.some_reader(draws, False) | draws.one(MEMBERSHIPS))
     return the(made, view, *excerpt_and(EMAIL + draws.one(("", "/a", "/a/b")), CONTACT))
@@ -115,7 +144,15 @@ def nested_gates(draws: Draws) -> Json:
 def permissions(draws: Draws) -> Iterator[Json]:
     """Each kind of grantee, the reader among it or not, with each end; then several, above and below labels and gates."""
     grantees = (
-        {"person": 9}, {"person": 5}, {"org": 5}, {"org": 9}, {"community": 3}, {"community": 4}, {"group": 4}, {"group": 5}, {"group": 6},
+        {"person": 9},
+        {"person": 5},
+        {"org": 5},
+        {"org": 9},
+        {"community": 3},
+        {"community": 4},
+        {"group": 4},
+        {"group": 5},
+        {"group": 6},
     )
     belongs = {"groups": [4, 5], "active_groups": [4], "communities": [3]}
     for grantee, end in itertools.product(grantees, (None, *ENDS[:3], LATER)):
@@ -125,6 +162,25 @@ def permissions(draws: Draws) -> Iterator[Json]:
     for end, now in itertools.product(ENDS, (NOW, draws.one(ENDS))):
         given = {"path": CONTACT, "org": 5, "until": end}
         yield the(report(incident([{}])), long(case(permissions=[given]), reader(), now=now), {"call": "explain", "pointer": CONTACT})
+    for end, now in (
+        ("0000-02-29T23:59:59Z", "0000-01-01T00:00:00Z"),
+        ("1969-12-31T23:59:59Z", "1960-01-01T00:00:00Z"),
+        ("0001-01-01T00:00:00Z", "0000-12-31T23:59:59Z"),
+    ):
+        given = {"path": CONTACT, "org": 5, "until": end}
+        yield the(report(incident([{}])), long(case(permissions=[given]), reader(), now=now), {"call": "explain", "pointer": CONTACT})
+    every: list[Json] = [
+        {kind: number}
+        for kind, numbers in (("group", (11, 4)), ("community", (10, 3)), ("org", (5,)), ("person", (9,)))
+        for number in numbers
+    ]
+    for _ in range(6):
+        given_all = [{"path": place, **each} for each in every for place in (EMAIL, "/Incident/0", CONTACT) if draws.chance(2, 3)]
+        of_all = {"groups": [11, 4], "active_groups": [11, 4], "communities": [10, 3]}
+        made = report(incident([{"Email": [{}]}]))
+        yield the(
+            made, long(case(permissions=given_all), reader(**of_all)), {"call": "explain", "pointer": draws.one((EMAIL, EMAIL, CONTACT))}
+        )
     for grantee, place in itertools.product(grantees[::2], ("/Incident/0", CONTACT, EMAIL, EMAIL + "/a")):
         made = report(incident([{"Email": [{"a": {"restriction": "private", "b": {}}}]}, {}]))
         yield the(made, long(case(permissions=[{"path": place, **grantee}]), reader(**belongs)), *excerpt_and(EMAIL, EMAIL + "/a/b"))
@@ -192,11 +248,16 @@ def ordered_places() -> Iterator[Json]:
     names = ("p/q", "p0", "p~", "pa", "p", "p-", "P", "\u00e9", "\uffee", "\U0001d11e", "p!", "p\"")
     yield report(incident(**white, **{each: {**white, "a": red} for each in names}))
     yield report(incident(**white, **{each: {**red, "a": [white, red, green]} for each in names}))
-    yield report(incident([], **{each: [{**red, "a": [white, green]}, {**white, "b": red}] for each in names[:5]}), **{each: {**red, "a": white} for each in names[5:]})
+    yield report(
+        incident([], **{each: [{**red, "a": [white, green]}, {**white, "b": red}] for each in names[:5]}),
+        **{each: {**red, "a": white} for each in names[5:]},
+    )
 
 
 def find(draws: Draws, text: str) -> Json:
-    name = {"class": draws.one(("Contact", "Email", "a", "", "Incident", "\u00e9", "x~y", "0", "EventData"))} if draws.chance(1, 2) else {}
+    name = (
+        {"class": draws.one(("Contact", "Email", "a", "", "Incident", "\u00e9", "x~y", "0", "EventData"))} if draws.chance(1, 2) else {}
+    )
     return {"call": "finds", "text": text, **name}
 
 
@@ -205,7 +266,11 @@ def finding(draws: Draws) -> Iterator[Json]:
     texts = ("needle", "a needle here", "Needle", "nee dle", "needl", "", "\u00e9needle\u00e9")
     for _ in range(110):
         node: Json = {draws.one(("a", "b", "Z")): draws.one((draws.one(texts), [draws.one(texts), 1], 5, None, ["x", draws.one(texts)]))}
-        holder: Json = {**drawing.label(draws), **node} if draws.chance(2, 3) else {draws.one(("Email", "", "\u00e9")): {**drawing.label(draws), **node}}
+        holder: Json = (
+            {**drawing.label(draws), **node}
+            if draws.chance(2, 3)
+            else {draws.one(("Email", "", "\u00e9")): {**drawing.label(draws), **node}}
+        )
         made = report(incident([holder, {"Email": [{**drawing.label(draws), "EmailTo": draws.one(texts)}]}], **drawing.label(draws)))
         if draws.chance(1, 4):
             made["note"] = "needle"
@@ -220,9 +285,15 @@ def finding(draws: Draws) -> Iterator[Json]:
 def several(draws: Draws) -> Iterator[Json]:
     for _ in range(60):
         count = 1 + draws.below(4)
-        made = report(*(incident([drawing.label(draws)], **drawing.label(draws), at=each) for each in range(count)), Extra={**drawing.label(draws)}, v=1)
+        made = report(
+            *(incident([drawing.label(draws)], **drawing.label(draws), at=each) for each in range(count)),
+            Extra={**drawing.label(draws)},
+            v=1,
+        )
         number = draws.below(count + 1)
-        asks = [{"call": "marks", "incident": number}] if draws.chance(1, 3) else excerpt_and(draws.one((CONTACT, "/Extra", "/Incident/1")))
+        asks = (
+            [{"call": "marks", "incident": number}] if draws.chance(1, 3) else excerpt_and(draws.one((CONTACT, "/Extra", "/Incident/1")))
+        )
         yield the(made, None if asks[0]["call"] == "marks" else short(draws.one(HANDLINGS), incident=number), *asks)
     for count in (16, 17):
         made = report(*({"Contact": 0, "GenerationTime": 0, "IncidentID": {}, "purpose": 0} for _ in range(count)))
@@ -235,13 +306,24 @@ def several(draws: Draws) -> Iterator[Json]:
 def marking(draws: Draws) -> Iterator[Json]:
     """Classes that break the rule, and their neighbours that keep it."""
     kept: tuple[Json, ...] = (
-        {"restriction": "ext-value", "ext-restriction": ""}, {"restriction": "red", "ext-restriction": "x"}, {"Restriction": 5}, {"ext-purpose": []},
+        {"restriction": "ext-value", "ext-restriction": ""},
+        {"restriction": "red", "ext-restriction": "x"},
+        {"Restriction": 5},
+        {"ext-purpose": []},
     )
     broken: tuple[Json, ...] = (
-        *({"restriction": each} for each in ("TLP:AMBER", "Green", "GREEN", " green", "green ", "", "ext", "need to know", "clear", "strict", "secret")),
+        *(
+            {"restriction": each}
+            for each in ("TLP:AMBER", "Green", "GREEN", " green", "green ", "", "ext", "need to know", "clear", "strict", "secret")
+        ),
         *({"restriction": each} for each in (0, True, None, [], ["green"], {}, [{"a": 1}], {"restriction": "green"})),
-        {"restriction": "ext-value"}, {"ext-restriction": "TLP:GREEN"}, {"ext-restriction": ""},
-        *({"restriction": draws.one(("ext-value", "green")), "ext-restriction": each} for each in (0, False, None, [], ["x"], {}, {"a": "b"}, [{}])),
+        {"restriction": "ext-value"},
+        {"ext-restriction": "TLP:GREEN"},
+        {"ext-restriction": ""},
+        *(
+            {"restriction": draws.one(("ext-value", "green")), "ext-restriction": each}
+            for each in (0, False, None, [], ["x"], {}, {"a": "b"}, [{}])
+        ),
     )
     for node in (*broken, *kept):
         yield the(report(incident([{}, node], restriction="white")), short("RED"), *excerpt_and("/Incident/0/Contact/1"))
@@ -261,14 +343,25 @@ def marking(draws: Draws) -> Iterator[Json]:
 # REDACT, "A view description" and "Faults"
 
 LONG_VIEW: Json = {
-    "now": NOW, "incident": 0,
+    "now": NOW,
+    "incident": 0,
     "case": {
-        "source": 1, "community": 2, "gates": [gate(3), gate(4, CONTACT, 4), gate(1, EMAIL)],
+        "source": 1,
+        "community": 2,
+        "gates": [gate(3), gate(4, CONTACT, 4), gate(1, EMAIL)],
         "permissions": [{"path": CONTACT, "org": 5, "until": LATER}, {"path": EMAIL, "group": 4}, {"path": CONTACT, "person": 9}],
     },
     "reader": {
-        "who": 9, "org": 5, "nominated": True, "client": True, "community": True, "peer": False, "arrangement": "AMBER", "groups": [4, 5],
-        "active_groups": [4], "communities": [2],
+        "who": 9,
+        "org": 5,
+        "nominated": True,
+        "client": True,
+        "community": True,
+        "peer": False,
+        "arrangement": "AMBER",
+        "groups": [4, 5],
+        "active_groups": [4],
+        "communities": [2],
     },
 }
 VIEWED = report(incident([{"restriction": "default", "Email": [{}]}], restriction="white"))
@@ -284,19 +377,33 @@ def faults_of_the_view(draws: Draws) -> Iterator[Json]:
         yield the(VIEWED, text, {"call": "excerpt"})
     for view in views_of_two_faults():
         yield the(VIEWED, view, {"call": "excerpt"})
-    for _ in range(60):
-        view: Json = json.loads(json.dumps(LONG_VIEW))
-        inner = draws.one((view, view["case"], view["case"]["gates"][1], view["case"]["permissions"][draws.below(2)], view["reader"], view["reader"]))
+    for view in neighbours_of_wrong_kinds():
+        yield the(VIEWED, view)
+    for _ in range(20):
+        view = json.loads(json.dumps(LONG_VIEW))
+        inner = draws.one(
+            (view, view["case"], view["case"]["gates"][1], view["case"]["permissions"][draws.below(2)], view["reader"], view["reader"])
+        )
         names = draws.one((list(inner), list(inner), view_members(inner)))
         for _ in range(2):
             name = draws.one(names)
             inner[name] = draws.one((None, None, "~", "x")) if name in inner else draws.one((None, 7))
         yield the(VIEWED, view if draws.chance(2, 3) else json.dumps(dict(reversed(view.items()))))
     changes = [change for _, change in every_change(draws)]
-    broken = ("{", "[]", '{"Incident":[{}]}', reports.compact(report(incident([{"restriction": "x"}]))), reports.compact(report(incident(a=[[{}]]))))
+    broken = (
+        "{",
+        "[]",
+        '{"Incident":[{}]}',
+        reports.compact(report(incident([{"restriction": "x"}]))),
+        reports.compact(report(incident(a=[[{}]]))),
+    )
     for _ in range(90):
         view = changed([draws.one(changes) for _ in range(2 + draws.below(2))])
-        asks = [{"call": "explain", "pointer": draws.one((CONTACT, "Contact", "/~2"))} if draws.chance(1, 3) else {"call": draws.one(("excerpt", "whole"))}]
+        asks = [
+            {"call": "explain", "pointer": draws.one((CONTACT, "Contact", "/~2"))}
+            if draws.chance(1, 3)
+            else {"call": draws.one(("excerpt", "whole"))}
+        ]
         yield the(draws.one(broken) if draws.chance(1, 3) else VIEWED, view, *asks)
 
 
@@ -321,8 +428,17 @@ def every_change(draws: Draws) -> Iterator[tuple[str, Change]]:
         for name in ("Z", "clearance", "level", ""):
             if not (path[-2:] == ("gates", 0) and name == "level"):
                 yield "unknown", ((*path, name), 1)
-    for path in (("incident",), ("case", "source"), ("case", "community"), ("case", "gates", 1, "group"), ("case", "permissions", 1, "group"),
-                 ("reader", "who"), ("reader", "org"), ("reader", "groups", 0), ("reader", "communities", 0)):
+    for path in (
+        ("incident",),
+        ("case", "source"),
+        ("case", "community"),
+        ("case", "gates", 1, "group"),
+        ("case", "permissions", 1, "group"),
+        ("reader", "who"),
+        ("reader", "org"),
+        ("reader", "groups", 0),
+        ("reader", "communities", 0),
+    ):
         for number in (2**32 - 1, 2**32, -1, 0):
             yield "number", (path, number)
     for level in range(-1, 8):
@@ -338,15 +454,66 @@ def every_change(draws: Draws) -> Iterator[tuple[str, Change]]:
     yield "groups", (("reader", "groups"), [5])
     for word in ("CLEAR", "GREEN", "STRICT", "RED", *TLP, "clear", "TLP:STRICT", "tlp:green", "", "WHITE"):
         yield "word", (("reader", "arrangement"), word)
-    for path in ("", "/", "Incident", "/Incident/0/", "/Incident/00", "/Incident", "/Incident/0/Contact", "/Incident/0/purpose", "/~", "/~2", "/a~0b~1",
-                 "/Incident/1", "/Incident/0/Contact/-", "/Incident/0/Contact/1", "#/Incident/0", "/Incident~10", EMAIL, CONTACT, "/~0~", "/~01"):
+    for path in (
+        "",
+        "/",
+        "Incident",
+        "/Incident/0/",
+        "/Incident/00",
+        "/Incident",
+        "/Incident/0/Contact",
+        "/Incident/0/purpose",
+        "/~",
+        "/~2",
+        "/a~0b~1",
+        "/Incident/1",
+        "/Incident/0/Contact/-",
+        "/Incident/0/Contact/1",
+        "#/Incident/0",
+        "/Incident~10",
+        EMAIL,
+        CONTACT,
+        "/~0~",
+        "/~01",
+    ):
         yield "path", (("case", "gates", 2, "path"), path)
         yield "path", (("case", "permissions", 1, "path"), path)
-    for text in (*ENDS, "2026-06-01", "2026-06-01T00:00:00", "2026-13-01T00:00:00Z", "2026-02-29T00:00:00Z", "2026-06-01T24:00:00Z", "2026-06-01T00:60:00Z",
-                 "2026-06-01T00:00:61Z", "2026-06-01T00:00:00.5Z", "2026-06-01T00:00:00+00:60", "2026-06-01T00:00:00+24:00", "2026-06-01T00:00:00+23:59", "2026-06-01T00:00:00.000000000Z",
-                 "2026-06-01T00:00:00.0000000000Z", "2026-06-01T00:00:00.Z", "2026-06-01T00:00:00,0Z", "9999-12-30T22:00:01Z", "9999-12-31T00:00:00+02:01", "0000-01-01T00:00:00Z",
-                 "0000-02-29T23:59:59-01:00", "2100-02-29T00:00:00Z", "2026-06-01 00:00:00Z", "2026-06-01T00:00:00Z[UTC]", "20260601T000000Z", "2026-06-01T00:00:00+0200",
-                 "2026-06-01T00:00:00+02", "+002026-06-01T00:00:00Z", " 2026-06-01T00:00:00Z", "2026-06-01T00:00:00Z ", "2026-06-01T00:00:0\u0660Z", "now", "", "1780000000", "2026-6-1T00:00:00Z"):
+    for text in (
+        *ENDS,
+        "2026-06-01",
+        "2026-06-01T00:00:00",
+        "2026-13-01T00:00:00Z",
+        "2026-02-29T00:00:00Z",
+        "2026-06-01T24:00:00Z",
+        "2026-06-01T00:60:00Z",
+        "2026-06-01T00:00:61Z",
+        "2026-06-01T00:00:00.5Z",
+        "2026-06-01T00:00:00+00:60",
+        "2026-06-01T00:00:00+24:00",
+        "2026-06-01T00:00:00+23:59",
+        "2026-06-01T00:00:00.000000000Z",
+        "2026-06-01T00:00:00.0000000000Z",
+        "2026-06-01T00:00:00.Z",
+        "2026-06-01T00:00:00,0Z",
+        "9999-12-30T22:00:01Z",
+        "9999-12-31T00:00:00+02:01",
+        "0000-01-01T00:00:00Z",
+        "0000-02-29T23:59:59-01:00",
+        "2100-02-29T00:00:00Z",
+        "2026-06-01 00:00:00Z",
+        "2026-06-01T00:00:00Z[UTC]",
+        "20260601T000000Z",
+        "2026-06-01T00:00:00+0200",
+        "2026-06-01T00:00:00+02",
+        "+002026-06-01T00:00:00Z",
+        " 2026-06-01T00:00:00Z",
+        "2026-06-01T00:00:00Z ",
+        "2026-06-01T00:00:0\u0660Z",
+        "now",
+        "",
+        "1780000000",
+        "2026-6-1T00:00:00Z",
+    ):
         yield "moment", (draws.one((("now",), ("case", "permissions", 0, "until"))), text)
     yield "many", (("case", "gates"), [gate(3), *(gate(5, f"/Incident/0/a{each}") for each in range(16))])
     yield "many", (("case", "gates"), [gate(3), *(gate(5, f"/Incident/0/a{each}") for each in range(17))])
@@ -367,17 +534,51 @@ def views_of_two_faults() -> Iterator[Json]:
     root, other, late = gate(3), gate(3, "x"), "2026-02-29T00:00:00Z"
     twice, ended = [{"path": CONTACT, "org": 5}] * 2, {"path": CONTACT, "org": 6, "until": late}
     pairs: tuple[tuple[list[Json], list[Json]], ...] = (
-        ([root], [*twice, ended]), ([root], [{"path": CONTACT, "org": 5, "until": late}, twice[0]]), ([root], [{"path": "x", "org": 5}] * 2), ([root, other], twice),
-        ([root, other, other], []), ([root, gate(3, CONTACT), gate(3, CONTACT), other], []), ([root, root], [ended]), ([root, root], [{"path": "x", "org": 5}]),
-        ([other], []), ([other, other], []), ([root], [{"path": CONTACT, "org": 5, "person": 1}, ended]), ([gate(9)], [ended]), ([root, other], [*twice, ended]),
-        ([root], [{"path": CONTACT, "org": each, "until": late} for each in range(65)]), ([root, *(gate(3, f"x{each}") for each in range(17))], []),
+        ([root], [*twice, ended]),
+        ([root], [{"path": CONTACT, "org": 5, "until": late}, twice[0]]),
+        ([root], [{"path": "x", "org": 5}] * 2),
+        ([root, other], twice),
+        ([root, other, other], []),
+        ([root, gate(3, CONTACT), gate(3, CONTACT), other], []),
+        ([root, root], [ended]),
+        ([root, root], [{"path": "x", "org": 5}]),
+        ([other], []),
+        ([other, other], []),
+        ([root], [{"path": CONTACT, "org": 5, "person": 1}, ended]),
+        ([gate(9)], [ended]),
+        ([root, other], [*twice, ended]),
+        ([root], [{"path": CONTACT, "org": each, "until": late} for each in range(65)]),
+        ([root, *(gate(3, f"x{each}") for each in range(17))], []),
     )
     for listed, given in pairs:
         yield long(case(*listed, permissions=given), reader(), now=NOW)
-    for members, now in itertools.product(({"peer": True}, {"active_groups": [3]}, {"arrangement": "x"}, {"org": 1, "peer": True}, {"org": 1}), (NOW, late)):
+    for members, now in itertools.product(
+        ({"peer": True}, {"active_groups": [3]}, {"arrangement": "x"}, {"org": 1, "peer": True}, {"org": 1}), (NOW, late)
+    ):
         yield long(case(), reader(**members), now=now)
     for listed, given in (pairs[0], pairs[3], ([root], twice), ([root, root], []), ([root, other], []), ([root], [ended])):
         yield long(case(*listed, permissions=given), reader(**{"org": 1} if len(given) > 2 else {"peer": True}), now=NOW)
+
+
+def neighbours_of_wrong_kinds() -> Iterator[Json]:
+    """Each two neighbours of the tables of a view, both of a wrong kind, the later one first in the text."""
+    tables: tuple[tuple[tuple[Any, ...], tuple[str, ...]], ...] = (
+        ((), ("now", "incident", "case", "reader")),
+        (("case",), ("source", "community", "gates", "permissions")),
+        (("case", "gates", 1), ("path", "level", "group")),
+        (("case", "permissions", 0), ("path", *drawing.GRANTEES, "until")),
+        (("reader",), (*drawing.TRUTHS, "who", "org", "arrangement", "groups", "active_groups", "communities")),
+    )
+    for path, names in tables:
+        for one, other in itertools.pairwise(names):
+            view: Json = json.loads(json.dumps(LONG_VIEW))
+            inner = at(view, path)
+            kept = {name: value for name, value in inner.items() if name not in (one, other)}
+            inner.clear()
+            inner.update({other: None, one: None, **kept})
+            yield view
+    yield {"now": None, "incident": None, "clearance": "RED"}
+    yield {"incident": None, "clearance": None}
 
 
 def members_of(value: Any, path: tuple[Any, ...] = ()) -> Iterator[tuple[Any, ...]]:
@@ -422,8 +623,28 @@ def every_short() -> Iterator[Json]:
 
 
 def texts_of_views() -> Iterator[str]:
-    yield from ("", " ", "{", "null", "[]", "7", '"GREEN"', "true", "{}", "[{}]", '{"clearance":"GREEN"} x', '\ufeff{"clearance":"GREEN"}', "{'a':1}")
-    yield from ('{"clearance":"GREEN",}', '{"clearance":"GREEN","clearance":"GREEN"}', '{"clearance":"\\u0047REEN"}', '{"clearance":NaN}', ' {"clearance" : "GREEN"}\n')
+    yield from (
+        "",
+        " ",
+        "{",
+        "null",
+        "[]",
+        "7",
+        '"GREEN"',
+        "true",
+        "{}",
+        "[{}]",
+        '{"clearance":"GREEN"} x',
+        '\ufeff{"clearance":"GREEN"}',
+        "{'a':1}",
+    )
+    yield from (
+        '{"clearance":"GREEN",}',
+        '{"clearance":"GREEN","clearance":"GREEN"}',
+        '{"clearance":"\\u0047REEN"}',
+        '{"clearance":NaN}',
+        ' {"clearance" : "GREEN"}\n',
+    )
     yield from ('{"clearance":"GREEN","x":{"a":1,"a":2}}', '[{"a":1,"a":2}]', '{"case":1,"case":2}', '{"a":[[{"b":1,"\\u0062":2}]]}')
     for depth in (126, 127, 128, 129):
         yield '{"x":' + "[" * (depth - 1) + "]" * (depth - 1) + "}"
@@ -435,12 +656,64 @@ def texts_of_views() -> Iterator[str]:
 
 def faults_of_the_report(draws: Draws) -> Iterator[Json]:
     white = {"restriction": "white"}
-    for text in ("", " ", "{", "[]", "null", "7", "{}", '{"Incident":[]}', '{"Incident":{}}', '{"Incident":[1]}', '{"Incident":[{}]}', '{"Incident":[[{}]]}', '{"Incident":null}',
-                 '{"incident":[]}', '{"Incident":[{},1]}', "\ufeff{}", "{'a':1}", '{"a":01}', '{"a":1,}', '{"a":"\t"}', '{"a":"\\x"}', '{"a":NaN}', '{"a":1e999}', '{"a":-1e999}',
-                 '{"Incident":[{}]} ', '{"Incident":[{}]}]', '{"a":"\\ud834"}', '{"\\udd1e":1}', '{"a":["\\ud834"]}', '{"a":{"b":[["\\udfff"]]}}', '{"a":"\\udd1e\\ud834"}', '{"a":.5}', '{"a":1.}', '{"a":+1}', "nul", '{"a":' + "9" * 400 + "}"):
+    for text in (
+        "",
+        " ",
+        "{",
+        "[]",
+        "null",
+        "7",
+        "{}",
+        '{"Incident":[]}',
+        '{"Incident":{}}',
+        '{"Incident":[1]}',
+        '{"Incident":[{}]}',
+        '{"Incident":[[{}]]}',
+        '{"Incident":null}',
+        '{"incident":[]}',
+        '{"Incident":[{},1]}',
+        "\ufeff{}",
+        "{'a':1}",
+        '{"a":01}',
+        '{"a":1,}',
+        '{"a":"\t"}',
+        '{"a":"\\x"}',
+        '{"a":NaN}',
+        '{"a":1e999}',
+        '{"a":-1e999}',
+        '{"Incident":[{}]} ',
+        '{"Incident":[{}]}]',
+        '{"a":"\\ud834"}',
+        '{"\\udd1e":1}',
+        '{"a":["\\ud834"]}',
+        '{"a":{"b":[["\\udfff"]]}}',
+        '{"a":"\\udd1e\\ud834"}',
+        '{"a":.5}',
+        '{"a":1.}',
+        '{"a":+1}',
+        "nul",
+        '{"a":' + "9" * 400 + "}",
+    ):
         yield the(text, short("RED"))
-    numbers = ("1.5", "1.0", "-0", "0.0", "-0.0", "1e3", "1E3", "0e999", "9223372036854775808", "18446744073709551615", "18446744073709551616",
-               "-9223372036854775808", "-9223372036854775809", "1e999", "0", "-1", "1e-999")
+    numbers = (
+        "1.5",
+        "1.0",
+        "-0",
+        "0.0",
+        "-0.0",
+        "1e3",
+        "1E3",
+        "0e999",
+        "9223372036854775808",
+        "18446744073709551615",
+        "18446744073709551616",
+        "-9223372036854775808",
+        "-9223372036854775809",
+        "1e999",
+        "0",
+        "-1",
+        "1e-999",
+    )
     for number in numbers:
         text = reports.compact(report(incident([{}], **white, a=["@"])))
         yield the(text.replace('"@"', number), short("RED"), *draws.one((excerpt_and(), [{"call": "marks", "incident": 0}])))
@@ -492,6 +765,8 @@ def nest_objects(depth: int, inmost: Any) -> Any:
 def limits(draws: Draws) -> Iterator[Json]:
     """At each limit and just beyond it. A long report is a list of texts, each with how often it is written."""
     white = {"restriction": "white"}
+    for text in ("[" * 200, "[\"" * 150, "[\\" * 150, "{]" * 150, "\\\"[" * 130):
+        yield the(report(incident(**white, note=text)), short("CLEAR"), {"call": "finds", "text": "[", "class": "Incident"})
     for depth in (31, 32, 33, 34):
         yield the(report(incident(**white, a=nest_arrays(depth))), short("RED"))
         yield the(report(incident(**white), a=[nest_arrays(depth), 1]), short("RED"))
@@ -512,17 +787,29 @@ def limits(draws: Draws) -> Iterator[Json]:
     # an array without an element beside as many lines as there may be
     for empty in ("[]", "[[]]", "0"):
         inner, _, rest = after.partition('"purpose"')
-        yield the([[before, 1], ["0,", 4096 - here - 1], ["0" + inner + '"c":' + empty + ',"purpose"' + rest, 1]], short("CLEAR"), {"call": "explain", "pointer": CONTACT})
+        yield the(
+            [[before, 1], ["0,", 4096 - here - 1], ["0" + inner + '"c":' + empty + ',"purpose"' + rest, 1]],
+            short("CLEAR"),
+            {"call": "explain", "pointer": CONTACT},
+        )
     # lines of the root count for each Incident, and those of another Incident don't
     for count, side in ((4000, 300), (2000, 2500)):
         two = reports.compact(report(incident(b=["@"], **white), incident(b=["#"])))
         first, _, rest = two.partition('"@"')
         second, _, third = rest.partition('"#"')
-        yield the([[first, 1], ["0,", count], ["0" + second, 1], ["0,", side], ["0" + third, 1]], short("CLEAR", incident=1), {"call": "marks", "incident": 0})
+        yield the(
+            [[first, 1], ["0,", count], ["0" + second, 1], ["0,", side], ["0" + third, 1]],
+            short("CLEAR", incident=1),
+            {"call": "marks", "incident": 0},
+        )
         one = reports.compact(report(incident(b=["@"], **white), c=["#"]))
         first, _, rest = one.partition('"@"')
         second, _, third = rest.partition('"#"')
-        yield the([[first, 1], ["0,", count], ["0" + second, 1], ["0,", side], ["0" + third, 1]], short("CLEAR"), {"call": "marks", "incident": 0})
+        yield the(
+            [[first, 1], ["0,", count], ["0" + second, 1], ["0,", side], ["0" + third, 1]],
+            short("CLEAR"),
+            {"call": "marks", "incident": 0},
+        )
 
 
 # REDACT, `--whole`
@@ -531,9 +818,16 @@ def limits(draws: Draws) -> Iterator[Json]:
 def whole(draws: Draws) -> Iterator[Json]:
     """Reports of which what a report must have is withheld or not, with an IncidentID for it or without."""
     for _ in range(60):
-        made = incident([{**drawing.label(draws), **draws.one(({}, {"role": "creator"}, {"type": "person", "Email": [{"restriction": "white"}]}))} for _ in range(1 + draws.below(2))])
+        made = incident(
+            [
+                {**drawing.label(draws), **draws.one(({}, {"role": "creator"}, {"type": "person", "Email": [{"restriction": "white"}]}))}
+                for _ in range(1 + draws.below(2))
+            ]
+        )
         made |= drawing.label(draws) | ({"EventData": [{"restriction": "white"}]} if draws.chance(1, 2) else {})
-        made["IncidentID"] |= draws.one(({}, {"restriction": "red"}, {"restriction": "white"}, {"restriction": "red", "a": {"restriction": "white"}}))
+        made["IncidentID"] |= draws.one(
+            ({}, {"restriction": "red"}, {"restriction": "white"}, {"restriction": "red", "a": {"restriction": "white"}})
+        )
         view = short(draws.one(HANDLINGS), **({} if draws.chance(1, 12) else {"now": draws.one((NOW, "2026-06-01T02:00:00+02:00"))}))
         given = {} if draws.chance(1, 4) else {"id": draws.one(("7", "a\"b", "\u00e9")), "id_name": draws.one(("x.example", ""))}
         yield the(report(made, **draws.one(({}, {"Extra": {"restriction": "white"}}))), view, {"call": "whole", **given})
@@ -557,8 +851,17 @@ def labels_added() -> Iterator[Json]:
 def all_cases(seed: str, count: int) -> dict[str, list[Json]]:
     """The cases of each file, each file by a seed of its own. There are as many reports of all forms as the others leave."""
     kinds = {
-        "labels": labels, "clearance": clearance, "gates": gates, "permissions": permissions, "defaults": defaults, "finds": finding, "several": several,
-        "marking": marking, "view-faults": faults_of_the_view, "report-faults": faults_of_the_report, "whole": whole,
+        "labels": labels,
+        "clearance": clearance,
+        "gates": gates,
+        "permissions": permissions,
+        "defaults": defaults,
+        "finds": finding,
+        "several": several,
+        "marking": marking,
+        "view-faults": faults_of_the_view,
+        "report-faults": faults_of_the_report,
+        "whole": whole,
     }
     made = {name: list(cases(Draws(f"{seed} {name}"))) for name, cases in kinds.items()}
     made["excerpts"] = list(excerpts(Draws(f"{seed} excerpts"), count - sum(map(len, made.values()))))

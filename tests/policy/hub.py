@@ -13,10 +13,18 @@ from policy import Case, Gate, Permission, Reader, View
 from report import Fault, compact
 
 CODES = {
-    "K1": (401, "unknown or suspended key"), "W1": (403, "role does not allow it"), "B1": (422, "bad argument"),
-    "N1": (404, "no such incident for you"), "N2": (404, "no such organisation, person, community or group"),
-    "W2": (403, "group not yours to extend or change"), "W3": (403, "person not yours to nominate"), "N3": (404, "no such class"),
-    "S1": (409, "already so"), "S2": (409, "not so"), "S3": (409, "other revision"), "L1": (409, "limit"),
+    "K1": (401, "unknown or suspended key"),
+    "W1": (403, "role does not allow it"),
+    "B1": (422, "bad argument"),
+    "N1": (404, "no such incident for you"),
+    "N2": (404, "no such organisation, person, community or group"),
+    "W2": (403, "group not yours to extend or change"),
+    "W3": (403, "person not yours to nominate"),
+    "N3": (404, "no such class"),
+    "S1": (409, "already so"),
+    "S2": (409, "not so"),
+    "S3": (409, "other revision"),
+    "L1": (409, "limit"),
 }
 NAME, RELEASABILITY, NEEDLE = 128, 512, 256
 CLASS_GATES, RECIPIENTS, PERMISSIONS, LISTED = 16, 64, 64, 100
@@ -102,12 +110,20 @@ class Hub:
         shares = any(each in others for each in own)
         groups = [each for each, group in self.groups.items() if person.org in group.members]
         return Reader(
-            who=number, org=person.org, source=person.org == incident.source, person=("person", number) in incident.recipients,
-            nominated=person.is_nominated, addressed=("org", person.org) in incident.recipients, client=self.is_client(incident, person.org),
-            community=shares, peer=shares if incident.community is None else incident.community in own,
+            who=number,
+            org=person.org,
+            source=person.org == incident.source,
+            person=("person", number) in incident.recipients,
+            nominated=person.is_nominated,
+            addressed=("org", person.org) in incident.recipients,
+            client=self.is_client(incident, person.org),
+            community=shares,
+            peer=shares if incident.community is None else incident.community in own,
             connected=any((a, b) in self.links or (b, a) in self.links for a in own for b in others),
-            arrangement=self.arrangements.get((incident.source, person.org)), groups=tuple(groups),
-            active_groups=tuple(each for each in groups if self.groups[each].is_active), communities=tuple(own),
+            arrangement=self.arrangements.get((incident.source, person.org)),
+            groups=tuple(groups),
+            active_groups=tuple(each for each in groups if self.groups[each].is_active),
+            communities=tuple(own),
         )
 
     def view(self, number: int, incident: Incident, now: int) -> View:
@@ -175,7 +191,11 @@ def view(hub: Hub, asked: Asked) -> dict[str, Any]:
         raise Refusal("N1")
     incident = hub.incidents[number]
     return {
-        "classes": served.classes, "document": served.document, "number": number, "revision": incident.revision, "source": incident.source,
+        "classes": served.classes,
+        "document": served.document,
+        "number": number,
+        "revision": incident.revision,
+        "source": incident.source,
         "withheld": served.withheld,
     }
 
@@ -184,7 +204,9 @@ def listed(hub: Hub, asked: Asked, is_wanted: Callable[[int, Incident], bool]) -
     """The first 100 incidents above a number in which the reader sees a class."""
     numbers = [each for each in hub.incidents if each > (asked["after"] or 0) and visible(hub, asked, each) is not None]
     found = [each for each in numbers if is_wanted(each, hub.incidents[each])][:LISTED]
-    return {"incidents": [{"number": each, "revision": hub.incidents[each].revision, "source": hub.incidents[each].source} for each in found]}
+    return {
+        "incidents": [{"number": each, "revision": hub.incidents[each].revision, "source": hub.incidents[each].source} for each in found]
+    }
 
 
 def list_(hub: Hub, asked: Asked) -> dict[str, Any]:
@@ -199,7 +221,9 @@ def addressed(hub: Hub, asked: Asked) -> dict[str, Any]:
 def search(hub: Hub, asked: Asked) -> dict[str, Any]:
     for name in ("needle", "class"):
         refuse_if(name in asked.given and not 1 <= len(asked[name].encode()) <= NEEDLE, "B1", name)
-    return listed(hub, asked, lambda _, incident: policy.finds(hub.view(asked.caller, incident, asked.now), asked["needle"], asked["class"]))
+    return listed(
+        hub, asked, lambda _, incident: policy.finds(hub.view(asked.caller, incident, asked.now), asked["needle"], asked["class"])
+    )
 
 
 def my_groups(hub: Hub, asked: Asked) -> dict[str, Any]:
@@ -207,7 +231,11 @@ def my_groups(hub: Hub, asked: Asked) -> dict[str, Any]:
     return {
         "groups": [
             {
-                "active": each.is_active, "extend": each.members[asked.org], "name": each.name, "number": number, "owner": each.owner,
+                "active": each.is_active,
+                "extend": each.members[asked.org],
+                "name": each.name,
+                "number": number,
+                "owner": each.owner,
                 "releasability": each.releasability,
             }
             for number, each in own
@@ -509,12 +537,38 @@ def nominate(is_added: bool) -> Callable[[Hub, Asked], dict[str, Any]]:
 
 
 REQUESTS: dict[str, Callable[[Hub, Asked], dict[str, Any]]] = {
-    "View": view, "List": list_, "Search": search, "Addressed": addressed, "MyGroups": my_groups, "WhoAmI": who_am_i, "Explain": explain,
-    "Post": post, "Replace": replace, "Redistribute": redistribute, "Address": address, "Unaddress": unaddress, "Grant": grant,
-    "Withdraw": withdraw, "AddOrg": add_org, "AddPerson": add_person, "SuspendPerson": suspend, "AddClient": client(True),
-    "RemoveClient": client(False), "AddCommunity": add_community, "Join": membership(True), "Leave": membership(False), "Link": link(True),
-    "Unlink": link(False), "NewGroup": new_group, "GroupAdd": group_add, "GroupRemove": group_remove, "GroupActive": group_active,
-    "Arrange": arrange, "CancelArrange": cancel, "Nominate": nominate(True), "Unnominate": nominate(False),
+    "View": view,
+    "List": list_,
+    "Search": search,
+    "Addressed": addressed,
+    "MyGroups": my_groups,
+    "WhoAmI": who_am_i,
+    "Explain": explain,
+    "Post": post,
+    "Replace": replace,
+    "Redistribute": redistribute,
+    "Address": address,
+    "Unaddress": unaddress,
+    "Grant": grant,
+    "Withdraw": withdraw,
+    "AddOrg": add_org,
+    "AddPerson": add_person,
+    "SuspendPerson": suspend,
+    "AddClient": client(True),
+    "RemoveClient": client(False),
+    "AddCommunity": add_community,
+    "Join": membership(True),
+    "Leave": membership(False),
+    "Link": link(True),
+    "Unlink": link(False),
+    "NewGroup": new_group,
+    "GroupAdd": group_add,
+    "GroupRemove": group_remove,
+    "GroupActive": group_active,
+    "Arrange": arrange,
+    "CancelArrange": cancel,
+    "Nominate": nominate(True),
+    "Unnominate": nominate(False),
 }
 
 # Who may do what (POLICY, "Who is who" and "Requests and refusals")
@@ -523,7 +577,17 @@ ROLES = {
     EVERYBODY: ("View", "List", "Search", "Addressed", "MyGroups", "WhoAmI"),
     ("poster", "coordinator"): ("Post", "Replace", "Redistribute", "Address", "Unaddress", "Grant", "Withdraw"),
     ("administrator",): (
-        "Explain", "AddOrg", "AddPerson", "SuspendPerson", "AddClient", "RemoveClient", "AddCommunity", "Join", "Leave", "Link", "Unlink",
+        "Explain",
+        "AddOrg",
+        "AddPerson",
+        "SuspendPerson",
+        "AddClient",
+        "RemoveClient",
+        "AddCommunity",
+        "Join",
+        "Leave",
+        "Link",
+        "Unlink",
     ),
     ("coordinator",): ("NewGroup", "GroupAdd", "GroupRemove", "GroupActive", "Arrange", "CancelArrange", "Nominate", "Unnominate"),
 }

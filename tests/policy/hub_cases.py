@@ -21,15 +21,31 @@ ENDS = ("2001-01-01T00:00:00Z", "9999-12-30T22:00:00Z", "2001-01-01T02:00:00+02:
 CIRCLE: Json = {
     "orgs": ["Hub", "Bank", "Telco", "University", "Energy", "Shop", "Depot", "Ministry"],
     "persons": [  # organisation, name, role
-        [1, "admin", "administrator"], [2, "Ada", "coordinator"], [3, "Ben", "coordinator"], [4, "Cleo", "coordinator"], [5, "Dora", "coordinator"],
-        [6, "Emil", "coordinator"], [7, "Fay", "coordinator"], [8, "Gus", "reader"], [2, "Hal", "reader"], [2, "Ida", "poster"], [3, "Jo", "reader"],
-        [6, "Kim", "reader"], [7, "Lea", "poster"], [4, "Max", "reader"], [3, "Nil", "reader"], [8, "Ora", "administrator"],
+        [1, "admin", "administrator"],
+        [2, "Ada", "coordinator"],
+        [3, "Ben", "coordinator"],
+        [4, "Cleo", "coordinator"],
+        [5, "Dora", "coordinator"],
+        [6, "Emil", "coordinator"],
+        [7, "Fay", "coordinator"],
+        [8, "Gus", "reader"],
+        [2, "Hal", "reader"],
+        [2, "Ida", "poster"],
+        [3, "Jo", "reader"],
+        [6, "Kim", "reader"],
+        [7, "Lea", "poster"],
+        [4, "Max", "reader"],
+        [3, "Nil", "reader"],
+        [8, "Ora", "administrator"],
     ],
     "communities": [["payments", [2, 3]], ["power", [5, 3]], ["campus", [4]], ["shops", [6, 2]]],
     "links": [[1, 3], [4, 2]],
     "clients": [[2, 6], [3, 7], [6, 7]],
     "groups": [  # owner, name, releasability, each further member with its extend flag, active
-        [2, "phishing", "members only", [[3, 0], [5, 1]], 1], [3, "grid", "", [[2, 1]], 0], [2, "quiet", "\u00e9\n", [[4, 0]], 0], [5, "phishing", "x", [], 1],
+        [2, "phishing", "members only", [[3, 0], [5, 1]], 1],
+        [3, "grid", "", [[2, 1]], 0],
+        [2, "quiet", "\u00e9\n", [[4, 0]], 0],
+        [5, "phishing", "x", [], 1],
     ],
     "nominated": [3, 11, 12, 13, 14],
     "arrangements": [[2, 3, "GREEN"], [2, 6, "AMBER"], [3, 2, "STRICT"]],
@@ -38,20 +54,38 @@ CIRCLE: Json = {
 
 # Each request: its method, its path, and whether its arguments are in the query or in a form
 ROUTES: dict[str, tuple[str, str, str]] = {
-    "View": ("GET", "/incidents/{number}", "query"), "List": ("GET", "/incidents", "query"), "Search": ("GET", "/search", "query"),
-    "Addressed": ("GET", "/me/addressed", "query"), "MyGroups": ("GET", "/me/groups", "query"), "WhoAmI": ("GET", "/me", "query"),
-    "Explain": ("GET", "/explain", "query"), "Post": ("POST", "/incidents", "query"), "Replace": ("PUT", "/incidents/{number}", "query"),
-    "Redistribute": ("POST", "/incidents/{number}/gate", "form"), "Address": ("POST", "/incidents/{number}/address", "form"),
-    "Unaddress": ("POST", "/incidents/{number}/unaddress", "form"), "Grant": ("POST", "/incidents/{number}/grant", "form"),
-    "Withdraw": ("POST", "/incidents/{number}/withdraw", "form"), "AddOrg": ("POST", "/orgs", "form"), "AddPerson": ("POST", "/persons", "form"),
-    "SuspendPerson": ("POST", "/persons/{number}/suspend", "form"), "AddClient": ("POST", "/orgs/{number}/clients", "form"),
-    "RemoveClient": ("POST", "/orgs/{number}/clients/remove", "form"), "AddCommunity": ("POST", "/communities", "form"),
-    "Join": ("POST", "/communities/{number}/join", "form"), "Leave": ("POST", "/communities/{number}/leave", "form"),
-    "Link": ("POST", "/communities/{number}/link", "form"), "Unlink": ("POST", "/communities/{number}/unlink", "form"),
-    "NewGroup": ("POST", "/groups", "form"), "GroupAdd": ("POST", "/groups/{number}/add", "form"),
-    "GroupRemove": ("POST", "/groups/{number}/remove", "form"), "GroupActive": ("POST", "/groups/{number}/active", "form"),
-    "Arrange": ("POST", "/arrangements", "form"), "CancelArrange": ("POST", "/arrangements/cancel", "form"),
-    "Nominate": ("POST", "/persons/{number}/nominate", "form"), "Unnominate": ("POST", "/persons/{number}/unnominate", "form"),
+    "View": ("GET", "/incidents/{number}", "query"),
+    "List": ("GET", "/incidents", "query"),
+    "Search": ("GET", "/search", "query"),
+    "Addressed": ("GET", "/me/addressed", "query"),
+    "MyGroups": ("GET", "/me/groups", "query"),
+    "WhoAmI": ("GET", "/me", "query"),
+    "Explain": ("GET", "/explain", "query"),
+    "Post": ("POST", "/incidents", "query"),
+    "Replace": ("PUT", "/incidents/{number}", "query"),
+    "Redistribute": ("POST", "/incidents/{number}/gate", "form"),
+    "Address": ("POST", "/incidents/{number}/address", "form"),
+    "Unaddress": ("POST", "/incidents/{number}/unaddress", "form"),
+    "Grant": ("POST", "/incidents/{number}/grant", "form"),
+    "Withdraw": ("POST", "/incidents/{number}/withdraw", "form"),
+    "AddOrg": ("POST", "/orgs", "form"),
+    "AddPerson": ("POST", "/persons", "form"),
+    "SuspendPerson": ("POST", "/persons/{number}/suspend", "form"),
+    "AddClient": ("POST", "/orgs/{number}/clients", "form"),
+    "RemoveClient": ("POST", "/orgs/{number}/clients/remove", "form"),
+    "AddCommunity": ("POST", "/communities", "form"),
+    "Join": ("POST", "/communities/{number}/join", "form"),
+    "Leave": ("POST", "/communities/{number}/leave", "form"),
+    "Link": ("POST", "/communities/{number}/link", "form"),
+    "Unlink": ("POST", "/communities/{number}/unlink", "form"),
+    "NewGroup": ("POST", "/groups", "form"),
+    "GroupAdd": ("POST", "/groups/{number}/add", "form"),
+    "GroupRemove": ("POST", "/groups/{number}/remove", "form"),
+    "GroupActive": ("POST", "/groups/{number}/active", "form"),
+    "Arrange": ("POST", "/arrangements", "form"),
+    "CancelArrange": ("POST", "/arrangements/cancel", "form"),
+    "Nominate": ("POST", "/persons/{number}/nominate", "form"),
+    "Unnominate": ("POST", "/persons/{number}/unnominate", "form"),
 }
 
 
@@ -67,7 +101,9 @@ def made_hub(circle: Json) -> Hub:
     """A hub with a circle, as its requests make it."""
     hub = Hub(circle["orgs"][0], digest(key_of(1)))
     hub.orgs = dict(enumerate(circle["orgs"], 1))
-    hub.persons = {number: Person(org, name, role, digest(key_of(number))) for number, (org, name, role) in enumerate(circle["persons"], 1)}
+    hub.persons = {
+        number: Person(org, name, role, digest(key_of(number))) for number, (org, name, role) in enumerate(circle["persons"], 1)
+    }
     hub.communities = {number: name for number, (name, _) in enumerate(circle["communities"], 1)}
     hub.members = {(number, org) for number, (_, orgs) in enumerate(circle["communities"], 1) for org in orgs}
     hub.links = {(min(pair), max(pair)) for pair in circle["links"]}
@@ -120,7 +156,13 @@ class Talk:
 
 
 def some_incident(draws: Draws, ident: int, parts: int = 3) -> Json:
-    nodes = [{**drawing.label(draws), **({"Email": [{**drawing.label(draws), "EmailTo": draws.one(("needle", "x"))}]} if draws.chance(1, 3) else {})} for _ in range(1 + draws.below(parts))]
+    nodes = [
+        {
+            **drawing.label(draws),
+            **({"Email": [{**drawing.label(draws), "EmailTo": draws.one(("needle", "x"))}]} if draws.chance(1, 3) else {}),
+        }
+        for _ in range(1 + draws.below(parts))
+    ]
     made = incident(nodes, **drawing.label(draws))
     made["IncidentID"] |= {"id": str(ident)}
     made["GenerationTime"] = "t"
@@ -129,7 +171,14 @@ def some_incident(draws: Draws, ident: int, parts: int = 3) -> Json:
     return made
 
 
-PATHS = ("/Incident/0", "/Incident/0/Contact/0", "/Incident/0/Contact/0", "/Incident/0/Contact/1", "/Incident/0/Contact/0/Email/0", "/Incident/0/IncidentID")
+PATHS = (
+    "/Incident/0",
+    "/Incident/0/Contact/0",
+    "/Incident/0/Contact/0",
+    "/Incident/0/Contact/1",
+    "/Incident/0/Contact/0/Email/0",
+    "/Incident/0/IncidentID",
+)
 ODD_PATHS = ("", "/Incident/0/Contact", "/Incident/0/Contact/9", "/Incident/0/purpose", "Incident", "/~2", "/Incident/1", "/Incident/00")
 LEVELS = (0, 1, 2, 3, 3, 3, 4, 5)
 
@@ -143,21 +192,38 @@ def shared(draws: Draws, hub: Hub) -> Json:
     at = draws.one(LEVELS)
     gates = [(at, draws.one((1, 2)) if at == 4 else None, draws.one(PATHS[:3]))] if draws.chance(1, 2) else None
     body = reports.compact(report(some_incident(draws, 1))).encode()
-    talk.ask(by, "Post", report=body, level=level, group=group, community=draws.one((None, None, 2 if by == 5 else 1, 4 if by == 2 else 2)), gates=gates)
+    talk.ask(
+        by,
+        "Post",
+        report=body,
+        level=level,
+        group=group,
+        community=draws.one((None, None, 2 if by == 5 else 1, 4 if by == 2 else 2)),
+        gates=gates,
+    )
     for _ in range(draws.below(4)):
         change(draws, talk, by)
     for person in draws.some((2, 3, 4, 5, 6, 8, 9, 11, 12, 13, 14), 4):
         talk.ask(person, "View", number=1)
     talk.ask(1, "Explain", person=2 + draws.below(13), incident=1, path=draws.one(PATHS[:4]))
     person = draws.one((3, 4, 5, 6, 11, 12, 13, 14))
-    talk.ask(person, "Search", needle=draws.one(("needle", "creator", "x")), **({"class": draws.one(("Contact", "Email"))} if draws.chance(1, 2) else {}))
+    talk.ask(
+        person,
+        "Search",
+        needle=draws.one(("needle", "creator", "x")),
+        **({"class": draws.one(("Contact", "Email"))} if draws.chance(1, 2) else {}),
+    )
     talk.ask(person, draws.one(("List", "Addressed", "MyGroups")))
     return {"requests": talk.requests}
 
 
 def grantee(draws: Draws) -> Json:
     kind = draws.one(("person", "org", "org", "community", "group"))
-    return {kind: draws.one({"person": (3, 4, 11, 12, 13, 14), "org": (3, 4, 5, 6, 7), "community": (1, 2, 3, 4), "group": (1, 2, 3, 4)}[kind])}
+    return {
+        kind: draws.one(
+            {"person": (3, 4, 11, 12, 13, 14), "org": (3, 4, 5, 6, 7), "community": (1, 2, 3, 4), "group": (1, 2, 3, 4)}[kind]
+        )
+    }
 
 
 def change(draws: Draws, talk: Talk, by: int) -> None:
@@ -169,9 +235,22 @@ def change(draws: Draws, talk: Talk, by: int) -> None:
     if kind < 3:
         talk.ask(by, "Grant", number=1, revision=1, path=path, until=until, **grantee(draws))
     elif kind < 5:
-        talk.ask(by, "Address", number=1, **draws.one(({"org": 3}, {"org": 4}, {"org": 6}, {"person": 4}, {"person": 14}, {"person": 8}, {"org": 7})))
+        talk.ask(
+            by,
+            "Address",
+            number=1,
+            **draws.one(({"org": 3}, {"org": 4}, {"org": 6}, {"person": 4}, {"person": 14}, {"person": 8}, {"org": 7})),
+        )
     elif kind == 5:
-        talk.ask(by, "Redistribute", number=1, revision=1, path=draws.one(("", path)), level=level, group=draws.one((1, 2)) if level == 4 else None)
+        talk.ask(
+            by,
+            "Redistribute",
+            number=1,
+            revision=1,
+            path=draws.one(("", path)),
+            level=level,
+            group=draws.one((1, 2)) if level == 4 else None,
+        )
     elif kind == 6:
         talk.ask(2, "GroupActive", number=draws.one((1, 3)), active=draws.below(2))
     elif kind == 7:
@@ -196,17 +275,41 @@ ROOT_LEVELS = (0, 1, 1, 2, 3, 3, 3, 3, 3, 4, 4, 5)
 
 
 def any_name(draws: Draws) -> str:
-    return draws.one(("New", "Bank", "payments", "phishing", "grid", "", "a\nb", "\u007f", "\u0080", "x" * 128, "x" * 129, "\u00e9" * 64, "\u00e9" * 65, "NEW", " "))
+    return draws.one(
+        (
+            "New",
+            "Bank",
+            "payments",
+            "phishing",
+            "grid",
+            "",
+            "a\nb",
+            "\u007f",
+            "\u0080",
+            "x" * 128,
+            "x" * 129,
+            "\u00e9" * 64,
+            "\u00e9" * 65,
+            "NEW",
+            " ",
+        )
+    )
 
 
 def any_report(draws: Draws, ident: int) -> bytes:
     if draws.chance(1, 4):
-        return draws.one((
-            b"{", b"[]", b'{"Incident":[]}', b'{"Incident":[{"IncidentID":{}}]}', b'{"Incident":[{"Contact":0,"GenerationTime":0.5,"IncidentID":{},"purpose":0}]}',
-            b'{"Incident":[{"Contact":[[{}]],"GenerationTime":0,"IncidentID":{},"purpose":0}]}',
-            b'{"Incident":[{"Contact":[{"restriction":"x"}],"GenerationTime":0,"IncidentID":{},"purpose":0}]}',
-            b'{"Incident":[{"Contact":0,"GenerationTime":0,"IncidentID":{},"purpose":0},{"Contact":{"ext-restriction":1},"GenerationTime":0,"IncidentID":{"id":"9"},"purpose":0}]}',
-        ))
+        return draws.one(
+            (
+                b"{",
+                b"[]",
+                b'{"Incident":[]}',
+                b'{"Incident":[{"IncidentID":{}}]}',
+                b'{"Incident":[{"Contact":0,"GenerationTime":0.5,"IncidentID":{},"purpose":0}]}',
+                b'{"Incident":[{"Contact":[[{}]],"GenerationTime":0,"IncidentID":{},"purpose":0}]}',
+                b'{"Incident":[{"Contact":[{"restriction":"x"}],"GenerationTime":0,"IncidentID":{},"purpose":0}]}',
+                b'{"Incident":[{"Contact":0,"GenerationTime":0,"IncidentID":{},"purpose":0},{"Contact":{"ext-restriction":1},"GenerationTime":0,"IncidentID":{"id":"9"},"purpose":0}]}',
+            )
+        )
     made = incident([{"restriction": "red", "Email": [{}]}, {}], **drawing.label(draws))
     made["IncidentID"]["id"] = str(ident)
     others = [some_incident(draws, draws.one((ident, 8, 9)))] if draws.chance(1, 8) else []
@@ -217,12 +320,31 @@ def any_report(draws: Draws, ident: int) -> bytes:
 
 # Who asks for what, mostly: those that may, and one that may not
 CALLERS: dict[str, tuple[int, ...]] = {
-    "Explain": (1, 1, 16, 1, 2), "NewGroup": (2, 2, 3, 5, 2, 10), "GroupAdd": (2, 2, 3, 5, 4, 8), "GroupRemove": (2, 2, 2, 3, 5, 9), "GroupActive": (2, 2, 3, 5, 10),
-    "Arrange": (2, 2, 2, 3, 1), "CancelArrange": (2, 2, 2, 3, 10), "Nominate": (2, 2, 3, 6, 10), "Unnominate": (3, 3, 2, 6, 1), "AddPerson": (1, 1, 1, 16, 2),
-    "SuspendPerson": (1, 1, 16, 1, 2), **{each: (2, 2, 2, 2, 10, 2, 3, 1) for each in ("Post", "Replace", "Redistribute", "Address", "Unaddress", "Grant", "Withdraw")},
+    "Explain": (1, 1, 16, 1, 2),
+    "NewGroup": (2, 2, 3, 5, 2, 10),
+    "GroupAdd": (2, 2, 3, 5, 4, 8),
+    "GroupRemove": (2, 2, 2, 3, 5, 9),
+    "GroupActive": (2, 2, 3, 5, 10),
+    "Arrange": (2, 2, 2, 3, 1),
+    "CancelArrange": (2, 2, 2, 3, 10),
+    "Nominate": (2, 2, 3, 6, 10),
+    "Unnominate": (3, 3, 2, 6, 1),
+    "AddPerson": (1, 1, 1, 16, 2),
+    "SuspendPerson": (1, 1, 16, 1, 2),
+    **{each: (2, 2, 2, 2, 10, 2, 3, 1) for each in ("Post", "Replace", "Redistribute", "Address", "Unaddress", "Grant", "Withdraw")},
     **{each: (2, 3, 4, 8, 11, 13, 1) for each in ("View", "List", "Search", "Addressed", "MyGroups", "WhoAmI")},
 }
-DRAWN = (*ROUTES, *("Post", "Replace", "Grant", "Redistribute", "Withdraw", "Address") * 2, "Post", "Replace", "NewGroup", "GroupAdd", "SuspendPerson", "Nominate", "Explain")
+DRAWN = (
+    *ROUTES,
+    *("Post", "Replace", "Grant", "Redistribute", "Withdraw", "Address") * 2,
+    "Post",
+    "Replace",
+    "NewGroup",
+    "GroupAdd",
+    "SuspendPerson",
+    "Nominate",
+    "Explain",
+)
 
 
 def any_request(draws: Draws, talk: Talk) -> None:
@@ -236,30 +358,73 @@ def any_request(draws: Draws, talk: Talk) -> None:
     if ROUTES[request][1].startswith("/incidents/"):
         number = draws.one((1, 1, 1, 1, 1, 1, 1, 2, 9, any_number(draws, 2)))
     org = any_number(draws, 8)
-    some_gates = [(each["level"], each["group"], draws.one(PATHS) if draws.chance(5, 6) else draws.one(ODD_PATHS)) for each in (any_gate(draws) for _ in range(draws.one((0, 0, 0, 1, 2))))]
+    some_gates = [
+        (each["level"], each["group"], draws.one(PATHS) if draws.chance(5, 6) else draws.one(ODD_PATHS))
+        for each in (any_gate(draws) for _ in range(draws.one((0, 0, 0, 1, 2))))
+    ]
     given: Json = {
-        "View": {"number": number}, "List": {"after": draws.one((None, 0, 1, 7))}, "Addressed": {"after": draws.one((None, 1))}, "MyGroups": {}, "WhoAmI": {},
-        "Search": {"needle": draws.one(("needle", "creator", "", "x" * 256, "x" * 257, "a")), "class": draws.one((None, "Contact", "", "y" * 257))},
+        "View": {"number": number},
+        "List": {"after": draws.one((None, 0, 1, 7))},
+        "Addressed": {"after": draws.one((None, 1))},
+        "MyGroups": {},
+        "WhoAmI": {},
+        "Search": {
+            "needle": draws.one(("needle", "creator", "", "x" * 256, "x" * 257, "a")),
+            "class": draws.one((None, "Contact", "", "y" * 257)),
+        },
         "Explain": {"person": any_number(draws, 16), "incident": any_number(draws, 2), "path": path},
-        "Post": {"report": any_report(draws, draws.one((1, 1, 2, 3))), "community": draws.one((None, None, 1, 2, 4, 9)), "gates": some_gates, **any_gate(draws, ROOT_LEVELS)},
+        "Post": {
+            "report": any_report(draws, draws.one((1, 1, 2, 3))),
+            "community": draws.one((None, None, 1, 2, 4, 9)),
+            "gates": some_gates,
+            **any_gate(draws, ROOT_LEVELS),
+        },
         "Replace": {
-            "number": number, "report": any_report(draws, draws.one((1, 1, 1, 2))), "revision": draws.one((1, 1, 1, 2, 0)), "community": draws.one((None, None, 1, 3, 9)),
-            "gates": some_gates, **any_gate(draws, ROOT_LEVELS),
+            "number": number,
+            "report": any_report(draws, draws.one((1, 1, 1, 2))),
+            "revision": draws.one((1, 1, 1, 2, 0)),
+            "community": draws.one((None, None, 1, 3, 9)),
+            "gates": some_gates,
+            **any_gate(draws, ROOT_LEVELS),
         },
         "Redistribute": {"number": number, "revision": draws.one((1, 1, 1, 2)), "path": draws.one(("", path, path)), **any_gate(draws)},
         "Address": {"number": number, **draws.one(({"org": org}, {"person": any_number(draws, 16)}))},
         "Unaddress": {"number": number, **draws.one(({"org": org}, {"org": 3}, {"person": 4}, {"person": 99}))},
-        "Grant": {"number": number, "revision": draws.one((1, 1, 1, 2)), "path": path, "until": draws.one((None, ENDS[0], *ENDS)), **draws.one((grantee(draws), {"org": org}, {"org": 3}, {"group": 4}))},
-        "Withdraw": {"number": number, "path": draws.one((path, PATHS[1])), **draws.one((grantee(draws), {"org": 3}, {"group": 1}, {"person": 4}))},
-        "AddOrg": {"name": any_name(draws)}, "AddCommunity": {"name": any_name(draws)},
-        "AddPerson": {"org": org, "name": any_name(draws), "role": draws.one(("reader", "poster", "coordinator", "administrator")), "key": digest(key_of(draws.one((15, 3, 17, 18, 19))))},
-        "SuspendPerson": {"number": draws.one((1, 15, 99, 8, any_number(draws, 16)))}, "AddClient": {"number": org, "client": any_number(draws, 8)},
+        "Grant": {
+            "number": number,
+            "revision": draws.one((1, 1, 1, 2)),
+            "path": path,
+            "until": draws.one((None, ENDS[0], *ENDS)),
+            **draws.one((grantee(draws), {"org": org}, {"org": 3}, {"group": 4})),
+        },
+        "Withdraw": {
+            "number": number,
+            "path": draws.one((path, PATHS[1])),
+            **draws.one((grantee(draws), {"org": 3}, {"group": 1}, {"person": 4})),
+        },
+        "AddOrg": {"name": any_name(draws)},
+        "AddCommunity": {"name": any_name(draws)},
+        "AddPerson": {
+            "org": org,
+            "name": any_name(draws),
+            "role": draws.one(("reader", "poster", "coordinator", "administrator")),
+            "key": digest(key_of(draws.one((15, 3, 17, 18, 19)))),
+        },
+        "SuspendPerson": {"number": draws.one((1, 15, 99, 8, any_number(draws, 16)))},
+        "AddClient": {"number": org, "client": any_number(draws, 8)},
         "RemoveClient": {"number": draws.one((2, 3, org)), "client": draws.one((6, 7, org))},
-        "Join": {"number": number, "org": org}, "Leave": {"number": number, "org": draws.one((2, 3, org))}, "Link": {"number": number, "other": any_number(draws, 4)},
-        "Unlink": {"number": draws.one((3, 2, number)), "other": draws.one((1, 4, number))}, "NewGroup": {"name": any_name(draws), "releasability": draws.one(("", "\n", "r" * 512, "r" * 513))},
-        "GroupAdd": {"number": draws.one((1, 1, 2, number)), "org": draws.one((3, 4, org)), "extend": draws.below(2)}, "GroupRemove": {"number": draws.one((1, 1, 2, number)), "org": draws.one((2, 3, 5, org))},
-        "GroupActive": {"number": number, "active": draws.below(2)}, "Arrange": {"org": org, "handling": draws.one(tuple(FIVE))},
-        "CancelArrange": {"org": draws.one((3, 6, org))}, "Nominate": {"number": draws.one((9, 3, 11, 15, 99, any_number(draws, 16)))}, "Unnominate": {"number": draws.one((3, 11, any_number(draws, 16)))},
+        "Join": {"number": number, "org": org},
+        "Leave": {"number": number, "org": draws.one((2, 3, org))},
+        "Link": {"number": number, "other": any_number(draws, 4)},
+        "Unlink": {"number": draws.one((3, 2, number)), "other": draws.one((1, 4, number))},
+        "NewGroup": {"name": any_name(draws), "releasability": draws.one(("", "\n", "r" * 512, "r" * 513))},
+        "GroupAdd": {"number": draws.one((1, 1, 2, number)), "org": draws.one((3, 4, org)), "extend": draws.below(2)},
+        "GroupRemove": {"number": draws.one((1, 1, 2, number)), "org": draws.one((2, 3, 5, org))},
+        "GroupActive": {"number": number, "active": draws.below(2)},
+        "Arrange": {"org": org, "handling": draws.one(tuple(FIVE))},
+        "CancelArrange": {"org": draws.one((3, 6, org))},
+        "Nominate": {"number": draws.one((9, 3, 11, 15, 99, any_number(draws, 16)))},
+        "Unnominate": {"number": draws.one((3, 11, any_number(draws, 16)))},
     }[request]
     talk.ask(by, request, **given)
 
@@ -275,7 +440,15 @@ def refusals(draws: Draws, hub: Hub) -> Json:
     if draws.chance(1, 2):
         talk.ask(2, "Address", number=1, **draws.one(({"org": 3}, {"person": 4})))
     if draws.chance(1, 2):
-        talk.ask(2, "Grant", number=1, revision=1, path=PATHS[1], until=draws.one((None, ENDS[0])), **draws.one(({"org": 3}, {"group": 1}, {"person": 4})))
+        talk.ask(
+            2,
+            "Grant",
+            number=1,
+            revision=1,
+            path=PATHS[1],
+            until=draws.one((None, ENDS[0])),
+            **draws.one(({"org": 3}, {"group": 1}, {"person": 4})),
+        )
     for _ in range(14):
         any_request(draws, talk)
     return {"requests": talk.requests}
@@ -300,7 +473,12 @@ def directed(hub: Hub) -> Iterator[Json]:
     talk.ask(2, "Post", report=reports.compact(report(incident())).encode(), level=3)
     for number in range(41):
         talk.ask(1, "AddOrg", name=f"o{number}")
-    for given in [*({"person": 1 + number} for number in range(16)), *({"org": 1 + number} for number in range(48)), {"org": 49}, {"org": 48}]:
+    for given in [
+        *({"person": 1 + number} for number in range(16)),
+        *({"org": 1 + number} for number in range(48)),
+        {"org": 49},
+        {"org": 48},
+    ]:
         talk.ask(2, "Address", number=1, **given)
     yield {"requests": talk.requests}
     talk = Talk(hub)
@@ -339,6 +517,32 @@ def directed(hub: Hub) -> Iterator[Json]:
     talk.ask(1, "Leave", number=4, org=2)
     talk.ask(2, "Replace", number=1, revision=2, report=shown, level=3, community=4)
     talk.ask(1, "Explain", person=3, incident=1, path=PATHS[0])
+    yield {"requests": talk.requests}
+    talk = Talk(hub)
+    talk.ask(2, "Post", report=shown, level=3)
+    for given in (
+        {"person": 99},
+        {"org": 99},
+        {"community": 99},
+        {"group": 99},
+        {"group": 4},
+        {"person": 15},
+        {"org": 2},
+        {"community": 2},
+        {"group": 3},
+    ):
+        talk.ask(2, "Grant", number=1, revision=1, path=PATHS[1], **given)
+        talk.ask(2, "Withdraw", number=1, path=PATHS[1], **given)
+    talk.ask(1, "AddPerson", org=3, name="Pia", role="coordinator", key=digest(key_of(17)))
+    talk.ask(17, "WhoAmI")
+    talk.ask(17, "Nominate", number=17)
+    talk.ask(17, "WhoAmI")
+    talk.ask(1, "SuspendPerson", number=17)
+    talk.ask(17, "WhoAmI")
+    talk.ask(3, "Unnominate", number=17)
+    for name in ("a\u001f", "\u0020", "~\u007e", "\u0080"):
+        talk.ask(1, "AddCommunity", name=name)
+        talk.ask(2, "NewGroup", name=name, releasability=name)
     yield {"requests": talk.requests}
 
 

@@ -34,7 +34,7 @@ class Permission:
 class Case:
     """What an Incident is judged by. A gate is at a pointer; that of the root is empty."""
 
-    source: int
+    source: int | None
     gates: dict[str, Gate]
     permissions: tuple[Permission, ...] = ()
     community: int | None = None
@@ -42,10 +42,10 @@ class Case:
 
 @dataclasses.dataclass(frozen=True)
 class Reader:
-    """The truths of a reader that REDACT.md lists."""
+    """The truths of a reader that REDACT.md lists. Of the short form's reader no number is known."""
 
-    who: int
-    org: int
+    who: int | None
+    org: int | None
     source: bool = False
     person: bool = False
     nominated: bool = False
@@ -67,14 +67,20 @@ class View:
     document: dict[str, Any]
     case: Case
     reader: Reader
-    now: int
+    now: int | None  # known if a permission has an end
 
 
 # POLICY, "Labels"
 
 HANDLED = {
-    "public": "CLEAR", "white": "CLEAR", "partner": "GREEN", "green": "GREEN", "need-to-know": "STRICT", "amber": "STRICT",
-    "private": "RED", "red": "RED",
+    "public": "CLEAR",
+    "white": "CLEAR",
+    "partner": "GREEN",
+    "green": "GREEN",
+    "need-to-know": "STRICT",
+    "amber": "STRICT",
+    "private": "RED",
+    "red": "RED",
 }
 EXTENDED = {"TLP:CLEAR": "CLEAR", "TLP:WHITE": "CLEAR", "TLP:GREEN": "GREEN", "TLP:AMBER": "AMBER", "TLP:AMBER+STRICT": "STRICT"}
 
@@ -190,7 +196,7 @@ def reaches(permission: Permission, view: View, path: Path) -> bool:
     return all(written(node) is None for _, node in below)
 
 
-def lasts(permission: Permission, now: int) -> bool:
+def lasts(permission: Permission, now: Any) -> bool:
     """Before its end, and not in the second of its end."""
     return permission.until is None or now < permission.until
 

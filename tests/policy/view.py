@@ -16,8 +16,13 @@ from report import Fault, Path, compact, pointer
 
 NUMBERS = 2**32
 WORDS = {
-    **{each: each for each in policy.HANDLINGS}, "TLP:CLEAR": "CLEAR", "TLP:WHITE": "CLEAR", "TLP:GREEN": "GREEN", "TLP:AMBER": "AMBER",
-    "TLP:AMBER+STRICT": "STRICT", "TLP:RED": "RED",
+    **{each: each for each in policy.HANDLINGS},
+    "TLP:CLEAR": "CLEAR",
+    "TLP:WHITE": "CLEAR",
+    "TLP:GREEN": "GREEN",
+    "TLP:AMBER": "AMBER",
+    "TLP:AMBER+STRICT": "STRICT",
+    "TLP:RED": "RED",
 }
 GRANTEES = policy.GRANTEES
 TRUTHS = ("source", "person", "nominated", "addressed", "client", "community", "peer", "connected")
@@ -35,7 +40,13 @@ GATE = ({"path", "level"}, {"path": "text", "level": "number", "group": "number"
 PERMISSION = ({"path"}, {"path": "text", **{each: "number" for each in GRANTEES}, "until": "text"})
 READER = (
     {"who", "org"},
-    {**{each: "truth" for each in TRUTHS}, "who": "number", "org": "number", "arrangement": "text", **{each: "numbers" for each in LISTS}},
+    {
+        **{each: "truth" for each in TRUTHS},
+        "who": "number",
+        "org": "number",
+        "arrangement": "text",
+        **{each: "numbers" for each in LISTS},
+    },
 )
 KINDS: dict[str, Callable[[Any], bool]] = {
     "text": lambda value: isinstance(value, str),
@@ -133,7 +144,7 @@ def out_of_range(view: dict[str, Any]) -> Found:
     found: Found = []
     for path, node, (_, members) in objects_of(view):
         for name, value in node.items():
-            if members[name] == "number" and name != "level" and not 0 <= value < NUMBERS:
+            if members[name] == "number" and not 0 <= value < NUMBERS:
                 found.append((*path, name))
             if members[name] == "numbers":
                 found += [(*path, name)] if len(value) > MOST_IN_A_LIST else []
@@ -172,7 +183,9 @@ def permissions_out_of_range(permissions: list[dict[str, Any]]) -> Found:
     if any(len(each) > 1 for each in named):
         found.append(None)
     keys = [key for each in named for key in each]
-    are_good = all(reports.is_pointer(each["path"]) and ("until" not in each or moment(each["until"]) is not None) for each in permissions)
+    are_good = all(
+        reports.is_pointer(each["path"]) and ("until" not in each or moment(each["until"]) is not None) for each in permissions
+    )
     if len(set(keys)) < len(keys) and are_good:
         found.append(None)
     return found
@@ -182,7 +195,11 @@ def reader_out_of_range(view: dict[str, Any]) -> Found:
     reader, case = view["reader"], view["case"]
     groups = reader.get("groups", [])
     found: Found = [None for each in reader.get("active_groups", []) if each not in groups]
-    if "community" not in case and reader.get("peer", False) != reader.get("community", False) and not bad_pointers(view) + bad_moments(view):
+    if (
+        "community" not in case
+        and reader.get("peer", False) != reader.get("community", False)
+        and not bad_pointers(view) + bad_moments(view)
+    ):
         found.append(None)
     return found
 
@@ -220,13 +237,19 @@ def checked(data: bytes, dated: bool, place: str = "") -> dict[str, Any]:
     if not isinstance(view, dict):
         raise Fault("NotObject", "")
     kinds: list[tuple[str, Callable[[], Found]]] = [
-        ("UnknownMember", lambda: unknown(view)), ("MissingMember", lambda: missing(view, dated)), ("WrongKind", lambda: of_wrong_kind(view)),
-        ("OutOfRange", lambda: out_of_range(view)), ("BadPointer", lambda: bad_pointers(view)), ("BadMoment", lambda: bad_moments(view)),
+        ("UnknownMember", lambda: unknown(view)),
+        ("MissingMember", lambda: missing(view, dated)),
+        ("WrongKind", lambda: of_wrong_kind(view)),
+        ("OutOfRange", lambda: out_of_range(view)),
+        ("BadPointer", lambda: bad_pointers(view)),
+        ("BadMoment", lambda: bad_moments(view)),
         ("SourceUnsaid", lambda: source_unsaid(view)),
     ]
     for name, found in kinds:
         paths = found()
-        said = sorted((each for each in paths if each is not None), key=lambda each: in_order(each, (SHORT if "clearance" in view else LONG)[1]))
+        said = sorted(
+            (each for each in paths if each is not None), key=lambda each: in_order(each, (SHORT if "clearance" in view else LONG)[1])
+        )
         if name == "BadPointer" and not reports.is_pointer(place):
             raise Fault(name, None if paths else "")
         if paths:
@@ -241,8 +264,14 @@ def short_reader(cleared: str) -> Reader:
     """A reader of whom only the clearance is known; the root's gate lets everybody pass."""
     is_peer = cleared == "GREEN"
     return Reader(
-        who=0, org=0, person=cleared == "RED", nominated=cleared in {"AMBER", "STRICT"}, addressed=cleared == "STRICT",
-        client=cleared == "AMBER", community=is_peer, peer=is_peer,
+        who=None,
+        org=None,
+        person=cleared == "RED",
+        nominated=cleared in {"AMBER", "STRICT"},
+        addressed=cleared == "STRICT",
+        client=cleared == "AMBER",
+        community=is_peer,
+        peer=is_peer,
     )
 
 
@@ -257,7 +286,7 @@ def reader_of(view: dict[str, Any]) -> Reader:
 
 def case_of(view: dict[str, Any]) -> Case:
     if "clearance" in view:
-        return Case(1, {"": Gate(3)})
+        return Case(None, {"": Gate(3)})
     case = view["case"]
     gates = {each["path"]: Gate(each["level"], each.get("group", 0)) for each in case["gates"]}
     return Case(case["source"], gates, tuple(map(permission_of, case.get("permissions", []))), case.get("community"))
@@ -286,7 +315,7 @@ def seen(report: bytes, view: bytes, dated: bool = False, place: str | None = No
                 raise Fault("NoClass", None)
     if place is not None and policy.class_at(document, place) is None:
         raise Fault("NoClass")
-    return View(document, case_of(described), reader_of(described), moment(described.get("now", "")) or 0)
+    return View(document, case_of(described), reader_of(described), moment(described.get("now", "")))
 
 
 def whole_report(report: bytes) -> dict[str, Any]:
@@ -317,7 +346,10 @@ def is_readable(document: dict[str, Any]) -> bool:
 def excerpt(report: bytes, view: bytes) -> str:
     served = excerpt_of(seen(report, view))
     told = {
-        "classes": served.classes, "document": served.document, "label": served.label, "readable": is_readable(served.document),
+        "classes": served.classes,
+        "document": served.document,
+        "label": served.label,
+        "readable": is_readable(served.document),
         "withheld": served.withheld,
     }
     return compact(told)
