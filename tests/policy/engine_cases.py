@@ -166,6 +166,7 @@ def permissions(draws: Draws) -> Iterator[Json]:
         ("0000-02-29T23:59:59Z", "0000-01-01T00:00:00Z"),
         ("1969-12-31T23:59:59Z", "1960-01-01T00:00:00Z"),
         ("0001-01-01T00:00:00Z", "0000-12-31T23:59:59Z"),
+        ("2026-12-31T23:59:60Z", NOW),
     ):
         given = {"path": CONTACT, "org": 5, "until": end}
         yield the(report(incident([{}])), long(case(permissions=[given]), reader(), now=now), {"call": "explain", "pointer": CONTACT})

@@ -574,9 +574,9 @@ REQUESTS: dict[str, Callable[[Hub, Asked], dict[str, Any]]] = {
 # Who may do what (POLICY, "Who is who" and "Requests and refusals")
 EVERYBODY = ("reader", "poster", "coordinator", "administrator")
 ROLES = {
-    EVERYBODY: ("View", "List", "Search", "Addressed", "MyGroups", "WhoAmI"),
-    ("poster", "coordinator"): ("Post", "Replace", "Redistribute", "Address", "Unaddress", "Grant", "Withdraw"),
-    ("administrator",): (
+    EVERYBODY: {"View", "List", "Search", "Addressed", "MyGroups", "WhoAmI"},
+    ("poster", "coordinator"): {"Post", "Replace", "Redistribute", "Address", "Unaddress", "Grant", "Withdraw"},
+    ("administrator",): {
         "Explain",
         "AddOrg",
         "AddPerson",
@@ -588,7 +588,7 @@ ROLES = {
         "Leave",
         "Link",
         "Unlink",
-    ),
-    ("coordinator",): ("NewGroup", "GroupAdd", "GroupRemove", "GroupActive", "Arrange", "CancelArrange", "Nominate", "Unnominate"),
+    },
+    ("coordinator",): {"NewGroup", "GroupAdd", "GroupRemove", "GroupActive", "Arrange", "CancelArrange", "Nominate", "Unnominate"},
 }
 ALLOWED = {request: roles for roles, requests in ROLES.items() for request in requests}
