@@ -39,6 +39,8 @@ def wait_for(holds: Callable[[], bool], seconds: float = 30) -> bool:
 class Shown:
     """A demo that was started in a folder, in which it makes its own."""
 
+    started: list[Shown] = []
+
     def __init__(self, room: pathlib.Path, *words: str, command: pathlib.Path = COMMAND, more: dict[str, str] | None = None) -> None:
         self.room = room
         path = os.environ["PATH"]
@@ -47,6 +49,14 @@ class Shown:
             [command, *words], stdout=subprocess.PIPE, stderr=subprocess.PIPE, text=True, env=environment, start_new_session=True
         )
         self.said = self.told = ""
+        Shown.started.append(self)
+
+    @classmethod
+    def end_all(cls) -> None:
+        """Ends those that still run, if a trial breaks off."""
+        for each in cls.started:
+            if each.process.poll() is None:
+                each.end(signal.SIGTERM)
 
     def begin(self) -> Shown:
         """Waits until it shows the circle, and reads what it printed."""
