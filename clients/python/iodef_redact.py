@@ -14,7 +14,8 @@ A call that has no answer raises the Fault of that name, and one with a word of 
 lets other threads run, and calls may run in parallel. In the forked child of a process that had threads no call may be made: start
 processes by "spawn" or "forkserver".
 
-The module loads the library by the name libiodef_redact.so.1, or from the file that IODEF_REDACT_LIBRARY names.
+The module loads the library from the file that IODEF_REDACT_LIBRARY names; else from libiodef_redact.so.1 beside the module, where a
+wheel has it; else by that name, as the system finds it.
 """
 from __future__ import annotations
 
@@ -401,10 +402,16 @@ def _described(to: object, case: object, incident: object, now: object) -> objec
     return json.dumps({"clearance": to, **_given(incident=incident, now=moment)})
 
 
+def _file() -> str:
+    """The library's file, or its name for the system."""
+    beside = os.path.join(os.path.dirname(os.path.abspath(__file__)), LIBRARY)
+    return os.environ.get("IODEF_REDACT_LIBRARY") or (beside if os.path.isfile(beside) else LIBRARY)
+
+
 @functools.cache
 def _library() -> ctypes.CDLL:
     """The library. The signature of each export is set here, and stays the same whatever a call is given."""
-    library = ctypes.CDLL(os.environ.get("IODEF_REDACT_LIBRARY") or LIBRARY)
+    library = ctypes.CDLL(_file())
     number, text = (ctypes.c_uint32,), (ctypes.c_char_p, ctypes.c_size_t)
     for name, words in EXPORTS.items():
         function = getattr(library, f"iodef_redact_{name}_into")

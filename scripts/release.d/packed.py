@@ -1,4 +1,5 @@
-"""The packages of a release: the Debian packages as deploy/deb/build-deb makes them, and a tarball with the same files and more."""
+"""The packages of a release: the Debian packages as deploy/deb/build-deb makes them, a tarball with the same files and more, and a
+wheel of the clients with the library inside."""
 from __future__ import annotations
 
 import gzip
@@ -12,9 +13,11 @@ import subprocess
 import sys
 import tarfile
 import tempfile
+import zipfile
 from collections.abc import Iterable
 from dataclasses import dataclass
 
+from tree import PROVED as PROVED_BESIDE
 from tree import Refused, Tree
 
 
@@ -41,6 +44,11 @@ Files = dict[str, bytes | Link]
 # Where a file of the package comes from, by the beginning of its path. What isn't named here is generated.
 FROM = [
     (r"usr/bin/(iodef-hub-ask)", r"clients/python/\1"),
+    (r"usr/bin/iodef-hub-misp", r"clients/python/iodef_hub_misp.py"),
+    (r"usr/bin/(iodef-hub-version)", r"deploy/deb/\1"),
+    (r"usr/bin/(iodef-hub-demo)", r"demo/\1"),
+    (r"usr/share/iodef-hub/demo/reports/((?:phishing|botnet|denial-of-service)\.json)", r"docs/examples/\1"),
+    (r"usr/share/iodef-hub/(demo/.*)", r"\1"),
     (r"usr/share/iodef-hub/client/(.*)", r"clients/python/\1"),
     (r"usr/sbin/(.*)", r"deploy/bin/\1"),
     (r"usr/lib/iodef-hub/(.*)", r"deploy/lib/\1"),
@@ -57,20 +65,35 @@ FROM = [
     (r"usr/share/doc/iodef-hub/examples/(receipts/.*)", r"deploy/\1"),
     (r"usr/share/doc/iodef-hub/examples/(alerts\.yml)", r"deploy/monitoring/\1"),
     (r"usr/share/doc/iodef-hub/examples/(mail-news)", r"clients/python/examples/\1"),
-    (r"usr/share/man/man1/(iodef-hub-ask\.1)\.gz", r"clients/python/\1"),
+    (r"usr/share/man/man1/(iodef-hub-(?:ask|misp)\.1)\.gz", r"clients/python/\1"),
     (r"usr/include/(iodef_redact\.h)", r"clients/c/\1"),
     (r"usr/lib/[\w-]+/pkgconfig/(iodef_redact\.pc)", r"clients/c/\1"),
     (r"usr/lib/python3/dist-packages/(iodef_redact\.py)", r"clients/python/\1"),
 ]
+# The sources of the commands whose man pages and completions are generated; those of the others are below deploy/bin.
+COMMANDS = {
+    "iodef-hub": "crates/hub_program/src/words.rt",
+    "iodef-redact": "crates/redact_program/src/words.rt",
+    "iodef-hub-ask": "clients/python/iodef-hub-ask",
+    "iodef-hub-misp": "clients/python/iodef_hub_misp.py",
+    "iodef-hub-version": "deploy/deb/iodef-hub-version",
+    "iodef-hub-demo": "demo/iodef-hub-demo",
+}
+# The pages from which man pages of programs are made.
+PAGES = {"iodef-hub": "docs/COMMAND-LINE.md", "iodef-redact": "docs/REDACT.md"}
+# Where the description of a command is, and its completion, by the beginnings of their paths.
+MANUALS, COMPLETIONS = "usr/share/man/man", "usr/share/bash-completion/completions/"
 # The programs and libraries that are proved: no commit has them.
 PROVED = r"usr/bin/iodef-(?:hub|redact)|usr/lib/[\w-]+/libiodef_redact\.(?:a|so[.\d]*)"
+# Which of them a package has.
+OF_PACKAGES = {"iodef-hub": "usr/bin/iodef-hub$", "iodef-redact": "usr/bin/iodef-redact$", "libiodef-redact": "usr/lib/"}
 PROGRAMS = rf"usr/s?bin/.*|usr/lib/iodef-hub/.*|{PROVED}"
 # The names by which the shared library is linked and loaded.
 LINKS = r"usr/lib/[\w-]+/libiodef_redact\.so(?:\.1)?"
 # What debhelper adds to a package; the tarball has the licence and CHANGELOG.md in their place.
 ADDED = r"usr/share/(doc/[\w-]+/(copyright|changelog\.gz)|lintian/overrides/[\w-]+)"
 # Folders of which the hub's package has all files.
-WHOLE = ("deploy/bin", "deploy/lib", "deploy/systemd")
+WHOLE = ("deploy/bin", "deploy/lib", "deploy/systemd", "demo")
 # What the tarball has besides.
 BESIDE = ("clients", "LICENSE", "CHANGELOG.md", "SECURITY.md")
 
@@ -79,7 +102,7 @@ def built(tree: Tree, made_of: Given, version: str, room: pathlib.Path, maintain
     """The Debian packages, made in the room, which is new; the hub's is the first."""
     room.mkdir()
     given = {name: it for name, it in os.environ.items() if not re.match(r"DEB_|DPKG_|IODEF_|SOURCE_DATE_", name)}
-    given |= {"SOURCE_DATE_EPOCH": str(tree.seconds), "LC_ALL": "C.UTF-8", "TZ": "UTC"}
+    given |= {"SOURCE_DATE_EPOCH": str(tree.seconds), "IODEF_HUB_COMMIT": tree.commit, "LC_ALL": "C.UTF-8", "TZ": "UTC"}
     given |= {"IODEF_REDACT_PROGRAM": str(made_of.redact or ""), "IODEF_REDACT_LIBRARY": str(made_of.library or "")}
     if found := re.fullmatch(r"(.*) <(.*)>", maintainer):
         given |= {"DEBFULLNAME": found[1], "DEBEMAIL": found[2]}
@@ -173,13 +196,37 @@ def documents(tree: Tree, what: str) -> dict[str, bytes]:
         return {str(it.relative_to(room)): it.read_bytes() for it in room.rglob("*") if it.is_file()}
 
 
+def command_source(name: str) -> str:
+    return COMMANDS.get(name, f"deploy/bin/{name}")
+
+
+def versions(tree: Tree, version: str, kit: str, programs: dict[str, str]) -> dict[str, bytes]:
+    """The file VERSION of each package, by its path, as the commit's make-version makes it; of a commit without one, none."""
+    if not (tree.folder / "deploy/deb/make-version").is_file():
+        return {}
+    found = {}
+    for name in tree.packages():
+        files = {path: it for path, it in sorted(proved(programs).items()) if re.match(OF_PACKAGES[name], path)}
+        found[f"usr/share/doc/{name}/VERSION"] = version_text(tree, name, version, kit, {f"/{path}": it for path, it in files.items()})
+    return found
+
+
+def version_text(tree: Tree, name: str, version: str, kit: str, files: dict[str, str]) -> bytes:
+    """What a package says of itself; files are what is proved in it, by path with the digest. The wheel has the library."""
+    sources = tree.sources_of(name if name in PROVED_BESIDE else "libiodef-redact")
+    words = ["deploy/deb/make-version", name, version, tree.commit, sources, kit, *(f"{path}={it}" for path, it in files.items())]
+    given = {**os.environ, "SOURCE_DATE_EPOCH": str(tree.seconds)}
+    return subprocess.run([sys.executable, *words], cwd=tree.folder, env=given, stdout=subprocess.PIPE, check=True).stdout
+
+
 def generated(tree: Tree, name: str) -> bytes | None:
-    """What the tree's tools make of it for a file that stands nowhere in it: a man page, or the page's policy."""
+    """What the tree's tools make of it for a file that stands nowhere in it: a man page, a completion, or the page's policy."""
     if name.endswith("nginx/iodef-hub-csp.conf"):
         words = ["deploy/nginx/make-csp", "web/index.html"]
-    elif found := re.fullmatch(r"usr/share/man/man(\d)/(.*)\.\d\.gz", name):
-        page = "docs/REDACT.md" if found[2] == "iodef-redact" else "docs/COMMAND-LINE.md"
-        words = ["deploy/deb/make-man", page if found[1] == "1" else f"deploy/bin/{found[2]}", found[2], found[1]]
+    elif found := re.fullmatch(rf"{MANUALS}(\d)/(.*)\.\d\.gz", name):
+        words = ["deploy/deb/make-man", PAGES.get(found[2]) or command_source(found[2]), found[2], found[1]]
+    elif found := re.fullmatch(rf"{COMPLETIONS}(.*)", name):
+        words = ["deploy/deb/make-completion", command_source(found[1]), found[1]]
     else:
         return None
     given = {**os.environ, "SOURCE_DATE_EPOCH": str(tree.seconds)}
@@ -195,11 +242,12 @@ def source_of(name: str) -> str | None:
 
 
 class Due:
-    """What the files of a package have to be, by the commit."""
+    """What the files of a package have to be, by the commit and what each package says of its own version."""
 
-    def __init__(self, tree: Tree) -> None:
+    def __init__(self, tree: Tree, versions: dict[str, bytes]) -> None:
         self.tree = tree
-        self.documents = documents(tree, "tarball")
+        self.generated: dict[str, bytes | None] = {}
+        self.documents = {**documents(tree, "tarball"), **versions}
         for name in tree.packages():
             made = documents(tree, name)
             self.documents |= {f"usr/share/doc/{name}/{path}": it for path, it in made.items()}
@@ -209,7 +257,10 @@ class Due:
             return self.documents[name]
         source = source_of(name)
         if source is None:
-            return generated(self.tree, name)
+            # The tarball has the same files as the packages, so each is made once.
+            if name not in self.generated:
+                self.generated[name] = generated(self.tree, name)
+            return self.generated[name]
         file = self.tree.folder / source
         return file.read_bytes() if file.is_file() else None
 
@@ -243,11 +294,50 @@ def faults_of_files(due: Due, files: Files, told: dict[str, str], tops: Iterable
     return faults + [f"it lacks {name}" for name in sorted(str(it) for it in lacking)]
 
 
+def faults_of_commands(tree: Tree, files: Files) -> list[str]:
+    """Which commands of a package have no man page or no completion. Of a commit that makes no completions, none."""
+    if not (tree.folder / "deploy/deb/make-completion").is_file():
+        return []
+    faults = []
+    for name in (found[1] for it in sorted(files) if (found := re.fullmatch(r"usr/s?bin/(.*)", it))):
+        if not any(re.fullmatch(rf"{MANUALS}\d/{name}\.\d\.gz", it) for it in files):
+            faults.append(f"{name} has no man page")
+        if f"{COMPLETIONS}{name}" not in files:
+            faults.append(f"{name} has no completion")
+    return faults
+
+
 def faults_between(one: Files, other: Files, what: str) -> list[str]:
     """Where the files of the packages and those of the tarball differ."""
     one = {name: it for name, it in one.items() if not re.fullmatch(ADDED, name)}
     other = {name: it for name, it in other.items() if not name.startswith(BESIDE)}
     return [f"{name} {what}" for name in sorted({*one, *other}) if one.get(name) != other.get(name)]
+
+
+def wheel(tree: Tree, library: pathlib.Path, version: str, kit: str, room: pathlib.Path) -> pathlib.Path | None:
+    """The wheel of the clients with the shared library inside, made in the room, which is new; of a commit that makes none, none."""
+    tool = tree.folder / "clients/python/build_wheel.py"
+    if not tool.is_file() or '"library"' not in tool.read_text():
+        return None
+    room.mkdir()
+    file, about = (library / "libiodef_redact.so.1").resolve(), room / "VERSION"
+    digest = hashlib.sha256(file.read_bytes()).hexdigest()
+    about.write_bytes(version_text(tree, "iodef-hub-client", version, kit, {"iodef_redact/libiodef_redact.so.1": digest}))
+    words = [sys.executable, tool, room, "--library", file, "--version", version, "--about", about]
+    ran = subprocess.run([str(it) for it in words], capture_output=True, text=True, env={**os.environ, "PYTHONDONTWRITEBYTECODE": "1"})
+    if ran.returncode:
+        raise Refused(f"the wheel isn't built: {ran.stderr.strip()[-600:]}")
+    about.unlink()
+    return next(room.iterdir())
+
+
+def entries_of_wheel(file: pathlib.Path) -> dict[str, tuple[object, ...]]:
+    """The files of a wheel, with their times and modes; how they are packed depends on the machine."""
+    with zipfile.ZipFile(file) as opened:
+        listed = opened.infolist()
+        if len({it.filename for it in listed}) != len(listed):
+            raise Refused(f"{file.name} has a file twice")
+        return {it.filename: (opened.read(it), it.date_time, it.external_attr) for it in listed}
 
 
 def maintainer_of(package: pathlib.Path) -> str:

@@ -1,4 +1,4 @@
-"""The parts of a release as CycloneDX 1.5: its programs and libraries, their crates, those of the kit, and what each stands on.
+"""The parts of a release as CycloneDX 1.5: its programs, libraries and wheel, their crates, those of the kit, and what each stands on.
 
 No schema of CycloneDX lies beside it: `faults_of_shape` asks by hand for the part of the schema that is used here.
 """
@@ -14,6 +14,7 @@ from tree import PACKAGES, Refused, Tree
 HUB = "usr/bin/iodef-hub"
 # The packages of the programs and libraries besides the hub's, by the beginnings of their names.
 OF_PACKAGE = {"iodef-redact": "iodef-redact", "libiodef_redact.": "libiodef-redact"}
+WHEEL = ".whl"
 Json = dict[str, Any]
 # A licence by words of its text, by the identifiers of SPDX.
 LICENCES = {
@@ -79,12 +80,12 @@ def hashes(digest: str) -> list[Json]:
 
 
 def beside(programs: dict[str, str], version: str) -> list[Json]:
-    """The proved programs and libraries besides the hub's program, by the digests of all."""
+    """The proved programs and libraries besides the hub's program, and the wheel, by the digests of all."""
     found = []
     for path, digest in sorted(programs.items()):
         if path != HUB:
             name = pathlib.PurePath(path).name
-            kind = "library" if name.startswith("lib") else "application"
+            kind = "library" if name.startswith("lib") or name.endswith(WHEEL) else "application"
             part: Json = {"type": kind, "bom-ref": name, "group": "iodef-hub", "name": name, "version": version, "hashes": hashes(digest)}
             found.append({**part, "licenses": [{"license": {"id": "Apache-2.0"}}]})
     return found
@@ -113,6 +114,11 @@ def dependencies(tree: Tree, programs: dict[str, str]) -> list[Json]:
     crates = tree.crates()
     found = [{"ref": "iodef-hub", "dependsOn": [f"crates/{PACKAGES['iodef-hub']}"]}]
     for part in beside(programs, ""):
+        if part["name"].endswith(WHEEL):
+            # It has the very file of the library.
+            inside = [it["bom-ref"] for it in beside(programs, "") if ".so." in it["name"]]
+            found.append({"ref": part["bom-ref"], "dependsOn": inside})
+            continue
         package = next(it for begin, it in OF_PACKAGE.items() if part["name"].startswith(begin))
         found.append({"ref": part["bom-ref"], "dependsOn": [f"crates/{PACKAGES[package]}"]})
     for name in tree.of_packages():

@@ -7,12 +7,13 @@ import pathlib
 import re
 import subprocess
 import sys
-from collections.abc import Iterable
+from collections.abc import Iterable, Iterator
 from typing import Any
 
 TOP = pathlib.Path(__file__).resolve().parent.parent.parent
-# The packages of a release, each with the crate of its program or library.
+# The packages of a release, each with the crate of its program or library, and what is proved in it, by the names of the files beside.
 PACKAGES = {"iodef-hub": "hub_cli", "iodef-redact": "iodef_redact", "libiodef-redact": "redact_c"}
+PROVED = {"iodef-hub": "iodef-hub", "iodef-redact": "iodef-redact", "libiodef-redact": "libiodef_redact"}
 # The file that lists the digests of all others, and its signature.
 SUMS, SIGNATURE = "SHA256SUMS", "SHA256SUMS.asc"
 SBOM, PROVENANCE = "sbom.cdx.json", "PROVENANCE.json"
@@ -65,14 +66,34 @@ class Tree:
 
     def digest(self, files: Iterable[pathlib.Path]) -> dict[str, Any]:
         """The SHA-256 of what `sha256sum` prints of the files in the order of their paths, and their number."""
-        lines = sorted((str(it.relative_to(self.folder)), sha256(it)) for it in files if it.is_file())
-        text = "".join(f"{one}  {path}\n" for path, one in lines)
-        return {"files": len(lines), "sha256": hashlib.sha256(text.encode()).hexdigest()}
+        lines = sorted(self.lines(files))
+        return {"files": len(lines), "sha256": hashlib.sha256("".join(it for _, it in lines).encode()).hexdigest()}
+
+    def lines(self, files: Iterable[pathlib.Path]) -> Iterator[tuple[str, str]]:
+        """The path of each file, and what `sha256sum` prints of it."""
+        for it in files:
+            if it.is_file():
+                path = str(it.relative_to(self.folder))
+                yield path, f"{sha256(it)}  {path}\n"
+
+    def sources_of(self, package: str) -> str:
+        """The digest of all that the program or library of a package is made of and its proofs read, as it is written beside: by the
+        launcher of the program's own crates, by scripts/build-redact-library of all. Older launchers took all, too."""
+        if package == "libiodef-redact" or not re.search(r"^chain\(\)", self.text("iodef-hub"), re.M):
+            return str(self.sources()["sha256"])
+        chain = self.below([PACKAGES[package]])
+        listed = [it for it in self.text("crates.txt").splitlines(True) if re.split(r"[ :]", it)[0] in chain]
+        head = hashlib.sha256("".join([self.text("HANDLES"), *listed]).encode()).hexdigest()
+        lines = "".join(line for _, line in sorted(self.lines(it for name in chain for it in self.proved_files(f"crates/{name}"))))
+        return hashlib.sha256(f"{head}  -\n{lines}".encode()).hexdigest()
 
     def sources(self) -> dict[str, Any]:
-        """Of all that the program is made of and its proofs read, as the launcher has it."""
-        within = (it for it in (self.folder / "crates").rglob("*") if "must-fail" not in it.parts)
-        return self.digest([self.folder / "HANDLES", self.folder / "crates.txt", *within])
+        """Of all that the programs are made of and their proofs read."""
+        return self.digest([self.folder / "HANDLES", self.folder / "crates.txt", *self.proved_files("crates")])
+
+    def proved_files(self, folder: str) -> list[pathlib.Path]:
+        """The files below a folder but for the edits that a prover must refuse."""
+        return [it for it in (self.folder / folder).rglob("*") if "must-fail" not in it.parts]
 
     def definitions(self) -> dict[str, Any]:
         return self.digest((self.folder / "crates").glob("*/specs/**/*"))
@@ -88,7 +109,11 @@ class Tree:
 
     def of_packages(self) -> list[str]:
         """The crates of the packages' programs and library, and those that they stand on."""
-        crates, found, left = self.crates(), set[str](), [PACKAGES[it] for it in self.packages()]
+        return self.below([PACKAGES[it] for it in self.packages()])
+
+    def below(self, names: list[str]) -> list[str]:
+        """These crates and those that they stand on."""
+        crates, found, left = self.crates(), set[str](), list(names)
         while left:
             name = left.pop()
             if name in crates and name not in found:

@@ -7,10 +7,13 @@ import sys
 
 from iodef_hub import Hub, HubError, MayBeTaken, digest_of, new_key
 
+from .characters import shown
+from .sharing import check_circle
 from .telling import Teller
 
 
 def do_add_person(hub: Hub, given: argparse.Namespace, teller: Teller) -> None:
+    check_circle(hub, given, lambda it: f"{shown(it.name)} is a person of {it.names('org', it.org)}, as {it.role}")
     if given.digest is not None:
         made = hub.add_person(given.org, given.name, given.role, given.digest)
         teller.tell(str(made))

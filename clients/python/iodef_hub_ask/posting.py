@@ -4,20 +4,22 @@ from __future__ import annotations
 import argparse
 import json
 import pathlib
+import re
 from collections import Counter
 from collections.abc import Sequence
 from dataclasses import dataclass, replace
 from typing import Any
 
-from iodef_hub import LAST_NUMBER, Gate, Hub, HubError, Refused, doubled_labels, labelled_classes, report_bytes
+from iodef_hub import ARRANGED, LAST_NUMBER, TEXTS, UNLABELLED, Gate, Hub, HubError, Refused, doubled_labels, labelled_classes, report_bytes
 
 from .characters import shown
 from .kept import alone, write
 from .looking import keep
 from .reading import gate, read_file
-from .sharing import INCIDENT, basis, check_yes, class_line, class_words, is_asking, level_words
+from .sharing import INCIDENT, basis, check_yes, class_line, class_words, is_asking, learn_groups, level_words
 from .telling import Teller, Undone, Usage, note, warn
 
+INCIDENTS = re.compile(r"/Incident/\d+(?=/|$)")
 ANY = "--community N or --any-community: whose members may read what is marked green"
 
 
@@ -43,9 +45,24 @@ def document_of(report: bytes) -> dict[str, Any]:
     return value if isinstance(value, dict) else {}
 
 
+WIDEST_FIRST = (*dict.fromkeys(TEXTS.values()), ARRANGED, UNLABELLED)  # all labels
+
+
 def incident_lines(report: bytes) -> list[str]:
-    """The Incidents of a report, for a person who is asked: label and first text."""
-    return [class_line(each) for each in labelled_classes(document_of(report)) if each.name == "Incident"]
+    """The Incidents of a report, for a person who is asked: label and first text, and the other labels that are in it."""
+    found = list(labelled_classes(document_of(report)))
+    lines = []
+    for incident in (each for each in found if INCIDENTS.fullmatch(each.path)):
+        held = {each.label for each in found if each.path.startswith(incident.path + "/") or not INCIDENTS.match(each.path)}
+        others = ", ".join(each for each in WIDEST_FIRST if each in held - {incident.label})
+        lines.append(class_line(incident) + (f" (in it also {others})" if others else ""))
+    return lines
+
+
+def labels_words(report: bytes) -> str:
+    """The labels of the classes of a report."""
+    held = {each.label for each in labelled_classes(document_of(report))}
+    return ", ".join(each for each in WIDEST_FIRST if each in held)
 
 
 def spread_words(given: argparse.Namespace, level: int, group: int | None, community: int | None, gates: Sequence[Gate], report: bytes) -> str:
@@ -61,6 +78,8 @@ def do_post(hub: Hub, given: argparse.Namespace, teller: Teller) -> None:
     if given.community is None and not given.any_community:
         raise Usage(f"nothing is sent, as a report needs {ANY}")
     report = report_of(given)
+    if given.group is not None or any(each.group for each in given.gate):
+        learn_groups(hub, given)
     spread = spread_words(given, given.level, given.group, given.community, given.gate, report)
     if is_asking(given):
         check_yes(incident_lines(report), f"Post it at {spread}?")
@@ -88,8 +107,10 @@ def check_replacement(given: argparse.Namespace, has_gates: bool) -> None:
 def do_replace(hub: Hub, given: argparse.Namespace, teller: Teller) -> None:
     check_replacement(given, given.gate or given.no_gates)
     report = report_of(given)
+    if given.group is not None or any(each.group for each in given.gate):
+        learn_groups(hub, given)
     spread = spread_words(given, given.level, given.group, given.community, given.gate, report)
-    found = basis(hub, given, INCIDENT, f"Replace it, at {spread}?")
+    found = basis(hub, given, INCIDENT, f"Replace it, at {spread}?", by=[f"by {each}" for each in incident_lines(report)])
     revision = hub.replace(given.number, found.revision, report, given.level, given.group, gates=given.gate, community=given.community)
     teller.tell(str(revision))
     keep(hub, given.number, revision)
@@ -231,8 +252,10 @@ def do_post_all(hub: Hub, given: argparse.Namespace, teller: Teller) -> None:
         if line.source not in (None, org):
             raise Usage(f"line {place + 1}: the report is from organisation {line.source}, but your key is for organisation {org}")
     if is_asking(given):
-        each = Counter(f"at {spread_words(given, line.level, line.group, line.community, line.gates or (), line.report)}" for line in lines)
-        check_yes([f"{count} reports {spread}" for spread, count in each.items()], f"{'Post or replace' if given.replace else 'Post'} them?")
+        if any(line.group for line in lines) or any(each.group for line in lines for each in line.gates or ()):
+            learn_groups(hub, given)
+        each = Counter(f"{labels_words(line.report)} at {spread_words(given, line.level, line.group, line.community, line.gates or (), line.report)}" for line in lines)
+        check_yes([f"{count} reports, {spread}" for spread, count in each.items()], f"{'Post or replace' if given.replace else 'Post'} them?")
     left = 0
     for place, line in enumerate(lines):
         try:

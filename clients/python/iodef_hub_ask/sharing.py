@@ -3,7 +3,7 @@ from __future__ import annotations
 
 import argparse
 import sys
-from collections.abc import Callable
+from collections.abc import Callable, Sequence
 from dataclasses import dataclass
 from typing import Any
 
@@ -83,6 +83,12 @@ def check_yes(about: list[str], question: str) -> None:
         raise Unchanged("nothing was changed")
 
 
+def learn_groups(hub: Hub, given: argparse.Namespace) -> None:
+    """Takes up the names of the groups that the caller is in, for a question that names one."""
+    if is_asking(given):
+        given.names.learn("group", {str(each.number): each.name for each in hub.groups()})
+
+
 @dataclass(frozen=True)
 class Basis:
     """What a change is made to: the revision that was seen, and the incident as it is."""
@@ -102,16 +108,16 @@ def revision_seen(hub: Hub, given: argparse.Namespace) -> int | None:
     return found
 
 
-def basis(hub: Hub, given: argparse.Namespace, path: str, question: str, is_wider: bool = True) -> Basis:
+def basis(hub: Hub, given: argparse.Namespace, path: str, question: str, is_wider: bool = True, by: Sequence[str] = ()) -> Basis:
     """What a change is made to. At a terminal a person is asked before a change that may show more, or that is to the latest revision;
-    but not if the revision that was seen isn't there any more, as the hub refuses that."""
+    but not if the revision that was seen isn't there any more, as the hub refuses that. `by` is what it is changed to, in lines."""
     revision = revision_seen(hub, given)
     if revision is None and not given.yes and not is_asking(given):
         raise Usage("--latest asks at a terminal, and standard input is none: give --revision N, or --yes")
     view = hub.view(given.number)
     found = Basis(view.revision if revision is None else revision, view)
     if is_asking(given) and found.revision == view.revision and (is_wider or revision is None):
-        check_yes(described(given, view, path), question)
+        check_yes([*described(given, view, path), *by], question)
     return found
 
 
@@ -125,6 +131,8 @@ def check_whole(given: argparse.Namespace, is_whole: bool, what: str) -> None:
 
 def do_grant(hub: Hub, given: argparse.Namespace, teller: Teller) -> None:
     check_whole(given, given.path == INCIDENT, f"a permission at {INCIDENT}, the Incident itself,")
+    if given.grantee == "group":
+        learn_groups(hub, given)
     to, end = given.names(given.grantee, given.target), f"until {given.until}" if given.until else "for ever"
     found = basis(hub, given, given.path, f"Permit {to} to see it, {end}?")
     hub.grant(given.number, found.revision, given.path, given.grantee, given.target, given.until)
@@ -134,6 +142,8 @@ def do_grant(hub: Hub, given: argparse.Namespace, teller: Teller) -> None:
 def do_redistribute(hub: Hub, given: argparse.Namespace, teller: Teller) -> None:
     is_whole = given.path in ("", INCIDENT) and given.level != 0
     check_whole(given, is_whole, f"level {given.level} for {'the root' if not given.path else INCIDENT + ', the Incident itself'},")
+    if given.group is not None:
+        learn_groups(hub, given)
     level = level_words(given, given.level, given.group)
     found = basis(hub, given, given.path, f"Set it to {level}?", given.level != 0)
     hub.redistribute(given.number, found.revision, given.path, given.level, given.group)
@@ -144,7 +154,9 @@ def do_redistribute(hub: Hub, given: argparse.Namespace, teller: Teller) -> None
 def do_address(hub: Hub, given: argparse.Namespace, teller: Teller) -> None:
     """The hub's request names no revision, so it is compared here; a replacement at the same moment is reported afterwards."""
     to = given.names(given.recipient, given.target)
-    found = basis(hub, given, INCIDENT, f"Address {to}?")
+    found = basis(hub, given, INCIDENT, f"Address {to}, {CLEARED[given.recipient]}?")
+    if is_asking(given):  # an answer takes its time
+        found = Basis(found.revision, hub.view(given.number))
     if found.view.revision != found.revision:
         raise Unchanged(f"nothing was changed: you have seen revision {found.revision} of incident {given.called}, and it is at revision"
                         f" {found.view.revision}: look at it again")
@@ -174,6 +186,16 @@ def do_withdraw(hub: Hub, given: argparse.Namespace, teller: Teller) -> None:
 def do_unaddress(hub: Hub, given: argparse.Namespace, teller: Teller) -> None:
     hub.unaddress(given.number, given.recipient, given.target)
     teller.tell_change(hub.heard, f"{given.names(given.recipient, given.target)} is no recipient of incident {given.called} any more")
+
+
+def check_circle(hub: Hub, given: argparse.Namespace, line: Callable[[argparse.Namespace], str]) -> None:
+    """Asks at a terminal before a change of the circle, once for all hubs. `line` is what is so then."""
+    if not is_asking(given):
+        return
+    if "group_number" in given:
+        learn_groups(hub, given)
+    check_yes([f"then {line(given)}"], "Make this change?")
+    given.yes = True
 
 
 Change = Callable[[Hub, argparse.Namespace], str]

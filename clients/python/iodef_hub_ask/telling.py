@@ -54,6 +54,11 @@ class Names:
         name = names.get(str(number)) if isinstance(names, dict) else None
         return f"{KIND_WORDS[kind]} {number}" + (f" ({shown(name)})" if isinstance(name, str) else "")
 
+    def learn(self, kind: str, found: Mapping[str, str]) -> None:
+        """Takes up names for numbers that have none."""
+        known = self.value.get(MEMBERS[kind])
+        self.value = {**self.value, MEMBERS[kind]: {**found, **(known if isinstance(known, dict) else {})}}
+
 
 def names_of(file: str) -> Names:
     """The names in a file; without a file there are none."""

@@ -18,7 +18,7 @@ from .posting import do_post, do_post_all, do_replace
 from .preview import do_preview
 from .readers import READER_HELP
 from .reading import gate, key_of, moment, number, place
-from .sharing import LEVELS, changing, do_address, do_grant, do_redistribute, do_unaddress, do_withdraw
+from .sharing import LEVELS, changing, check_circle, do_address, do_grant, do_redistribute, do_unaddress, do_withdraw
 from .telling import Teller, Undone, Usage, names_of, warn
 from .watch import do_watch
 
@@ -31,6 +31,11 @@ def told(ask: Callable[[Hub, argparse.Namespace], Sequence[str]]) -> Command:
     def command(hub: Hub, given: argparse.Namespace, teller: Teller) -> None:
         teller.tell(*ask(hub, given))
     return command
+
+
+def always(given: argparse.Namespace) -> bool:
+    """Of a change that is asked about, whatever its words are."""
+    return True
 
 
 def listed(page: Callable[[Hub, argparse.Namespace, int], tuple[Entry, ...]]) -> Command:
@@ -105,13 +110,19 @@ class Words:
         self.known[name] = run
         return made
 
-    def add_change(self, name: str, about: str, names: Sequence[str], change: Callable[[Hub, Any], None],
-                   says: Callable[[Any], str]) -> argparse.ArgumentParser:
-        """A command that changes the circle, and prints what is so then."""
+    def add_change(self, name: str, about: str, names: Sequence[str], change: Callable[[Hub, Any], None], says: Callable[[Any], str],
+                   is_asked: Callable[[Any], object] | None = None) -> argparse.ArgumentParser:
+        """A command that changes the circle, and prints what is so then. `is_asked` says whether it is asked about at a terminal: if
+        somebody may see more then, or if nothing takes it back."""
         def changed(hub: Hub, given: argparse.Namespace) -> str:
+            if is_asked and is_asked(given):
+                check_circle(hub, given, says)
             change(hub, given)
             return says(given)
-        return self.add(name, changing(changed), about, *names)
+        made = self.add(name, changing(changed), about, *names)
+        if is_asked:
+            add_yes(made)
+        return made
 
     def add_reading(self) -> None:
         self.add("me", told(lambda hub, given: [shown_json(asdict(hub.me()))]), "who the hub says you are")
@@ -182,29 +193,30 @@ class Words:
                  "why a person sees a class of an incident, or doesn't", "person", "number", "path")
         self.add("add-org", told(lambda hub, given: [str(hub.add_org(given.name))]), "adds an organisation", "name")
         self.add_change("client", "makes CLIENT a client of ORG", ("org", "client"), lambda hub, it: hub.add_client(it.org, it.client),
-                        lambda it: f"{it.names('org', it.client)} is a client of {it.names('org', it.org)}")
+                        lambda it: f"{it.names('org', it.client)} is a client of {it.names('org', it.org)}", always)
         self.add_change("unclient", "removes CLIENT as a client of ORG", ("org", "client"), lambda hub, it: hub.remove_client(it.org, it.client),
                         lambda it: f"{it.names('org', it.client)} is no client of {it.names('org', it.org)} any more")
         person = self.add("add-person", do_add_person, "adds a person with a new key, which is shown only once", "org", "name", "role")
         person.add_argument("--key-file", help="write the new key into this file, which must not exist")
         person.add_argument("--digest", help="the SHA-256 of a key that the person has made, instead of a new one")
+        add_yes(person)
         self.add_change("suspend", "suspends a person for ever: the hub refuses the key", ("person",), lambda hub, it: hub.suspend(it.person),
-                        lambda it: f"{it.names('person', it.person)} is suspended")
+                        lambda it: f"{it.names('person', it.person)} is suspended for ever", always)
         self.add("add-community", told(lambda hub, given: [str(hub.add_community(given.name))]), "adds a community", "name")
         both = ("community", "org")
         self.add_change("join", "puts an organisation into a community", both, lambda hub, it: hub.join(it.community, it.org),
-                        lambda it: f"{it.names('org', it.org)} is in {it.names('community', it.community)}")
+                        lambda it: f"{it.names('org', it.org)} is in {it.names('community', it.community)}", always)
         self.add_change("leave", "removes an organisation from a community", both, lambda hub, it: hub.leave(it.community, it.org),
                         lambda it: f"{it.names('org', it.org)} isn't in {it.names('community', it.community)} any more")
         two = ("community", "other")
         self.add_change("link", "connects two communities", two, lambda hub, it: hub.link(it.community, it.other),
-                        lambda it: f"{it.names('community', it.community)} and {it.names('community', it.other)} are connected")
+                        lambda it: f"{it.names('community', it.community)} and {it.names('community', it.other)} are connected", always)
         self.add_change("unlink", "ends the connection of two communities", two, lambda hub, it: hub.unlink(it.community, it.other),
                         lambda it: f"{it.names('community', it.community)} and {it.names('community', it.other)} aren't connected any more")
 
     def add_groups(self) -> None:
         self.add_change("nominate", "lets a person receive what is for your organisation", ("person",), lambda hub, it: hub.nominate(it.person),
-                        lambda it: f"{it.names('person', it.person)} is nominated")
+                        lambda it: f"{it.names('person', it.person)} is nominated", always)
         self.add_change("unnominate", "ends a nomination", ("person",), lambda hub, it: hub.unnominate(it.person),
                         lambda it: f"{it.names('person', it.person)} isn't nominated any more")
         self.add("new-group", told(lambda hub, given: [str(hub.new_group(given.name, given.releasability or ""))]),
@@ -212,15 +224,17 @@ class Words:
         both = ("group_number", "org")
         group_add = self.add_change(
             "group-add", "puts an organisation into a group", both, lambda hub, it: hub.group_add(it.group_number, it.org, it.extend),
-            lambda it: f"{it.names('org', it.org)} is in {it.names('group', it.group_number)}" + (", and may add others" if it.extend else ""))
+            lambda it: f"{it.names('org', it.org)} is in {it.names('group', it.group_number)}" + (", and may add others" if it.extend else ""), always)
         group_add.add_argument("--extend", action="store_true", help="the new member may add others")
         self.add_change("group-remove", "removes an organisation from a group", both, lambda hub, it: hub.group_remove(it.group_number, it.org),
                         lambda it: f"{it.names('org', it.org)} isn't in {it.names('group', it.group_number)} any more")
         self.add_change("group-active", "switches a group on or off", ("group_number", "state"),
-                        lambda hub, it: hub.group_active(it.group_number, it.state == "on"), lambda it: f"{it.names('group', it.group_number)} is {it.state}")
+                        lambda hub, it: hub.group_active(it.group_number, it.state == "on"), lambda it: f"{it.names('group', it.group_number)} is {it.state}",
+                        lambda it: it.state == "on")
         self.add_change("arrange", "sets what your label `default` means to another organisation", ("org", "handling"),
                         lambda hub, it: hub.arrange(it.org, it.handling),
-                        lambda it: f"your label `default` is {'AMBER+STRICT' if it.handling == 'STRICT' else it.handling} to {it.names('org', it.org)}")
+                        lambda it: f"your label `default` is {'AMBER+STRICT' if it.handling == 'STRICT' else it.handling} to {it.names('org', it.org)}",
+                        lambda it: it.handling != "RED")
         self.add_change("cancel-arrange", "ends an arrangement", ("org",), lambda hub, it: hub.cancel_arrange(it.org),
                         lambda it: f"your label `default` is RED to {it.names('org', it.org)}")
 

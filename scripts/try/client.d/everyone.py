@@ -33,6 +33,11 @@ WHO = ("1: unconnected, connected + -, organisation", "2: unconnected, connected
        "4: partner + client, addressed, person")
 
 
+def told_by_hub(view: Any) -> str:
+    """What a hub tells of an excerpt too: without its highest label, and without whether it is a report again."""
+    return json.dumps({name: view[name] for name in ("classes", "document", "withheld")})
+
+
 class Case:
     """A report, how it would be posted, and the columns of its table."""
 
@@ -110,16 +115,17 @@ def by_hub(check: Check, program: str, port: int, count: int, seed: int = 72) ->
         case = case_of(maker, program, f"hub-{at}", circle.own_groups(SOURCE), [None, *own])
         given, source = case.given, circle.coordinator(SOURCE)
         number, = source.post(case.report, given.level, given.group, given.gate, community=given.community)
+        columns = {None if each is None else told_by_hub(json.loads(each)) for each in case.views}
         for kind, target in circle.recipients():
             source.address(number, kind, target)
         for reader in [each for each in circle.persons if each.org != SOURCE and not each.is_suspended]:
             try:
-                view = reader.hub.view(number)
-                told = json.dumps({"classes": view.classes, "document": view.document, "withheld": [[each.place, each.rule] for each in view.withheld]})
+                reader.hub.view(number)
+                told = told_by_hub(json.loads(reader.hub.heard))
             except iodef_hub.Refused:
                 told = None
             asked += 1
-            missing += [] if told in case.views else [(number, reader.number)]
+            missing += [] if told in columns else [(number, reader.number)]
     check(f"of a real hub each of {asked} Views is one of the columns", missing, [])
 
 

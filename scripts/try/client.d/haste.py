@@ -34,8 +34,9 @@ class Terminal:
         self.ask = ask
         self.own, self.its = pty.openpty()
 
-    def __call__(self, *words: str, answer: str | None = None, early: str = "") -> tuple[int, str, str]:
-        """Status, standard output, and what the terminal shows. `answer` is typed at the question, `early` before it is asked."""
+    def __call__(self, *words: str, answer: str | None = None, early: str = "", meanwhile: Callable[[], None] | None = None) -> tuple[int, str, str]:
+        """Status, standard output, and what the terminal shows. `answer` is typed at the question, `early` before it is asked; `meanwhile`
+        is done between the question and the answer."""
         if early:
             os.write(self.own, early.encode())
         ran = subprocess.Popen([*self.ask.words, *words], stdin=self.its, stdout=subprocess.PIPE, stderr=self.its, env=self.ask.environment)
@@ -47,6 +48,8 @@ class Terminal:
             elif ran.poll() is not None:
                 break
             if answer is not None and "[y/N] " in screen:
+                if meanwhile:
+                    meanwhile()
                 os.write(self.own, answer.encode())
                 answer = None
         assert ran.stdout
@@ -94,13 +97,15 @@ class Haste:
         return status, text, self.analyst.errors
 
 
-def by_haste(check: Check, asker: Callable[..., Any], library: Any, between: Any, folder: pathlib.Path) -> None:
+def by_haste(check: Check, asker: Callable[..., Any], library: Any, between: Any, folder: pathlib.Path, admin: str) -> None:
     haste = Haste(check, asker, library, between, folder)
     by_colleague(haste)
     by_unseen(haste)
     by_whole(haste)
     by_terminal(haste)
+    by_answers(haste)
     by_terminals(haste)
+    by_circle(haste, asker(between.port, admin))
     by_files(haste)
     by_many_runs(haste)
     by_lines(haste, folder)
@@ -209,7 +214,10 @@ def by_terminal(haste: Haste) -> None:
     status, told, screen = terminal("replace", number, str(file), "3", "--community", "1", "--no-gates", "--drop-permissions", "--latest", answer="\n")
     check("a report that is about to be replaced is shown", (status, told, screen.split("[y/N]")[0]), (
         1, "", f"incident {number}, revision 1, of organisation 2\nIncident /Incident/0 (TLP:RED): x haste {haste.posted}\n"
-        f"Replace it, {spread}; no class has a gate of its own? "))
+        f"by Incident /Incident/0 (TLP:CLEAR): x haste {haste.posted}\nReplace it, {spread}; no class has a gate of its own? "))
+    file.write_bytes(report("labels", PAGE, {"restriction": "white"}, {"restriction": "default"}))
+    status, told, screen = terminal("post", str(file), "3", "--any-community", answer="\n")
+    check("with the labels of its parts", (status, told, screen.split("\nPost it")[0]), (1, "", "Incident /Incident/0 (TLP:RED): x labels (in it also TLP:CLEAR, as arranged, else TLP:RED)"))
     file.write_bytes(report("a new one", PAGE, restriction="white"))
     post = ("post", str(file), "3", "--community", "1", "--gate", "0:0:/Incident/0/Contact/0")
     asked = f"Incident /Incident/0 (TLP:CLEAR): x a new one\nPost it {spread}; Contact /Incident/0/Contact/0 (TLP:CLEAR) is at level 0 (your organisation)? "
@@ -220,6 +228,73 @@ def by_terminal(haste: Haste) -> None:
     check("and is posted by y", (status, told.strip().isdigit()), (0, True))
     status, told, screen = terminal("redistribute", told.strip(), "", "0")
     check("what narrows isn't asked about", (status, "[y/N]" in screen), (0, False))
+    for kind, target, cleared in (("person", "4", "cleared for TLP:RED"),
+                                  ("org", "4", "its nominated persons are cleared for TLP:AMBER+STRICT, those of its clients for TLP:AMBER")):
+        status, told, screen = terminal("address", number, kind, target, "--latest", answer="\n")
+        words = {"org": "organisation"}.get(kind, kind)
+        check(f"an address of a {kind} says whom it clears for what", (status, told, f"\nAddress {words} {target}, {cleared}? [y/N]" in screen), (1, "", True))
+    terminal.close()
+
+
+def by_circle(haste: Haste, admin: Any) -> None:
+    """Changes of the circle after which somebody may see more are asked about, and those that take that away aren't."""
+    check, group = haste.check, str(haste.colleague.new_group("haste", "members only"))
+    haste.colleague.group_active(int(group), False)
+    bank, one = Terminal(haste.analyst), Terminal(admin)
+    digest = haste.library.digest_of("haste-key")
+    for terminal, words, line, undone in (
+        (bank, ("group-add", group, "4"), f"organisation 4 is in group {group} (haste)", ("group-remove", group, "4")),
+        (bank, ("group-add", group, "4", "--extend"), f"organisation 4 is in group {group} (haste), and may add others", ("group-remove", group, "4")),
+        (bank, ("group-active", group, "on"), f"group {group} (haste) is on", ("group-active", group, "off")),
+        (bank, ("nominate", "2"), "person 2 is nominated", ("unnominate", "2")),
+        (bank, ("arrange", "4", "GREEN"), "your label `default` is GREEN to organisation 4", ("cancel-arrange", "4")),
+        (one, ("client", "2", "4"), "organisation 4 is a client of organisation 2", ("unclient", "2", "4")),
+        (one, ("join", "1", "4"), "organisation 4 is in community 1", ("leave", "1", "4")),
+        (one, ("link", "1", "2"), "community 1 and community 2 are connected", ("unlink", "1", "2")),
+        (one, ("add-person", "4", "Eve\u202e", "reader", "--digest", digest), "Eve\\u202e is a person of organisation 4, as reader", ("suspend", "--yes")),
+    ):
+        haste.between.take()
+        status, told, screen = terminal(*words, answer="\n")
+        check(f"{words[0]} is asked about, and Enter isn't yes", (status, told, screen.split("[y/N]")[0], [each for each in haste.between.asked if "POST" in each]), (
+            1, "", f"then {line}\nMake this change? ", []))
+        status, told, screen = terminal(*words, answer="y\n")
+        check("  y is", (status, told.strip() if words[0] != "add-person" else line), (0, line))
+        status, told, screen = terminal(*undone, *([told.strip()] if words[0] == "add-person" else []))
+        check(f"  and {undone[0]} isn't asked about", (status, "[y/N]" in screen), (0, False))
+    person = str(haste.library.Hub(haste.url, admin.environment["IODEF_HUB_KEY"]).add_person(4, "Zed", "reader", haste.library.digest_of("zed-key")))
+    for answer, wanted in (("\n", 1), ("y\n", 0)):
+        status, told, screen = one("suspend", person, answer=answer)
+        check("what nothing takes back is asked about too", (status, screen.split("[y/N]")[0]), (wanted, f"then person {person} is suspended for ever\nMake this change? "))
+    status, told, screen = bank("group-add", group, "4", "--yes")
+    check("--yes doesn't ask", (status, told, screen), (0, f"organisation 4 is in group {group}\n", ""))
+    status, told, screen = bank("arrange", "4", "RED")
+    check("an arrangement of what holds without one isn't asked about", (status, told, "[y/N]" in screen), (0, "your label `default` is RED to organisation 4\n", False))
+    haste.colleague.group_remove(int(group), 4)
+    haste.colleague.cancel_arrange(4)
+    number = haste.post(VICTIMS, PAGE)
+    for words, question in ((("grant", number, EVENT, "group", group), f"Permit group {group} (haste) to see it, for ever? [y/N]"),
+                            (("redistribute", number, EVENT, "4", "--group", group), f"Set it to level 4 (group {group} (haste))? [y/N]")):
+        status, told, screen = bank(*words, "--latest", answer="\n")
+        check(f"a group is named where {words[0]} asks", (status, told, question in screen), (1, "", True))
+    bank.close()
+    one.close()
+
+
+def by_answers(haste: Haste) -> None:
+    """A colleague replaces the report while a question about it waits for its answer."""
+    check, terminal = haste.check, Terminal(haste.analyst)
+    for words in (("grant", EVENT, "org", "4"), ("redistribute", EVENT, "3"), ("address", "person", "4")):
+        number = haste.post()
+        terminal("show", number)
+        status, told, screen = terminal(words[0], number, *words[1:], answer="y\n", meanwhile=lambda: haste.exchange(number))
+        check(f"{words[0]} of what a colleague replaces before the answer", (status, told, "revision 2" in screen or OTHER.format(2) in screen, haste.leaked(number)),
+              (1, "", True, "N1"))
+    number = haste.post()
+    file = haste.state / "report.json"
+    file.write_bytes(report(f"haste {haste.posted}", PAGE))
+    status, told, screen = terminal("replace", number, str(file), "3", "--any-community", "--no-gates", "--drop-permissions", "--latest", answer="y\n",
+                                    meanwhile=lambda: haste.exchange(number))
+    check("nor is it replaced then", (status, told, haste.colleague.view(int(number)).revision), (1, "", 2))
     terminal.close()
 
 
@@ -306,7 +381,7 @@ def by_lines(haste: Haste, folder: pathlib.Path) -> None:
     haste.between.take()
     status, told, screen = terminal("post-all", str(file), answer="\n")
     check("at a terminal the lines are told before they are sent", (status, told, screen.split("[y/N]")[0], [each for each in haste.between.asked if "POST" in each]), (
-        1, "", "3 reports at level 3 (everybody in the hub, including organisations in no community); TLP:GREEN is for the members of community 1;"
+        1, "", "3 reports, TLP:RED at level 3 (everybody in the hub, including organisations in no community); TLP:GREEN is for the members of community 1;"
         " no class has a gate of its own\nPost them? ", []))
     terminal.close()
     haste.between.take()

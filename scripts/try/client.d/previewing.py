@@ -12,12 +12,13 @@ from collections.abc import Callable
 from typing import Any
 
 Check = Callable[..., None]
-# Keeps its words, the view descriptions and the report beside it, and answers as the files `answer`, `told` and `status` say.
+# Keeps its words, the view descriptions and the report beside it, and answers as the files `answer`, `told` and `status` say. Several
+# run at once, so each description is one write.
 # With `each` it gives a connected reader another answer.
 ENGINE = """#!/bin/sh
 here=${0%/*}
 echo "$1 $2" >"$here/words"
-{ cat "$3"; echo; } >>"$here/descriptions"
+printf '%s\\n' "$(cat "$3")" >>"$here/descriptions"
 cat >"$here/report"
 [ ! -e "$here/each" ] || ! grep -q '"connected": true' "$3" || { cat "$here/each"; exit 0; }
 cat "$here/answer"

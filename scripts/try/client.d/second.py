@@ -7,9 +7,11 @@ import os
 import pathlib
 import subprocess
 import sys
+import types
 from collections.abc import Callable
 from typing import Any
 
+from haste import Terminal
 from watching import MAIL_NEWS, MailServer, program
 
 TOP = pathlib.Path(__file__).resolve().parent.parent.parent.parent
@@ -94,9 +96,10 @@ def second_store(check: Check, given: str, folder: pathlib.Path, port: int) -> p
     assert ran(TOOLS / "iodef-hub-backup", folder / "first" / "hub.db", copies).returncode == 0
     copy = next(copies.glob("hub-*.db"))
     script.write_text(ran(TOOLS / "iodef-hub-directory", copy, "--commands").stdout)
-    made = ran("bash", script, store, str(port))
-    check("the commands make a second store", (made.returncode, made.stdout, made.stderr),
+    terminal = Terminal(types.SimpleNamespace(words=["bash"], environment=environment))
+    check("the commands make a second store, and ask nothing at a terminal", terminal(str(script), str(store), str(port), answer="n\n"),
           (0, f"{store} has the organisations, persons, communities and groups of the first hub, by the same numbers and keys\n", ""))
+    terminal.close()
     check("  and leave nothing beside it", sorted(each.name for each in folder.glob("second.db*")), ["second.db"])
     directory, other = [ran(TOOLS / "iodef-hub-directory", each).stdout.split("\nIncidents")[0] for each in (copy, store)]
     check("  its directory is the first one's", (other, directory.count("\n") > 20), (directory, True))
@@ -232,11 +235,15 @@ def by_circle(two: Two) -> None:
     admin, check = two.ask(6), two.check
     check("an organisation is added at both", admin("add-org", "New"), (0, "hub 1: 5\nhub 2: 5\n"))
     check("a community is joined at both", admin("join", "1", "4"), (0, "".join(f"hub {hub}: organisation 4 is in community 1\n" for hub in (1, 2))))
+    terminal, line = Terminal(admin), "organisation 5 is a client of organisation 2\n"
+    check("at a terminal it is asked once for both", terminal("client", "2", "5", answer="y\n"),
+          (0, f"hub 1: {line}hub 2: {line}", f"then {line}Make this change? [y/N] y\n"))
+    terminal.close()
     status, text = admin("add-person", "5", "Gus", "reader")
     key = text.split("once: ")[1].split("\n")[0]
     check("a person is added at both, with one key", (status, text), (0, f"hub 1: 8\nhub 1: key, shown this once: {key}\nhub 2: 8\n"))
     check("which both serve", [two.hub.Hub(url, key).me().number for url in two.urls], [8, 8])
-    check("a person is suspended at both", (admin("suspend", "8"), [code_of(two.hub, url, key) for url in two.urls]), ((0, "hub 1: person 8 is suspended\nhub 2: person 8 is suspended\n"), ["K1", "K1"]))
+    check("a person is suspended at both", (admin("suspend", "8"), [code_of(two.hub, url, key) for url in two.urls]), ((0, "hub 1: person 8 is suspended for ever\nhub 2: person 8 is suspended for ever\n"), ["K1", "K1"]))
     check("what one hub has already is added at the other", (two.ask(6, 1)("add-org", "Half"), admin("add-org", "Half"), admin.errors),
           ((0, "6\n"), (1, "hub 2: 6\n"), "iodef-hub-ask: hub 1: S1: already so\n"))
     two.ask(6, 2)("add-org", "Odd")
@@ -274,7 +281,7 @@ def by_absence(two: Two) -> None:
     check("a list tells what the other has, and fails", (bank("list"), bank.errors.startswith("iodef-hub-ask: hub 1: Unreachable")),
           ((3, "2/1\tr1\torg 2\n2/2\tr1\torg 2\n2/3\tr1\torg 2\n"), True))
     check("a report is posted all the same", bank("post", "-", "3", "--any-community", given=report("sixth")), (0, "2/4\n"))
-    check("a person is suspended at the other all the same", (admin("suspend", "4"), code_of(two.hub, two.urls[1], KEYS[4])), ((3, "hub 2: person 4 is suspended\n"), "K1"))
+    check("a person is suspended at the other all the same", (admin("suspend", "4"), code_of(two.hub, two.urls[1], KEYS[4])), ((3, "hub 2: person 4 is suspended for ever\n"), "K1"))
     check("nothing is added at the other, whose numbers would differ", (admin("add-org", "Never"), two.ask(6, 2)("add-org", "Next")), ((3, ""), (0, "9\n")))
     watch = bank("watch", "--rounds", "1")
     check("a watch goes on with the other", (watch[0], watch[1].count("\n"), "hub 1: Unreachable" in bank.errors), (0, 4, True))

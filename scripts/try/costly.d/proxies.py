@@ -56,15 +56,20 @@ class Proxies(load.Proxies):
         ports = load.Ports(self.port)
         self.write_nginx(ports)
         self.control, self.log = folder / "haproxy.sock", folder / "iodef-hub.log"
-        settings = ports.of((DEPLOY / "haproxy" / "haproxy.cfg").read_text()).replace("/run/haproxy/admin.sock", str(self.control))
+        settings = ports.of(self.queue_settings()).replace("/run/haproxy/admin.sock", str(self.control))
         (folder / "haproxy.cfg").write_text(re.sub(r"^ *(log|user|group) .*\n", "", settings, flags=re.M))
         self.authority = folder / "payments.pem"
         words = [[said.haproxy, "-db", "-f", folder / "haproxy.cfg"], [said.nginx, "-e", folder / "nginx.log", "-p", folder, "-c", folder / "nginx.conf"]]
         self.processes = [subprocess.Popen(list(map(str, each)), stdout=subprocess.DEVNULL, stderr=(folder / "said").open("a")) for each in words]
         time.sleep(1)
         if any(each.poll() is not None for each in self.processes):
+            self.close()
             raise Missing(f"a proxy doesn't start: {(folder / 'said').read_text()[-300:]}{(folder / 'nginx.log').read_text()[-300:]}")
         self.context = ssl.create_default_context(cafile=str(self.authority))
+
+    def queue_settings(self) -> str:
+        """HAProxy's settings, as they are shipped."""
+        return (DEPLOY / "haproxy" / "haproxy.cfg").read_text()
 
     def curl(self, source: str, key: str, target: str, *more: str) -> list[str]:
         """The words of a caller; its address is one of loopback."""
@@ -101,12 +106,16 @@ class Proxies(load.Proxies):
 
 
 class Room:
-    """iodef-hub-room over one circle `payments`, whose unit may take so many bytes of memory, in a folder of its own."""
+    """iodef-hub-room, with limit-memory beside it in a folder, over one circle `payments`, whose unit may take so many bytes of memory."""
 
-    def __init__(self, folder: pathlib.Path, store: pathlib.Path, proxies: Proxies, most: int) -> None:
+    def __init__(
+        self, folder: pathlib.Path, store: pathlib.Path, proxies: Proxies, most: int, lib: pathlib.Path = DEPLOY / "lib", copied: pathlib.Path | None = None
+    ) -> None:
         self.folder = folder
-        for name in ("settings", "stores", "copies/payments", "bin"):
+        for name in ("settings", "stores", "copies", "bin"):
             (folder / name).mkdir(parents=True)
+        if copied is not None:
+            (folder / "copies" / "payments").symlink_to(copied)
         (folder / "settings" / "payments.conf").write_text("PORT=21010\n")
         (folder / "stores" / "payments").symlink_to(store.parent)
         # A unit that isn't there: what systemd would say of it.
@@ -115,9 +124,24 @@ class Room:
         systemctl.chmod(0o755)
         places = {"SETTINGS": folder / "settings", "STORES": folder / "stores", "COPIES": folder / "copies", "HAPROXY": proxies.control}
         around = {"PATH": f"{folder / 'bin'}:{os.environ.get('PATH', '')}", **{f"IODEF_HUB_{name}": str(place) for name, place in places.items()}}
-        self.told = folder / "room.prom"
-        words = [str(DEPLOY / "lib" / "iodef-hub-room"), str(self.told)]
-        self.process = subprocess.Popen(words, env={**os.environ, **around}, stderr=(folder / "said").open("w"))
+        self.told, self.copies = folder / "room.prom", folder / "copies" / "payments"
+        self.around = {**os.environ, **around}
+        self.lib = lib
+        self.process: subprocess.Popen[bytes] | None = None
+        self.start()
+
+    def start(self) -> None:
+        """Starts it, or starts it anew, so that it looks for a newer copy at once."""
+        self.close()
+        self.told.unlink(missing_ok=True)
+        words = [str(self.lib / "iodef-hub-room"), str(self.told)]
+        self.process = subprocess.Popen(words, env=self.around, stderr=(self.folder / "said").open("a"))
+        for _ in range(300):
+            if self.told.exists():
+                break
+            time.sleep(0.1)
+        # The metrics are written just before HAProxy is told.
+        time.sleep(1)
 
     def said(self) -> str:
         return (self.folder / "said").read_text().strip()
@@ -127,5 +151,6 @@ class Room:
         return int(found[1]) if found else -1
 
     def close(self) -> None:
-        self.process.terminate()
-        self.process.wait()
+        if self.process is not None:
+            self.process.terminate()
+            self.process.wait()

@@ -148,7 +148,7 @@ def labels_twice(trial: Trial) -> None:
 
 
 def nothing_twice(trial: Trial) -> None:
-    """What has no label twice is told nothing of."""
+    """What has no label twice is told nothing of, behind what has one."""
     trial.origin.names = json.dumps(NAMES).encode()
     trial.enter("bank")
     trial.go("#post")
@@ -157,8 +157,10 @@ def nothing_twice(trial: Trial) -> None:
         twice("value", '"a": "restriction", "b": "restriction", "c": ["restriction", "restriction"]'), twice("other", '"purpose": 1, "purpose": 2'),
         '{"restriction": "red", "restriction": "white"', "", "{", "[]", '"\\"restriction\\""',
     ):  # fmt: skip
+        trial.put(POST, {"or its text": twice("before", '"restriction": "red", "restriction": "white"')})
+        trial.check_has("a label is twice", warned(trial), "What holds is white.")
         trial.put(POST, {"or its text": text})
-        trial.check(f"no label is twice in {text[:24] or 'nothing'}", warned(trial) == "", warned(trial))
+        trial.check(f"and none is in {text[:24] or 'nothing'}", warned(trial) == "", warned(trial))
     trial.put(POST, {"or its text": ""})
 
 

@@ -213,7 +213,14 @@ def post_says(trial: Trial) -> None:
         "at level 1, your communities, any of them (not only the named one); TLP:GREEN is for any community of your organisation; "
         f"{SECOND} is at level 4, phishing (sharing group 1); /Incident/0/Contact/0 is at level 0, your organisation only"
     )
-    trial.check("the form says whom it reaches", trial.says(POST) == f"Posts this report, {reach}; odd. | Post a report", trial.says(POST))
+    trial.check("the form says whom it reaches", trial.says(POST) == f"Posts csirt.example.com post says (TLP:GREEN, in it also TLP:CLEAR, TLP:AMBER+STRICT, TLP:RED), {reach}; odd. | Post a report", trial.says(POST))
+    for body, told in (
+        ('{"Incident":[{"restriction":"green"},{}]}', "an Incident without an IncidentID (TLP:GREEN), an Incident without an IncidentID (TLP:RED)"),
+        ('{"Incident":[' + '{"a":' * 20000 + "{}" + "}" * 20000 + "]}", "this report"), ("{", "this report"),
+    ):  # fmt: skip
+        trial.put(POST, {"or its text": body})
+        trial.check_has(f"of {body[:9]} it says what it can", trial.says(POST), f"Posts {told}, at level 1")
+    trial.put(POST, {"or its text": text})
     trial.post({"Levels of single": gates.removesuffix("\nodd")})
     trial.done("and the answer tells the same", "Posted as incident", f", {reach}.")
 
@@ -226,7 +233,7 @@ def replace_says(trial: Trial) -> None:
         ", at level 0, your organisation only; TLP:GREEN is for payments (community 1); "
         f"{FIRST} is at level 3, everybody in the hub, also organisations in no community."
     )
-    wanted = f"Replaces incident {number}, revision 1{reach} All its permissions are removed, and its recipients stay. | Replace the report"
+    wanted = f"Replaces incident {number}, revision 1, by csirt.example.com replace says (TLP:CLEAR, in it also TLP:RED){reach} All its permissions are removed, and its recipients stay. | Replace the report"
     trial.check("a Replace says whom it reaches", trial.says(REPLACE) == wanted, trial.says(REPLACE))
     trial.fill(REPLACE, {"All permissions": True})
     trial.done("and the answer tells the same", f"Replaced by revision 2{reach}")
@@ -255,13 +262,16 @@ def enter_too_early(trial: Trial) -> None:
 
 def end_of_another(trial: Trial) -> None:
     number = posted(trial, "end of another", 3)
-    trial.permit({"Class": FIRST, "To": ["org", "3"]})
-    trial.done("a class is permitted without an end", "without an end")
-    trial.browser.click(f"[aria-label='Share or restrict {SECOND}']")
-    held = [trial.held(PERMIT, words) for words in ("without an end", "to a moment")]
-    trial.check("another class hasn't the end of the one before", held == [False, False], held)
-    trial.fill(PERMIT, {"To": ["org", "4"]})
-    trial.check("and isn't permitted without one", trial.sent("POST", f"/incidents/{number}/grant") == 1)
+    for place, given, told in ((FIRST, {}, "without an end"), (SECOND, {"Up to": "2035-01-15T00:00"}, "until 2035-01-15 00:00")):
+        other = SECOND if place == FIRST else FIRST
+        trial.permit({"Class": place, "To": ["org", "3"], **given})
+        trial.done(f"a class is permitted {told}", f"Permitted {place} to Telco (organisation 3), {told}")
+        sent = trial.sent("POST", f"/incidents/{number}/grant")
+        trial.browser.click(f"[aria-label='Share or restrict {other}']")
+        held = [trial.held(PERMIT, words) for words in ("without an end", "to a moment", "Up to")]
+        trial.check("another class hasn't the end of the one before", held == [False, False, ""], held)
+        trial.fill(PERMIT, {"To": ["org", "4"]})
+        trial.check("and isn't permitted without one", trial.sent("POST", f"/incidents/{number}/grant") == sent, trial.origin.forms("POST", f"/incidents/{number}/grant")[-1])
 
 
 def permit_says(trial: Trial) -> None:
@@ -275,6 +285,9 @@ def permit_says(trial: Trial) -> None:
     wanted = "Addresses University (organisation 4): its nominated persons are cleared for TLP:AMBER+STRICT, those of its clients for TLP:AMBER, "
     wanted += f"of incident {number}, revision 1 and later ones."
     trial.check_has("an address says whom it clears for what", trial.says(ADDRESS), wanted)
+    trial.put(WITHDRAW, {"Class": SECOND, "From": ["org", "4"]})
+    wanted = f"Withdraw a permission: incident {number}, path {SECOND}, University (organisation 4)."
+    trial.check_has("and a withdrawal of what, from whom", trial.says(WITHDRAW), wanted)
     trial.go("#groups")
     trial.put("Add a member to a group", {"Group": "1", "Organisation": "4", "May it": "1"})
     wanted = "Add a member to a group: phishing (sharing group 1), University (organisation 4), extend 1."
@@ -292,8 +305,7 @@ def colleague(trial: Trial) -> None:
         exchanged(trial, number, name)
         trial.fill(title, {})
         trial.refused(f"{title}, of a class that a colleague has moved", "S3", "somebody has replaced the report", "It is at revision 2 now.")
-        browser.click("#refused button")
-        browser.settle()
+        trial.click("#refused button")
         trial.check_has("the other revision is read", browser.text("#report"), "revision 2")
         trial.check("the class isn't kept, as another may be there", trial.held(title, "Class") == "", trial.held(title, "Class"))
         trial.fill(title, {"Class": FIRST, **values})
@@ -343,18 +355,18 @@ def colleague_at_address(trial: Trial) -> None:
     trial.fill(ADDRESS, {})
     trial.refused("an address of a report that was replaced meanwhile", "S3", "It is at revision 2 now.")
     trial.check("isn't sent", trial.sent("POST", path) == 0)
-    trial.browser.click("#refused button")
-    trial.browser.settle()
+    trial.click("#refused button")
     trial.browser.run(TAKE_UP, ADDRESS)
     trial.fill(ADDRESS, {})
     trial.done("and is, once its reader has looked at it", "Addressed Cleo (person 4).")
 
 
 def two_windows(trial: Trial) -> None:
-    """The same analyst in two windows: what was done in one is no news of the other's form."""
+    """The same analyst in two windows: what was done in one is no news of the other's forms."""
     browser = trial.browser
     number = posted(trial, "two windows", 3)
     trial.put(PERMIT, {"Class": FIRST, "To": ["org", "4"], "without an end": True})
+    trial.put(ADDRESS, {"To": ["person", "4"]})
     first = browser.call("GET", "/window")
     trial.note()
     second = browser.call("POST", "/window/new", {"type": "tab"})["handle"]
@@ -372,6 +384,8 @@ def two_windows(trial: Trial) -> None:
     browser.call("POST", "/window", {"handle": first})
     trial.fill(PERMIT, {})
     trial.refused("the form in the first one is of the revision before", "S3", "It is at revision 2 now.")
+    trial.fill(ADDRESS, {})
+    trial.refused("and so is one that names no class", "S3", "It is at revision 2 now.")
     trial.check("nobody was served the victims", "the victims" not in served(trial, "university", number))
 
 
@@ -393,6 +407,7 @@ def back_and_forth(trial: Trial) -> None:
     browser = trial.browser
     number = posted(trial, "back and forth", 3)
     trial.put(PERMIT, {"Class": SECOND, "To": ["org", "4"], "without an end": True})
+    trial.put(DISTRIBUTE, {"a class": True, "Class": SECOND})
     before = len(changes(trial))
     trial.go("#incidents/1")
     trial.check("the forms of another report are empty", [trial.held(PERMIT, "Class"), trial.held(PERMIT, "To")] == ["", ["", ""]])
@@ -402,4 +417,5 @@ def back_and_forth(trial: Trial) -> None:
     held = [trial.held(title, words) for title, words in ((PERMIT, "Class"), (PERMIT, "without an end"), (DISTRIBUTE, "a class"), (WITHDRAW, "Class"))]
     trial.check("and so are those of the first, when it is opened again", held == ["", False, False, ""], held)
     trial.fill(PERMIT, {})
+    trial.fill(DISTRIBUTE, {LEVEL: "3"})
     trial.check("so nothing is sent", len(changes(trial)) == before, changes(trial)[before:])

@@ -20,9 +20,10 @@ NAMES = {
 # The form of this title.
 FORM = "[...document.querySelectorAll('main form')].find(one => [one.ariaLabel, one.querySelector('button.main')?.textContent].includes(arguments[0]))"
 
-# Fills the form of this title, by the words that its labels begin with, and hands it in.
+# Fills the form of this title, by the words that its labels begin with, and hands it in. Returns the words of which there is no label.
 FILL = f"const form = {FORM};" """
 const [title, values] = arguments;
+const missing = [];
 for (let above = form; above; above = above.parentElement) if (above.tagName === 'DETAILS') above.open = true;
 const put = (control, value) => {
   if (['checkbox', 'radio'].includes(control.type)) control.checked = value; else control.value = value;
@@ -30,13 +31,15 @@ const put = (control, value) => {
 };
 for (const [words, value] of Object.entries(values)) {
   const label = [...form.querySelectorAll('label, legend')].find(one => one.textContent.trim().startsWith(words));
-  if (!label) throw new Error('no label ' + words + ' in ' + title);
-  if (label.tagName === 'LEGEND') {
+  if (!label) {
+    missing.push(words);
+  } else if (label.tagName === 'LEGEND') {
     put(label.parentNode.querySelector('select'), value[0]);
     put(label.parentNode.querySelector('input'), value[1]);
   } else put(label.control || label.querySelector('input'), value);
 }
 form.requestSubmit();
+return missing;
 """
 
 # What the controls of the form of this title hold, by the words that its labels begin with.
@@ -50,8 +53,8 @@ for (const label of form.querySelectorAll('label, legend')) {
 return held;
 """
 
-# Says in the form of this title that the revision that is shown was looked at.
-TAKE_UP = f"[...({FORM}).querySelectorAll('p.wrong button')].find(one => one.checkVisibility()).click()"
+# Says in the form of this title that the revision that is shown was looked at, if it asks that.
+TAKE_UP = f"[...({FORM}).querySelectorAll('p.wrong button')].find(one => one.checkVisibility())?.click()"
 
 # Elements and attributes that a served text could only have brought in as markup.
 FOREIGN = """
@@ -150,12 +153,25 @@ class Trial:
         self.browser.settle()
 
     def fill(self, title: str, values: typing.Mapping[str, object]) -> None:
-        self.browser.run(FILL, title, values)
+        """Fills a form, and hands it in. A field that isn't there is a check that failed, and the others are filled."""
+        self.filled(FILL, title, values)
         self.browser.settle()
 
     def put(self, title: str, values: typing.Mapping[str, object]) -> None:
         """Fills a form, and doesn't hand it in."""
-        self.browser.run(FILL.replace("form.requestSubmit();", ""), title, values)
+        self.filled(FILL.replace("form.requestSubmit();", ""), title, values)
+
+    def filled(self, script: str, title: str, values: typing.Mapping[str, object]) -> None:
+        for words in self.browser.run(script, title, values):
+            self.check(f"the form \u201c{title}\u201d has \u201c{words}\u201d", False)
+
+    def click(self, selector: str) -> None:
+        """Clicks on an element. One that isn't there is a check that failed."""
+        if self.browser.count(selector):
+            self.browser.click(selector)
+        else:
+            self.check(f"{selector} is there to be clicked", False, self.browser.text("#said"))
+        self.browser.settle()
 
     def says(self, title: str) -> str:
         """What the form of this title says that its button is about to do, and the button's words."""
