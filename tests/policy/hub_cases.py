@@ -540,6 +540,8 @@ def directed(hub: Hub) -> Iterator[Json]:
     talk.ask(1, "SuspendPerson", number=17)
     talk.ask(17, "WhoAmI")
     talk.ask(3, "Unnominate", number=17)
+    for by, group, org in ((2, 1, 2), (3, 1, 2), (5, 1, 3), (2, 2, 2), (3, 2, 3), (3, 2, 2), (2, 2, 3), (2, 1, 4), (2, 1, 3), (3, 1, 5)):
+        talk.ask(by, "GroupRemove", number=group, org=org)
     for name in ("a\u001f", "\u0020", "~\u007e", "\u0080"):
         talk.ask(1, "AddCommunity", name=name)
         talk.ask(2, "NewGroup", name=name, releasability=name)
