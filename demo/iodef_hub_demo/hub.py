@@ -58,7 +58,7 @@ class Hub:
         except (OSError, subprocess.TimeoutExpired) as fault:
             raise places.Fault("NoStore", f"{self.program} doesn't run: {fault}") from None
         if made.returncode or made.stdout != "created\n":
-            raise places.Fault("NoStore", f"{self.program} made no store: {(made.stderr or made.stdout).strip() or made.returncode}")
+            raise places.Fault("NoStore", f"{self.program} made no store by init, so it may not be iodef-hub: {(made.stderr or made.stdout).strip() or f'status {made.returncode}'}")
 
     def start(self) -> None:
         for _ in range(TRIES):

@@ -140,4 +140,5 @@ def run(named: str | None, is_unproved: bool, port: int, is_kept: bool, with_bro
             demo.hub.watch()
     finally:
         end = demo.close()
-        print(f"\niodef-hub-demo: {end}", file=sys.stderr)
+        if demo.is_made:
+            print(f"\niodef-hub-demo: {end}", file=sys.stderr)
