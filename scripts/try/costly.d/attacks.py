@@ -448,7 +448,8 @@ def refused_flood(hub: Served, weaker: Changes) -> Iterator[Check]:
         yield sum(" 429 " in line for line in logged) > 0, "  and those that were refused are among them"
 
 
-WITHOUT_CLASS = {"haproxy.cfg": [("is_list or { sc_conn_cur(0) gt 4 } or { sc_http_req_rate(0) gt 600 } or { var(txn.slow) -m int ge 20 }", "is_list")]}
+# Only lists wait until nothing else does, whoever asks.
+WITHOUT_CLASS = {"haproxy.cfg": [("{ sc_conn_cur(0) gt 4 } or { sc_http_req_rate(0) gt 600 } or { var(txn.behind) -m int gt 60000 } or is_list {", "is_list {")]}
 ATTACKS: dict[str, tuple[Callable[[Served, Changes], Iterator[Check]], Changes]] = {
     "views-before-lists": (views_before_lists, WITHOUT_CLASS),
     "refused-posts-before-lists": (refused_posts_before_lists, {"haproxy.cfg": [(" or is_report { sc_conn_cur(0) gt 2 }", ""), *WITHOUT_CLASS["haproxy.cfg"]]}),
