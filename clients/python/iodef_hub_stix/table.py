@@ -49,7 +49,7 @@ class Row:
     def path(self) -> str:
         """The member as a path of a pattern."""
         steps = self.member.split("\0")
-        return f"{self.type}:" + steps[0] + "".join(f".{each if re.fullmatch('[A-Za-z_][A-Za-z0-9_]*', each) else quoted(each)}" for each in steps[1:])
+        return f"{self.type}:" + ".".join(each if re.fullmatch("[A-Za-z_][A-Za-z0-9_]*", each) else quoted(each) for each in steps)
 
 
 def quoted(text: str) -> str:
@@ -146,6 +146,6 @@ MARKINGS = tuple(Made(label, f"TLP:{label.upper()}, {MARKING_IDS[label]}", "clie
 
 def count_from_memory() -> tuple[int, int, int]:
     """How many rows there are, in how many STIX's names are from memory, and in how many IODEF's are."""
-    iodef = [each.iodef_read for each in VALUES] + [each.iodef_read for each in (*MEMBERS, *CLASSES, *MARKINGS)]
+    iodef = [*(each.iodef_read for each in VALUES), *(each.iodef_read for each in MEMBERS), *(each.iodef_read for each in (*CLASSES, *MARKINGS))]
     stix = [each.stix_read for each in VALUES] + [each.stix_read for each in (*CLASSES, *MARKINGS)]
     return len(iodef), stix.count(MEMORY), iodef.count(MEMORY)
