@@ -6,6 +6,7 @@ from collections import Counter
 from typing import Any
 
 from .faults import Unfit
+from .table import CLASSES, ROOT
 
 LONGEST_INPUT = 8 * 1024 * 1024
 DEEPEST = 127  # elements of XML, or classes of JSON, inside each other
@@ -49,6 +50,6 @@ def document_of(text: bytes) -> tuple[dict[str, Any], int]:
     withheld: Any = []
     if isinstance(value, dict) and "Incident" not in value and isinstance(value.get("document"), dict):
         withheld, value = value.get("withheld"), value["document"]
-    if not isinstance(value, dict):
-        raise Unfit("NotDocument", "the input is not a report, which is a JSON object")
+    if not isinstance(value, dict) or not set(value) & set(CLASSES[ROOT].rows):
+        raise Unfit("NotDocument", f"the input is not a report, which is a JSON object with {', '.join(CLASSES[ROOT].rows)}")
     return value, len(withheld) if isinstance(withheld, list) else 0
