@@ -75,6 +75,8 @@ def contents(table: dict[str, Any], stem: str, tag: str, given: Given) -> dict[s
         "Metadata-Version: 2.1", f"Name: {table['name']}", f"Version: {table['version']}", f"Summary: {table['description']}",
         f"License: {table['license']['text']}", f"Requires-Python: {table['requires-python']}",
     ]
+    for extra, needed in table["optional-dependencies"].items():
+        about += [f"Provides-Extra: {extra}", *(f'Requires-Dist: {name}; extra == "{extra}"' for name in needed)]
     commands = ["[console_scripts]", *(f"{name} = {what}" for name, what in table["scripts"].items())]
     is_pure = "false" if given.library else "true"
     wheel = ["Wheel-Version: 1.0", "Generator: build_wheel", f"Root-Is-Purelib: {is_pure}", f"Tag: {tag}"]
@@ -86,8 +88,8 @@ def contents(table: dict[str, Any], stem: str, tag: str, given: Given) -> dict[s
         "iodef_hub_misp.py": (HERE / "iodef_hub_misp.py").read_bytes(),
     }
     made |= {f"iodef_redact/{name}": it for name, it in ((LIBRARY, given.library), ("VERSION", given.about)) if it}
-    for module in sorted((HERE / "iodef_hub_ask").glob("*.py")):
-        made[f"iodef_hub_ask/{module.name}"] = module.read_bytes()
+    for module in sorted((*(HERE / "iodef_hub_ask").glob("*.py"), *(HERE / "iodef_hub_xml").glob("*.py"))):
+        made[f"{module.parent.name}/{module.name}"] = module.read_bytes()
     for page in sorted(HERE.glob("*.1")):
         made[f"{stem}.data/data/share/man/man1/{page.name}"] = page.read_bytes()
     for name, lines in (("METADATA", about), ("WHEEL", wheel), ("entry_points.txt", commands)):

@@ -43,7 +43,7 @@ class Given:
 Files = dict[str, bytes | Link]
 # Where a file of the package comes from, by the beginning of its path. What isn't named here is generated.
 FROM = [
-    (r"usr/bin/(iodef-hub-ask)", r"clients/python/\1"),
+    (r"usr/bin/(iodef-hub-(?:ask|xml))", r"clients/python/\1"),
     (r"usr/bin/iodef-hub-misp", r"clients/python/iodef_hub_misp.py"),
     (r"usr/bin/(iodef-hub-version)", r"deploy/deb/\1"),
     (r"usr/bin/(iodef-hub-demo)", r"demo/\1"),
@@ -76,6 +76,7 @@ COMMANDS = {
     "iodef-redact": "crates/redact_program/src/words.rt",
     "iodef-hub-ask": "clients/python/iodef-hub-ask",
     "iodef-hub-misp": "clients/python/iodef_hub_misp.py",
+    "iodef-hub-xml": "clients/python/iodef-hub-xml",
     "iodef-hub-version": "deploy/deb/iodef-hub-version",
     "iodef-hub-demo": "demo/iodef-hub-demo",
 }
