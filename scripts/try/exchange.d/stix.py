@@ -151,6 +151,21 @@ def by_hand() -> Check:
                           ("/Incident/0/Indicator/0", 1), ("/Incident/0/Contact/0", 1)):
         yield same(f"with something withheld at {place}, patterns", len(patterns_of(both, (place,))), wanted)
     yield from markings_by_hand()
+    yield from relationships_by_hand()
+
+
+def relationships_by_hand() -> Check:
+    document = json.loads((TOP / "docs" / "examples" / "phishing.json").read_text())
+    objects = made(answer(document))
+    related = [(each["relationship_type"], each["source_ref"], each["target_ref"]) for each in objects if each["type"] == "relationship"]
+    indicator = one(objects, type="indicator", pattern="[domain-name:value = 'payroll-login.example.net']")
+    value = one(objects, type="domain-name", value="payroll-login.example.net")
+    seen = one(objects, type="observed-data", object_refs=[value["id"]])
+    yield same("an indicator is based on what is seen outside it", related, [("based-on", indicator["id"], seen["id"])])
+    author = one(objects, type="identity", name="source of incident 1 at hub.example.org")
+    yield same("the source is the author of all others", {each.get("created_by_ref") for each in objects if "created" in each and each is not author},
+               {author["id"]})
+    yield same("the report names all others", set(one(objects, type="report")["object_refs"]), {each["id"] for each in objects if each["type"] != "report"})
 
 
 def one(objects: list[Object], **members: Any) -> Object:

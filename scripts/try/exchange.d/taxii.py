@@ -9,6 +9,7 @@ import json
 import pathlib
 import random
 import re
+import shutil
 import socket
 import subprocess
 import sys
@@ -27,7 +28,8 @@ from .stix_rules import faults_of
 from .taxii_client import MEDIA, Client, Consumer, Failed
 
 SECTION = "taxii"
-COMMAND = pathlib.Path(__file__).resolve().parents[3] / "clients" / "python" / "iodef-hub-taxii"
+TOP = pathlib.Path(__file__).resolve().parents[3]
+COMMAND = TOP / "clients" / "python" / "iodef-hub-taxii"
 NAME = "hub.example.org"
 REPORTS = 1000
 READERS = tuple(reports.READERS)
@@ -105,6 +107,7 @@ class Trial:
         self.service.start()
         self.reports: dict[int, reports.Report] = {}
         self.watches: dict[str, Watch] = {}
+        self.ids: set[str] = set()  # of all objects that the excerpts ever made
 
     def post(self) -> None:
         for number in range(1, self.count + 1):
@@ -112,8 +115,8 @@ class Trial:
             assert reports.post(self.hub, self.reports[number]) == number
 
     def phase(self, name: str) -> Check:
-        """Each reader polls since its last poll, and all anew."""
-        for reader in READERS:
+        """Each reader polls since its last poll, and all anew. The one whose permissions end is the first."""
+        for reader in sorted(READERS, key=lambda each: each != "member"):
             client = self.service.client(reader)
             (collection,) = client.collections()
             watch = self.watches.setdefault(reader, Watch(reader, Consumer(client, collection)))
@@ -132,6 +135,7 @@ class Trial:
         yield same(f"{name}: there is something seen and something withheld", bool(needles) and (bool(withheld) or watch.reader == "source"))
         yield same(f"{name}: nothing withheld is in the collection", sorted(found - needles)[:5], [])
         ids = {each for it in now.values() for each in it.ids}
+        self.ids |= ids
         turned = [each for each in alive if each not in ids]
         missing = [each for each in ids if each not in alive]
         # An object that was revoked before has another id; as many are there as are missing, and the six that each collection has.
@@ -182,11 +186,20 @@ class Changes:
         assert status == 200 or json.loads(told)["code"] in ("S1", "S2"), (what, told)
 
     def _path(self, number: int) -> str:
-        """A class that has needles, of a report: the same for both phases."""
-        return self.paths.setdefault(number, self.trial.chance.choice([each.path for each in self.trial.reports[number].classes if each.needles]))
+        """A class that has needles, of a report: the same for both phases. Of a grant, one whose label hides it from the grantee, if there is one."""
+        if number not in self.paths:
+            named = [each.path for each in self.trial.reports[number].classes if each.needles]
+            person = GRANTEES.get(KINDS[number % len(KINDS)])
+            hidden = [each for each in named if person and self._is_hidden(person, number, each)]
+            self.paths[number] = self.trial.chance.choice(hidden or named)
+        return self.paths[number]
 
-    def widen(self) -> None:
-        self.end = until(max(60, self.trial.count / 4))
+    def _is_hidden(self, person: str, number: int, path: str) -> bool:
+        words = urllib.parse.urlencode({"person": reports.PERSONS[person], "incident": number, "path": path})
+        return str(self.hub.done("admin", "GET", f"/explain?{words}")["trace"]).startswith("verdict Hidden H-")
+
+    def widen(self, revision: int = 1, seconds: float = 25) -> None:
+        self.end = until(max(seconds, self.trial.count / 6))
         for number in self.trial.reports:
             kind = KINDS[number % len(KINDS)]
             path = self._path(number)
@@ -205,7 +218,7 @@ class Changes:
             elif kind == "address a person":
                 self._do(number, "address", ("person", reports.PERSONS["stranger"]))
             elif kind == "replace":
-                self._replace(number, "white", 1)
+                self._replace(number, "white", revision)
 
     def narrow(self) -> None:
         for number in self.trial.reports:
@@ -243,6 +256,7 @@ class Changes:
         time.sleep(max(left.total_seconds() + 1, 0))
 
 
+GRANTEES = {"grant": "stranger", "grant to a person": "client", "an end": "member"}
 KINDS = ["none", "grant", "grant to a person", "an end", "gate", "gate of a class", "address an organisation", "address a person", "replace"]
 
 
@@ -257,12 +271,16 @@ def of_changes(trial: Trial) -> Check:
     changes.narrow()
     yield from trial.phase("shown less")
     after = {reader: {number: it.text for number, it in watch.seen.items()} for reader, watch in trial.watches.items()}
+    changes.widen(3, 3600)
+    yield from trial.phase("shown again")
     for kind in KINDS[1:]:
         told = [(one[reader][number] != other[reader][number]) for one, other in ((before, wider), (wider, after)) for reader in READERS
                 for number in trial.reports if KINDS[number % len(KINDS)] == kind]
-        yield same(f"{kind} changed an excerpt", any(told))
+        yield same(f"{kind} changed an excerpt", any(told) or trial.count < 100)  # of few reports not each kind does
     revoked = [each for watch in trial.watches.values() for each in watch.consumer.kept.values() if each.get("revoked")]
     yield same("something was revoked", bool(revoked))
+    again = [name for watch in trial.watches.values() for name in watch.consumer.kept if name not in trial.ids]
+    yield same("and something that was is there again, by another id", len(again) > 6 * len(READERS))
     (nothing,) = {each["id"] for watch in trial.watches.values() for each in watch.consumer.kept.values() if each.get("name") == "withdrawn" and
                   each["type"] == "mutex"}
     yield same("and has nothing of a report", {json.dumps(_words(each), sort_keys=True) for each in revoked} - withdrawn(nothing), set())
@@ -408,6 +426,45 @@ def of_room(trial: Trial) -> Check:
     yield same("and then there is room again", trial.service.client("member").get("/taxii2/")[0]["api_roots"], ["/taxii2/hub/"])
 
 
+def of_nginx(trial: Trial, port: int) -> Check:
+    """The same by nginx, with the settings of deploy/nginx."""
+    if shutil.which("nginx") is None:
+        yield same("nginx is on this machine", False)
+        return
+    folder = trial.service.folder / "nginx"
+    folder.mkdir()
+    folder.chmod(0o755)
+    paths = "".join(f"{name}_temp_path {folder}/{name}; " for name in ("client_body", "proxy", "fastcgi", "uwsgi", "scgi"))
+    (folder / "nginx.conf").write_text(
+        f"daemon off; pid {folder}/pid; error_log {folder}/error;\nevents {{ }}\nhttp {{ {paths} access_log off;\n"
+        f"server {{ listen 127.0.0.1:{port}; location /taxii2/ {{ include {TOP}/deploy/nginx/iodef-hub-taxii.conf; "
+        f"proxy_pass http://127.0.0.1:{trial.service.port}; }} location / {{ return 404; }} }} }}\n")
+    process = subprocess.Popen(["nginx", "-p", str(folder), "-c", str(folder / "nginx.conf")], stderr=subprocess.DEVNULL)
+    try:
+        wait_for(port)
+        direct, between = trial.service.client("member"), Client(f"http://127.0.0.1:{port}", reports.KEYS["member"])
+        (collection,) = between.collections()
+        told = [[each for part in it.parts(f"{collection}objects/", limit="100") for each in part.objects] for it in (direct, between)]
+        yield same("by nginx there are the same objects", told[0] == told[1] and bool(told[0]))
+        yield same("but no metrics", between.raw("GET", "/metrics")[0], 404)
+        yield same("nor a path around", between.raw("GET", "/taxii2/../metrics")[0], 404)
+        status, _, body = between.raw("POST", f"{collection}objects/")
+        yield same("and TAXII's own errors", (status, json.loads(body)["error_code"]), (405, "OnlyReading"))
+        yield same("a missing key is answered by the service", between.raw("GET", "/taxii2/", {"Accept": MEDIA})[0], 401)
+    finally:
+        process.terminate()
+        process.wait()
+
+
+def wait_for(port: int) -> None:
+    for _ in range(100):
+        try:
+            socket.create_connection(("127.0.0.1", port), timeout=1).close()
+            return
+        except OSError:
+            time.sleep(0.1)
+
+
 def of_kept(trial: Trial) -> Check:
     """What is in the log, in the file of state, and in the metrics."""
     log = trial.service.log.read_text()
@@ -460,6 +517,7 @@ def checks(context: Context) -> Check:
         yield from of_pages(trial)
         yield from of_bad(trial)
         yield from of_room(trial)
+        yield from of_nginx(trial, next(context.ports))
         yield from of_changes(trial)
         yield from of_kept(trial)
         yield from of_away(trial)
