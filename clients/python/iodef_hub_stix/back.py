@@ -10,7 +10,8 @@ from collections.abc import Iterator, Sequence
 from dataclasses import dataclass, field
 from typing import Any
 
-from iodef_hub_misp import HASHES, Unfit, lines_of
+from iodef_hub_ask.limits import lines_of
+from iodef_hub_misp import HASHES, Unfit
 
 from .marking import label_of_object, restriction_of, strictest
 from .reading import Object, counted, moment_in, objects_in, text_in, texts_in

@@ -183,7 +183,8 @@ class Maker:
         role, kind = place.members.get("role"), place.members.get("type")
         told: Object = {"roles": [role]} if isinstance(role, str) and role else {}
         name = names[0].text if names else "name unknown"
-        labels = [*(each.label or place.label for each in names), *(label for _, label in ways)] + ([] if place.is_frame() else [place.label])
+        labels = [*(each.label or place.label for each in names), *(label for _, label in ways)]
+        labels += [] if place.is_frame() else [place.label]
         of_class = ROLES.get(kind, "unknown") if isinstance(kind, str) else "unknown"
         made = self.put_versioned("identity", "contact", _canonical([name, *told.get("roles", [])]), labels, {
             "name": _short(name), "identity_class": of_class, **told})
@@ -254,7 +255,8 @@ class Maker:
         published = moment(incident.members.get("GenerationTime")) if incident else None
         if incident and published:
             self.taken.all_of(incident.members, "GenerationTime")
-        labels = [*(label for _, label in texts), *(label for _, label in self.references)] + ([incident.label] if incident and published else [])
+        labels = [*(label for _, label in texts), *(label for _, label in self.references)]
+        labels += [incident.label] if incident and published else []
         source = self.excerpt.name or f"source of incident {self.excerpt.incident} at {self.excerpt.hub}"
         author = self.put_versioned("identity", "source", self.excerpt.source, [], {"identity_class": "organization", "name": source})
         others = list(self.drafts.values())

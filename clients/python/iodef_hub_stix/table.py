@@ -146,6 +146,7 @@ MARKINGS = tuple(Made(label, f"TLP:{label.upper()}, {MARKING_IDS[label]}", "clie
 
 def count_from_memory() -> tuple[int, int, int]:
     """How many rows there are, in how many STIX's names are from memory, and in how many IODEF's are."""
-    iodef = [*(each.iodef_read for each in VALUES), *(each.iodef_read for each in MEMBERS), *(each.iodef_read for each in (*CLASSES, *MARKINGS))]
+    iodef = [each.iodef_read for each in VALUES]
+    iodef += [*(each.iodef_read for each in MEMBERS), *(each.iodef_read for each in (*CLASSES, *MARKINGS))]
     stix = [each.stix_read for each in VALUES] + [each.stix_read for each in (*CLASSES, *MARKINGS)]
     return len(iodef), stix.count(MEMORY), iodef.count(MEMORY)

@@ -11,7 +11,8 @@ from collections import Counter
 from typing import Any
 
 from iodef_hub_ask.characters import shown
-from iodef_hub_misp import MOST_BYTES, MOST_LINES, Unfit, compact, counted, read_file, read_json
+from iodef_hub_ask.limits import MOST_BYTES, MOST_LINES
+from iodef_hub_misp import Unfit, compact, counted, read_file, read_json
 
 from .back import beyond_of, report_of
 from .excerpt import Excerpt, moment

@@ -12,8 +12,12 @@ from .serving import Answer, Refusal, Request, Service, log, refusal_of
 LONGEST_HEAD, MOST_FIELDS = 8192, 64
 HEAD_SECONDS, SEND_SECONDS = 15.0, 60.0
 MOST_CONNECTIONS = 64
-REASONS = {200: "OK", 400: "Bad Request", 401: "Unauthorized", 404: "Not Found", 405: "Method Not Allowed", 406: "Not Acceptable", 408: "Request Timeout",
-           414: "URI Too Long", 431: "Request Header Fields Too Large", 500: "Internal Server Error", 501: "Not Implemented", 503: "Service Unavailable"}
+REASONS = {
+    200: "OK", 400: "Bad Request", 401: "Unauthorized", 404: "Not Found", 405: "Method Not Allowed", 406: "Not Acceptable",
+    408: "Request Timeout", 414: "URI Too Long", 431: "Request Header Fields Too Large", 500: "Internal Server Error",
+    503: "Service Unavailable",
+}
+METHODS = ("GET", "HEAD", "POST", "PUT", "DELETE")  # that are logged by their names
 LINE = re.compile(r"([A-Z]{1,16}) (/[!-~]*) HTTP/1\.[01]")
 FIELD = re.compile(r"([!#$%&'*+.^_`|~0-9A-Za-z-]+):[ \t]*([ -~\t]*?)[ \t]*")
 ONCE = {"authorization", "accept", "host", "content-length"}  # fields that aren't lists, or of which two would be a guess
@@ -67,6 +71,15 @@ def request_of(head: bytes) -> Request:
     return Request(told[1], path, query, fields)
 
 
+def place_of(fault: BaseException) -> str:
+    """Where a fault is from, without its text."""
+    at = fault.__traceback__
+    while at is not None and at.tb_next is not None:
+        at = at.tb_next
+    where = f"{at.tb_frame.f_code.co_name}:{at.tb_lineno}" if at else "-"
+    return f"{type(fault).__name__} at {where}"
+
+
 class Server(socketserver.ThreadingMixIn, socketserver.TCPServer):
     allow_reuse_address = True
     daemon_threads = True
@@ -109,13 +122,11 @@ class Server(socketserver.ThreadingMixIn, socketserver.TCPServer):
         except Exception as fault:  # the text of a fault may be a caller's, so it isn't logged
             self.service.count("failed_total")
             answer = refusal_of(Refusal(500, "Failed", "the service failed"))
-            at = fault.__traceback__
-            while at is not None and at.tb_next is not None:
-                at = at.tb_next
-            answer.about = f"{type(fault).__name__} at {at.tb_frame.f_code.co_name if at else '-'}:{at.tb_lineno if at else 0}"
+            answer.about = place_of(fault)
         connection.settimeout(SEND_SECONDS)
         self._send(connection, answer, method == "HEAD")
-        log(f"{method if method in ('GET', 'HEAD', 'POST', 'DELETE', 'PUT') else '-'} {answer.status} {answer.about} seconds={time.monotonic() - began:.2f}")
+        told = method if method in METHODS else "-"
+        log(f"{told} {answer.status} {answer.about} seconds={time.monotonic() - began:.2f}")
 
     def _send(self, connection: socket.socket, answer: Answer, is_head: bool) -> None:
         headers = {**answer.headers, "Content-Length": str(len(answer.body)), "Cache-Control": "no-store", "Connection": "close"}

@@ -31,7 +31,7 @@ class Busy(Exception):
 
 
 class Turns:
-    """Requests to the hub, one after another in the order in which they were wanted, each followed by a pause at least as long as it took."""
+    """Requests to the hub, one after another in the order in which they were wanted. After each is a pause at least as long as it took."""
 
     def __init__(self, pause: float, patience: float) -> None:
         self._pause, self._patience = pause, patience
@@ -126,7 +126,7 @@ class Reader:
         return self._fresh[incident]
 
     def _note(self, number: int, keep: bool) -> list[Object]:
-        """Reads an excerpt, and notes a new version if its content is another one than before. Returns its objects, if they are to be kept."""
+        """Reads an excerpt, and notes a new version if its content is another one than before. Returns its objects, if they are kept."""
         excerpt = self._excerpt(number)
         if excerpt is None:
             self._store.hide(self.number, number)

@@ -56,7 +56,8 @@ class Answer:
 
 
 def answer_of(value: object, about: str, headers: Mapping[str, str] | None = None) -> Answer:
-    return Answer(200, json.dumps(value, ensure_ascii=False, separators=(",", ":")).encode(), {"Content-Type": TAXII, **(headers or {})}, about)
+    body = json.dumps(value, ensure_ascii=False, separators=(",", ":")).encode()
+    return Answer(200, body, {"Content-Type": TAXII, **(headers or {})}, about)
 
 
 def refusal_of(refusal: Refusal) -> Answer:
@@ -107,7 +108,7 @@ def filters_of(query: str, allowed: set[str]) -> dict[str, str]:
     if len(query) > LONGEST_QUERY:
         raise Refusal(414, "QueryTooLong", f"a query has at most {LONGEST_QUERY} bytes")
     try:
-        pairs = urllib.parse.parse_qsl(query, keep_blank_values=True, strict_parsing=bool(query), encoding="ascii", errors="strict", max_num_fields=16)
+        pairs = urllib.parse.parse_qsl(query, True, bool(query), encoding="ascii", errors="strict", max_num_fields=16)
     except ValueError:
         raise Refusal(400, "BadQuery", "the query can't be read") from None
     for name, _ in pairs:
@@ -205,10 +206,11 @@ class Service:
             return answer_of(value, f"root reader={reader.number}")
         if steps[0] != "collections":
             raise Refusal(404, "NoRoute", "there is no such resource")
-        route = "/".join(["collections", *(["ID"] if len(steps) > 1 else []), *steps[2:3], *(["ID"] if len(steps) > 3 else []), *steps[4:]])
+        route = "/".join("ID" if place in (1, 3) else step for place, step in enumerate(steps))
         routes: dict[str, Callable[[Request, Reader, list[str]], Answer]] = {
             "collections": self._collections, "collections/ID": self._collection, "collections/ID/manifest": self._manifest,
-            "collections/ID/objects": self._objects, "collections/ID/objects/ID": self._object, "collections/ID/objects/ID/versions": self._versions,
+            "collections/ID/objects": self._objects, "collections/ID/objects/ID": self._object,
+            "collections/ID/objects/ID/versions": self._versions,
         }
         if route not in routes:
             raise Refusal(404, "NoRoute", "there is no such resource")
@@ -225,8 +227,8 @@ class Service:
         return str(uuid.uuid5(uuid.NAMESPACE_URL, "iodef-hub-taxii:" + json.dumps([self.settings.name, reader.number])))
 
     def _about(self, reader: Reader) -> dict[str, Any]:
-        return {"id": self._id(reader), "title": f"{self.title}: what person {reader.number} may read", "can_read": True, "can_write": False,
-                "media_types": [MEDIA]}
+        title = f"{self.title}: what person {reader.number} may read"
+        return {"id": self._id(reader), "title": title, "can_read": True, "can_write": False, "media_types": [MEDIA]}
 
     def _collections(self, request: Request, reader: Reader, steps: list[str]) -> Answer:
         return answer_of({"collections": [self._about(reader)]}, f"collections reader={reader.number}")
@@ -288,8 +290,10 @@ class Service:
 
     def _manifest(self, request: Request, reader: Reader, steps: list[str]) -> Answer:
         page, told, fields = self._page(request, reader, steps)
-        records = [{"id": each.object["id"], "date_added": each.added, "version": each.version, "media_type": MEDIA} for each in page.entries]
-        return answer_of({**told, **({"objects": records} if records else {})}, f"manifest reader={reader.number} objects={len(records)}", fields)
+        records = [
+            {"id": each.object["id"], "date_added": each.added, "version": each.version, "media_type": MEDIA} for each in page.entries]
+        value = {**told, **({"objects": records} if records else {})}
+        return answer_of(value, f"manifest reader={reader.number} objects={len(records)}", fields)
 
     def _versions(self, request: Request, reader: Reader, steps: list[str]) -> Answer:
         page, told, fields = self._page(request, reader, steps)

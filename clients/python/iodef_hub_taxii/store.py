@@ -35,6 +35,7 @@ CREATE UNIQUE INDEX named ON object (reader, id);
 CREATE INDEX of_incident ON object (reader, incident);
 """
 VERSION = 1
+OF_ONE = "WHERE reader = ? AND incident = ?"
 
 
 class WrongFile(Exception):
@@ -47,7 +48,6 @@ class Row:
 
     added: int
     id: str
-    base: str
     incident: int
     revoked: bool
     created: int
@@ -127,7 +127,7 @@ class Store:
                 _put(db, reader, 0, _next(db, reader), self._fixed)
 
     def listed(self, reader: int, entries: Mapping[int, int]) -> None:
-        """The incidents that the hub lists, each with its revision: those that are new or changed are due, those that are gone are revoked."""
+        """The incidents that the hub lists, each with its revision: new and changed ones are due, and those that are gone are revoked."""
         with self._change() as db:
             known = {number: (revision, shown) for number, revision, shown in db.execute(
                 "SELECT incident, revision, shown FROM excerpt WHERE reader = ?", (reader,))}
@@ -137,13 +137,14 @@ class Store:
                 if number not in known:
                     db.execute("INSERT INTO excerpt VALUES (?, ?, ?, 1, 0, 0, 0, NULL, NULL)", (reader, number, revision))
                 elif known[number] != (revision, 1):
-                    db.execute("UPDATE excerpt SET revision = ?, shown = 1, looked = 0 WHERE reader = ? AND incident = ?", (revision, reader, number))
+                    db.execute(f"UPDATE excerpt SET revision = ?, shown = 1, looked = 0 {OF_ONE}", (revision, reader, number))
 
     def due(self, reader: int, before: int, count: int) -> list[int]:
         """The incidents that were read last before a moment, the longest ago first."""
         with self._lock:
-            return [number for number, in self._db.execute(
-                "SELECT incident FROM excerpt WHERE reader = ? AND shown = 1 AND looked < ? ORDER BY looked, incident LIMIT ?", (reader, before, count))]
+            found = self._db.execute("SELECT incident FROM excerpt WHERE reader = ? AND shown = 1 AND looked < ? ORDER BY looked, incident "
+                                     "LIMIT ?", (reader, before, count))
+            return [number for number, in found]
 
     def unread(self, reader: int) -> bool:
         """Whether the hub has listed an incident that wasn't read since."""
@@ -151,14 +152,13 @@ class Store:
 
     def kept(self, reader: int, incident: int) -> Kept | None:
         with self._lock:
-            told = self._db.execute(
-                "SELECT created, modified, answer, content FROM excerpt WHERE reader = ? AND incident = ?", (reader, incident)).fetchone()
+            told = self._db.execute(f"SELECT created, modified, answer, content FROM excerpt {OF_ONE}", (reader, incident)).fetchone()
         return Kept(*told) if told else None
 
     def same(self, reader: int, incident: int, answer: bytes) -> None:
         """An excerpt was read and has the content that is kept."""
         with self._change() as db:
-            db.execute("UPDATE excerpt SET looked = ?, answer = ? WHERE reader = ? AND incident = ?", (_now(), answer, reader, incident))
+            db.execute(f"UPDATE excerpt SET looked = ?, answer = ? {OF_ONE}", (_now(), answer, reader, incident))
 
     def hide(self, reader: int, incident: int) -> None:
         """The hub serves nothing of an incident."""
@@ -169,8 +169,9 @@ class Store:
         """A new version of an excerpt, with the ids of its objects."""
         with self._change() as db:
             moment = _next(db, reader)
-            db.execute("UPDATE excerpt SET looked = ?, answer = ?, content = ?, modified = ?, created = CASE created WHEN 0 THEN ? ELSE created END, shown = 1 "
-                       "WHERE reader = ? AND incident = ?", (_now(), answer, content, moment, moment, reader, incident))
+            created = "CASE created WHEN 0 THEN ? ELSE created END"
+            db.execute(f"UPDATE excerpt SET looked = ?, answer = ?, content = ?, modified = ?, created = {created}, shown = 1 {OF_ONE}",
+                       (_now(), answer, content, moment, moment, reader, incident))
             _put(db, reader, incident, moment, names)
 
     def rows(self, reader: int, wanted: Wanted, count: int) -> list[Row]:
@@ -186,25 +187,24 @@ class Store:
             values += known
         with self._lock:
             found = self._db.execute(
-                "SELECT added, object.id, COALESCE(base, object.id), object.incident, revoked, COALESCE(created, 0), COALESCE(modified, 0) FROM object "
+                "SELECT added, object.id, object.incident, revoked, COALESCE(created, 0), COALESCE(modified, 0) FROM object "
                 f"LEFT JOIN excerpt USING (reader, incident) WHERE {asked} ORDER BY added LIMIT ?", (*values, count)).fetchall()
-        return [Row(added, unpacked(name), unpacked(base), incident, bool(revoked), created, added // 1000 if revoked else modified)
-                for added, name, base, incident, revoked, created, modified in found]
+        return [Row(added, unpacked(name), incident, bool(revoked), created, added // 1000 if revoked else modified)
+                for added, name, incident, revoked, created, modified in found]
 
     def renamed(self, reader: int, incident: int) -> dict[str, str]:
         """The objects of an incident that have another id, as one with theirs was revoked."""
         with self._lock:
-            found = self._db.execute(
-                "SELECT base, id FROM object WHERE reader = ? AND incident = ? AND revoked = 0 AND base IS NOT NULL", (reader, incident)).fetchall()
+            asked = f"SELECT base, id FROM object {OF_ONE} AND revoked = 0 AND base IS NOT NULL"
+            found = self._db.execute(asked, (reader, incident)).fetchall()
         return {unpacked(base): unpacked(name) for base, name in found}
 
     def counts(self) -> dict[str, int]:
-        """What there is, for the metrics; and how long ago the excerpt was read whose turn is next, of readers that polled within an hour."""
+        """What there is, for the metrics; of readers that polled within an hour, also how long ago the excerpt was read that is next."""
         with self._lock:
             made = {f"{name}s": self._db.execute(f"SELECT count(*) FROM {name}").fetchone()[0] for name in ("reader", "excerpt")}
-            oldest = self._db.execute(
-                "SELECT min((SELECT min(looked) FROM excerpt WHERE excerpt.reader = number AND shown = 1 AND looked > 0)) FROM reader WHERE polled > ?",
-                (_now() - 3_600_000,)).fetchone()[0]
+            of_reader = "SELECT min(looked) FROM excerpt WHERE excerpt.reader = number AND shown = 1 AND looked > 0"
+            oldest = self._db.execute(f"SELECT min(({of_reader})) FROM reader WHERE polled > ?", (_now() - 3_600_000,)).fetchone()[0]
         return {**made, "oldest_read_seconds": (_now() - oldest) // 1000 if oldest else 0, "store_bytes": self.file.stat().st_size}
 
 
@@ -248,7 +248,7 @@ def _put(db: sqlite3.Connection, reader: int, incident: int, moment: int, names:
     """Adds the objects of an excerpt anew, and revokes or removes those that it hasn't any more."""
     shown: dict[str, str] = {}
     turns: dict[str, int] = {}
-    for name, base, revoked in db.execute("SELECT id, COALESCE(base, id), revoked FROM object WHERE reader = ? AND incident = ?", (reader, incident)):
+    for name, base, revoked in db.execute(f"SELECT id, COALESCE(base, id), revoked FROM object {OF_ONE}", (reader, incident)):
         if revoked:
             turns[unpacked(base)] = turns.get(unpacked(base), 0) + 1
         else:
@@ -278,6 +278,6 @@ def _end(db: sqlite3.Connection, reader: int, names: Sequence[str], added: int) 
 
 
 def _hide(db: sqlite3.Connection, reader: int, incident: int) -> None:
-    names = [unpacked(name) for name, in db.execute("SELECT id FROM object WHERE reader = ? AND incident = ? AND revoked = 0", (reader, incident))]
+    names = [unpacked(name) for name, in db.execute(f"SELECT id FROM object {OF_ONE} AND revoked = 0", (reader, incident))]
     _end(db, reader, names, _next(db, reader) * 1000)
-    db.execute("UPDATE excerpt SET shown = 0, looked = ?, answer = NULL, content = NULL WHERE reader = ? AND incident = ?", (_now(), reader, incident))
+    db.execute(f"UPDATE excerpt SET shown = 0, looked = ?, answer = NULL, content = NULL {OF_ONE}", (_now(), reader, incident))

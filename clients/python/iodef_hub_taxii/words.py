@@ -37,7 +37,8 @@ for --look seconds at most; the next poll goes on. Requests to the hub follow on
 of the hub's time is left to others. If --look isn't enough, a change without a new revision is seen by a later poll.
 
 The file of state has ids, times, and HMACs by the keys; no content. But an id is made of a value, so whoever reads the file can try out
-values: it is for the service's user alone. About 150 bytes are kept of each object that a key ever saw. Without the file all ids stay, and all is new.
+values: it is for the service's user alone. It grows with the objects that keys ever saw. Without it all is new, with the first ids, also
+those that were revoked.
 
 /metrics has counts for this host; nginx doesn't pass it on.
 """
@@ -66,17 +67,22 @@ def _hub(text: str) -> str:
 def words() -> argparse.ArgumentParser:
     parser = argparse.ArgumentParser(prog="iodef-hub-taxii", description=HEAD, formatter_class=argparse.RawDescriptionHelpFormatter)
     parser.add_argument("--hub", required=True, type=_hub, metavar="URL", help="the hub's address: that of HAProxy's queue")
-    parser.add_argument("--name", required=True, metavar="NAME", help="the hub's name, of which ids are made, as of iodef-hub-stix: never another one")
-    parser.add_argument("--state", required=True, type=pathlib.Path, metavar="FILE", help="the file of ids and times; it is made if it is missing")
+    parser.add_argument("--name", required=True, metavar="NAME",
+                        help="the hub's name, of which ids are made, as of iodef-hub-stix: never another one")
+    parser.add_argument("--state", required=True, type=pathlib.Path, metavar="FILE",
+                        help="the file of ids and times; it is made if it is missing")
     parser.add_argument("--port", required=True, type=_port, metavar="N", help="the port of loopback")
     parser.add_argument("--title", metavar="TEXT", help="the title that callers see (default: the name)")
     parser.add_argument("--names", default=os.environ.get("IODEF_HUB_NAMES", ""), metavar="FILE",
                         help="a file of iodef-hub-directory --names, for the sources' names (default: IODEF_HUB_NAMES)")
-    parser.add_argument("--look", type=_seconds, default=20.0, metavar="SECONDS", help="how long a poll may read before it answers (default: 20)")
+    parser.add_argument("--look", type=_seconds, default=20.0, metavar="SECONDS",
+                        help="how long a poll may read before it answers (default: 20)")
     parser.add_argument("--again", type=_seconds, default=60.0, metavar="SECONDS",
                         help="an excerpt that was read within this time isn't read again for a list (default: 60)")
-    parser.add_argument("--pause", type=_seconds, default=0.002, metavar="SECONDS", help="the least pause between requests to the hub (default: 0.002)")
-    parser.epilog = f"A page has at most {MOST_OBJECTS} objects. Exit status: 0 ended by a signal; 1 the file of state or of names is refused; 2 usage, or the port."
+    parser.add_argument("--pause", type=_seconds, default=0.002, metavar="SECONDS",
+                        help="the least pause between requests to the hub (default: 0.002)")
+    parser.epilog = (f"A page has at most {MOST_OBJECTS} objects. Exit status: 0 ended by a signal; "
+                     "1 the file of state or of names is refused; 2 usage, or the port.")
     return parser
 
 

@@ -123,6 +123,7 @@ class Client:
             yield part
             if not part.more:
                 return
+            want(not part.objects or part.next != filters.get("next"), "next leads to the same page")
             filters = {**filters, "next": str(part.next)}
 
     def manifest(self, collection: str, **filters: str) -> list[Object]:
