@@ -31,8 +31,10 @@ REPORTS = 1000
 READERS = tuple(reports.READERS)
 # From the specification of TLP 2.0's extension for STIX, written down by hand.
 MARKINGS = {
-    "marking-definition--94868c89-83c2-464b-929b-a1a8aa3c8487": "clear", "marking-definition--bab4a63c-aed9-4cf5-a766-dfca5abac2bb": "green",
-    "marking-definition--55d920b0-5e8b-4f79-9ee9-91f868d9b421": "amber", "marking-definition--939a9414-2ddd-4d32-a0cd-375ea402b003": "amber+strict",
+    "marking-definition--94868c89-83c2-464b-929b-a1a8aa3c8487": "clear",
+    "marking-definition--bab4a63c-aed9-4cf5-a766-dfca5abac2bb": "green",
+    "marking-definition--55d920b0-5e8b-4f79-9ee9-91f868d9b421": "amber",
+    "marking-definition--939a9414-2ddd-4d32-a0cd-375ea402b003": "amber+strict",
     "marking-definition--e828b379-4e03-4974-9ac4-e53a884c97c1": "red",
 }
 Object = dict[str, Any]
@@ -62,7 +64,8 @@ def process(*words: str, given: bytes = b"") -> tuple[int, str, str]:
 
 
 def answer(document: Object, withheld: tuple[str, ...] = (), number: int = 1) -> Object:
-    return {"classes": 1, "document": document, "number": number, "revision": 1, "source": 2, "withheld": [[each, "H-RED"] for each in withheld]}
+    return {"classes": 1, "document": document, "number": number, "revision": 1, "source": 2,
+            "withheld": [[each, "H-RED"] for each in withheld]}
 
 
 def made(value: Object, now: str = NOW) -> list[Object]:
@@ -128,14 +131,17 @@ PATTERNS: list[tuple[str, Object, list[str]]] = [
      ["[mutex:name = 'a']", "[mutex:name = 'b']"]),
     ("`and` is one", {"IndicatorExpression": {"operator": "and", "Observable": [bulk("mutex", "a"), bulk("mutex", "b", "c")]}},
      ["[mutex:name = 'a'] AND ([mutex:name = 'b'] OR [mutex:name = 'c'])"]),
-    ("no operator is `and`", {"IndicatorExpression": {"Observable": [bulk("mutex", "a"), bulk("mutex", "b")]}}, ["[mutex:name = 'a'] AND [mutex:name = 'b']"]),
+    ("no operator is `and`", {"IndicatorExpression": {"Observable": [bulk("mutex", "a"), bulk("mutex", "b")]}},
+     ["[mutex:name = 'a'] AND [mutex:name = 'b']"]),
     ("`not` is none", {"IndicatorExpression": {"operator": "not", "Observable": [bulk("mutex", "a")]}}, []),
     ("`xor` is none", {"IndicatorExpression": {"operator": "xor", "Observable": [bulk("mutex", "a"), bulk("mutex", "b")]}}, []),
     ("`and` with an operand that has no pattern is none",
      {"IndicatorExpression": {"operator": "and", "Observable": [bulk("mutex", "a"), bulk("atm", "b")]}}, []),
-    ("`or` with one is the others", {"IndicatorExpression": {"operator": "or", "Observable": [bulk("mutex", "a"), bulk("atm", "b")]}}, ["[mutex:name = 'a']"]),
+    ("`or` with one is the others", {"IndicatorExpression": {"operator": "or", "Observable": [bulk("mutex", "a"), bulk("atm", "b")]}},
+     ["[mutex:name = 'a']"]),
     ("`and` with a `not` is none", {"IndicatorExpression": {"operator": "and", "Observable": [bulk("mutex", "a")],
-                                                            "IndicatorExpression": [{"operator": "not", "Observable": [bulk("mutex", "b")]}]}}, []),
+                                                            "IndicatorExpression": [{"operator": "not",
+                                                                                     "Observable": [bulk("mutex", "b")]}]}}, []),
     ("what MISP doesn't detect isn't in it", {"IndicatorExpression": {"operator": "or", "IndicatorExpression": [
         {"operator": "and", "Observable": [bulk("mutex", "a")], "AdditionalData": [{"name": "misp-to-ids", "value": "0"}]}]}}, []),
 ]
@@ -147,7 +153,8 @@ def by_hand() -> Check:
         yield same(f"pattern: {what}", got, wanted)
         yield same(f"and is of the grammar: {what}", [fault for each in got if (fault := fault_of_pattern(each))], [])
     both = {"IndicatorExpression": {"operator": "and", "Observable": [bulk("mutex", "a"), bulk("mutex", "b")]}}
-    for place, wanted in (("/Incident/0/Indicator/0/IndicatorExpression", 0), ("/Incident/0/Indicator/0/IndicatorExpression/Observable/0", 0),
+    for place, wanted in (("/Incident/0/Indicator/0/IndicatorExpression", 0),
+                          ("/Incident/0/Indicator/0/IndicatorExpression/Observable/0", 0),
                           ("/Incident/0/Indicator/0", 1), ("/Incident/0/Contact/0", 1)):
         yield same(f"with something withheld at {place}, patterns", len(patterns_of(both, (place,))), wanted)
     yield from markings_by_hand()
@@ -163,9 +170,11 @@ def relationships_by_hand() -> Check:
     seen = one(objects, type="observed-data", object_refs=[value["id"]])
     yield same("an indicator is based on what is seen outside it", related, [("based-on", indicator["id"], seen["id"])])
     author = one(objects, type="identity", name="source of incident 1 at hub.example.org")
-    yield same("the source is the author of all others", {each.get("created_by_ref") for each in objects if "created" in each and each is not author},
+    yield same("the source is the author of all others", {each.get("created_by_ref") for each in objects if "created" in each
+                                                          and each is not author},
                {author["id"]})
-    yield same("the report names all others", set(one(objects, type="report")["object_refs"]), {each["id"] for each in objects if each["type"] != "report"})
+    yield same("the report names all others", set(one(objects, type="report")["object_refs"]),
+               {each["id"] for each in objects if each["type"] != "report"})
 
 
 def one(objects: list[Object], **members: Any) -> Object:
@@ -263,8 +272,8 @@ class Found:
         """To IODEF again: no needle has a wider label, and what was to be looked for is."""
         document = report_of(json.dumps({"type": "bundle", "objects": objects}).encode(), "csirt.example", NOW)[0]
         for each in reports.classes_of(document):
-            wider = [needle for needle in each.needles if reports.STRICTNESS.index(each.label) < reports.STRICTNESS.index(report.labels[needle])]
-            self.wide_back += [(reader, needle) for needle in wider]
+            strict = reports.STRICTNESS.index(each.label)
+            self.wide_back += [(reader, needle) for needle in each.needles if strict < reports.STRICTNESS.index(report.labels[needle])]
         wanted = {needle for each in objects if each["type"] == "indicator" for needle in reports.needles_in(each["pattern"])}
         self.lost += [(reader, each) for each in wanted - reports.needles_in(document["Incident"][0].get("Indicator", []))]
 
@@ -281,7 +290,8 @@ class Found:
         self.unstable += [it for it in before.items() if after.get(it[0]) != it[1]]
 
     def told(self) -> Check:
-        yield same("needles that were seen and not seen, objects and indicators", all((self.seen, self.hidden, self.objects, self.indicators)))
+        yield same("needles that were seen and not seen, objects and indicators",
+                   all((self.seen, self.hidden, self.objects, self.indicators)))
         yield same("nothing withheld is in an object", self.shown[:5], [])
         yield same("no marking is wider than a label of what it holds", self.wide[:5], [])
         yield same("the rules of STIX hold", self.rules[:5], [])
@@ -292,12 +302,13 @@ class Found:
 
 
 def _is_in(text: str, document: Object) -> bool:
-    return text in ("tcp", "udp") or any(
-        text in (each if isinstance(each, list) else [each]) or text in str(each).lower() for _, it in reports.objects_in(document) for each in it.values())
+    members = [each for _, it in reports.objects_in(document) for each in it.values()]
+    return text in ("tcp", "udp") or any(text in (each if isinstance(each, list) else [each]) or text in str(each).lower() for each in members)
 
 
 def _by_content(objects: list[Object]) -> dict[str, str]:
-    """The ids by what tells an object from the others of its report: its members but id, times and references; of an observation its value."""
+    """The ids by what tells an object from the others of its report: its members but id, times and references. Of an observation that is
+    its value."""
     told = {}
     for each in objects:
         told[each["id"]] = each["type"] if each["type"] in ("report", "relationship") else json.dumps(
@@ -318,13 +329,16 @@ CLEAR = next(iter(MARKINGS))
 OLD_AMBER = "marking-definition--f88d31f6-486f-44da-b317-01333bde0b82"
 OLD_WHITE = "marking-definition--613f2e26-407d-48c7-9eca-b8e91df99dc9"
 STRANGE = "marking-definition--00000000-0000-4000-8000-000000000000"
-WRITTEN = {"clear": {"restriction": "public"}, "green": {"restriction": "partner"}, "amber": {"restriction": "ext-value", "ext-restriction": "TLP:AMBER"},
+WRITTEN = {"clear": {"restriction": "public"}, "green": {"restriction": "partner"},
+           "amber": {"restriction": "ext-value", "ext-restriction": "TLP:AMBER"},
            "amber+strict": {"restriction": "need-to-know"}, "red": {"restriction": "private"}}
 BACK: list[tuple[str, Object, str]] = [
     ("none", {}, "red"), ("green", {"object_marking_refs": [GREEN]}, "green"), ("clear", {"object_marking_refs": [CLEAR]}, "clear"),
     ("amber", {"object_marking_refs": [AMBER]}, "amber"), ("strict", {"object_marking_refs": [STRICT]}, "amber+strict"),
-    ("several", {"object_marking_refs": [GREEN, RED, CLEAR]}, "red"), ("two", {"object_marking_refs": [CLEAR, STRICT, AMBER]}, "amber+strict"),
-    ("TLP 1's white", {"object_marking_refs": [OLD_WHITE]}, "clear"), ("TLP 1's amber", {"object_marking_refs": [OLD_AMBER]}, "amber+strict"),
+    ("several", {"object_marking_refs": [GREEN, RED, CLEAR]}, "red"),
+    ("two", {"object_marking_refs": [CLEAR, STRICT, AMBER]}, "amber+strict"),
+    ("TLP 1's white", {"object_marking_refs": [OLD_WHITE]}, "clear"),
+    ("TLP 1's amber", {"object_marking_refs": [OLD_AMBER]}, "amber+strict"),
     ("an unknown one", {"object_marking_refs": [CLEAR, STRANGE]}, "red"), ("an empty list", {"object_marking_refs": []}, "red"),
     ("of a part", {"object_marking_refs": [CLEAR], "granular_markings": [{"marking_ref": AMBER, "selectors": ["name"]}]}, "amber"),
     ("of a part's language", {"object_marking_refs": [CLEAR], "granular_markings": [{"lang": "de", "selectors": ["name"]}]}, "clear"),
@@ -357,7 +371,8 @@ BACK_PATTERNS: list[tuple[str, Object]] = [
     ("[mutex:name = 'it\\'s \\\\ OR [x]']", {"Observable": bulk("mutex", "it's \\ OR [x]")}),
     (f"[file:hashes.'SHA-256' = '{'a' * 64}']", {"Observable": bulk("file-hash", "a" * 64)}),
     *((each, {"Observable": {"AdditionalData": [{"dtype": "string", "name": "stix-pattern", "value": each}]}}) for each in (
-        "[mutex:name != 'a']", "[mutex:name = 'a' AND mutex:name = 'b']", "[mutex:name = 'a'] AND [mutex:name = 'b']", "[mutex:name LIKE 'a%']",
+        "[mutex:name != 'a']", "[mutex:name = 'a' AND mutex:name = 'b']", "[mutex:name = 'a'] AND [mutex:name = 'b']",
+        "[mutex:name LIKE 'a%']",
         "([mutex:name = 'a'])", "[mutex:name = 'a'] REPEATS 5 TIMES", "[x:y = 'a']", "nonsense", "[" + "mutex:name = '" * 9000)),
 ]
 
@@ -368,10 +383,12 @@ def of_back() -> Check:
         yield same(f"back: markings: {what}", {name: made_of[name] for name in made_of if "restriction" in name}, WRITTEN[wanted])
     for pattern, observed in BACK_PATTERNS:
         made_of = back(indicator(pattern))["Indicator"][0]
-        yield same(f"back: {pattern[:80]}", {name: made_of[name] for name in ("Observable", "IndicatorExpression") if name in made_of}, observed)
+        yield same(f"back: {pattern[:80]}", {name: made_of[name] for name in ("Observable", "IndicatorExpression") if name in made_of},
+                   observed)
     revoked = [indicator("[mutex:name = 'a']"), {**indicator("[mutex:name = 'b']", revoked=True), "id": f"indicator--{ONE_ID}2"}]
     yield same("back: what is revoked is left out", len(back(*revoked)["Indicator"]), 1)
-    versions = [indicator("[mutex:name = 'new']", modified="2026-06-02T00:00:00Z"), indicator("[mutex:name = 'old']", modified="2026-06-01T00:00:00Z")]
+    versions = [indicator("[mutex:name = 'new']", modified="2026-06-02T00:00:00Z"),
+                indicator("[mutex:name = 'old']", modified="2026-06-01T00:00:00Z")]
     yield same("back: of two versions the last", back(*versions)["Indicator"][0]["Observable"], bulk("mutex", "new"))
 
 
@@ -380,23 +397,29 @@ def of_back() -> Check:
 
 def hostile() -> Iterator[tuple[str, bytes]]:
     """Inputs for both ways, each of which has to be refused."""
-    yield from (("nothing", b""), ("a byte order mark", b"\xef\xbb\xbf{}"), ("no UTF-8", b'{"a":"\xff"}'), ("UTF-16", '{"objects":[]}'.encode("utf-16")),
-                ("half of it", b'{"objects":[{'), ("a list", b"[]"), ("a text", b'"x"'), ("a number", b"1"), ("null", b"null"), ("empty", b"{}"),
+    yield from (("nothing", b""), ("a byte order mark", b"\xef\xbb\xbf{}"), ("no UTF-8", b'{"a":"\xff"}'),
+                ("UTF-16", '{"objects":[]}'.encode("utf-16")),
+                ("half of it", b'{"objects":[{'), ("a list", b"[]"), ("a text", b'"x"'), ("a number", b"1"), ("null", b"null"),
+                ("empty", b"{}"),
                 ("NaN", b'{"objects":NaN}'), ("a member twice", b'{"objects":[],"objects":[]}'), ("markup", b"<xml/>"),
                 ("very deep", b"[" * 100_000 + b"]" * 100_000), ("deep objects", b'{"document":' * 5000 + b"1" + b"}" * 5000))
     for name in ("document", "objects", "withheld", "number", "source"):
-        for what, wrong in (("null", None), ("a text", "x"), ("a number", 7), ("a float", 1.5), ("true", True), ("a list of lists", [[]]), ("an object", {})):
-            if (name, what) not in (("number", "a number"), ("source", "a number"), ("number", "null"), ("source", "null"), ("document", "an object")):
+        for what, wrong in (("null", None), ("a text", "x"), ("a number", 7), ("a float", 1.5), ("true", True), ("a list of lists", [[]]),
+                            ("an object", {})):
+            if (name, what) not in (("number", "a number"), ("source", "a number"), ("number", "null"), ("source", "null"),
+                                    ("document", "an object")):
                 yield f"{name}: {what}", json.dumps({**answer(incident()), "objects": [], name: wrong}).encode()
 
 
 def hostile_bundles() -> Iterator[tuple[str, bytes]]:
     good = indicator("[mutex:name = 'a']")
-    for name in ("type", "id", "pattern", "pattern_type", "valid_from", "description", "revoked", "modified", "valid_until", "spec_version"):
+    for name in ("type", "id", "pattern", "pattern_type", "valid_from", "description", "revoked", "modified", "valid_until",
+                 "spec_version"):
         for what, wrong in (("null", None), ("a number", 7), ("a list", ["x"]), ("an object", {"a": 1}), ("another text", "\u202e\n")):
             if (name, what) not in (("pattern", "another text"), ("description", "another text")):
                 yield f"{name}: {what}", bundle({**good, name: wrong})
-    others = [("identity", "name"), ("identity", "roles"), ("identity", "contact_information"), ("note", "content"), ("vulnerability", "name"),
+    others = [("identity", "name"), ("identity", "roles"), ("identity", "contact_information"), ("note", "content"),
+              ("vulnerability", "name"),
               ("observed-data", "object_refs"), ("report", "object_refs"), ("report", "description"), ("report", "created_by_ref")]
     for kind, name in others:
         for what, wrong in (("null", None), ("a number", 7), ("an object", {"a": 1}), ("a list of numbers", [1])):
@@ -410,14 +433,16 @@ def hostile_bundles() -> Iterator[tuple[str, bytes]]:
 
 def of_hostile() -> Check:
     stix = [(what, given, ("to-stix", "--hub", "h")) for what, given in hostile()]
-    iodef = [(what, given, ("to-iodef", "--name", "n")) for what, given in [*hostile(), *hostile_bundles()] if not what.startswith(("document", "withheld", "number", "source"))]
+    bundles = [each for each in (*hostile(), *hostile_bundles()) if not each[0].startswith(("document", "withheld", "number", "source"))]
+    iodef = [(what, given, ("to-iodef", "--name", "n")) for what, given in bundles]
     stix = [each for each in stix if not each[0].startswith("objects")]
     surrogate = json.dumps(answer(incident(Description=["x"]))).replace('"x"', '"\\ud800"').encode()
     for what, given, words in [*stix, *iodef, ("half a character", surrogate, ("to-stix", "--hub", "h"))]:
         status, out, err = run(*words, given=given)
         is_named = err.startswith("iodef-hub-stix: refused: ") and err.count("\n") == 1 and "Traceback" not in err
         yield same(f"{words[0]}, hostile, {what}", (status, out, is_named or err), (1, "", True))
-    for words in ((), ("to-stix",), ("to-stix", "--hub", ""), ("to-iodef",), ("to-stix", "--hub", "h", "--now", "yesterday"), ("to-stix", "--hub", "h", "/nowhere")):
+    for words in ((), ("to-stix",), ("to-stix", "--hub", ""), ("to-iodef",), ("to-stix", "--hub", "h", "--now", "yesterday"),
+                  ("to-stix", "--hub", "h", "/nowhere")):
         status, out, err = run(*words)
         yield same(f"words: {words}", (status, out, "Traceback" in err, bool(err)), (2, "", False, True))
 
@@ -436,7 +461,8 @@ def of_command() -> Check:
     told = json.loads(run(*words, "--incident", "1", given=json.dumps(redacted).encode())[1])["objects"]
     ids = [{each["id"] for each in it if each["type"] in ("ipv4-addr", "observed-data", "report")} for it in (told, objects)]
     yield same("and has the same ids as the hub's answer", ids[0], ids[1])
-    yield same("another hub's are others", {each["id"] for each in made(value)} & {each["id"] for each in objects_of(Excerpt.of_answer(value, "b"), NOW)[0]}, set())
+    others, _ = objects_of(Excerpt.of_answer(value, "b"), NOW)
+    yield same("another hub's are others", {each["id"] for each in made(value)} & {each["id"] for each in others}, set())
     rows = run("table")[1].splitlines()
     yield same("the table counts its rows from memory", rows[-1].startswith(f"{len(rows) - 2} rows: "))
 

@@ -57,7 +57,8 @@ class Maker:
 
     def odd(self) -> str:
         """A text with what a pattern escapes."""
-        return self.chance.choice(["", "'", "\\", "\\'", "' OR file:name = '", "]", "é\u202e", '"', "\n"]) + self.needle() + self.chance.choice(["", "'", "\\"])
+        before = self.chance.choice(["", "'", "\\", "\\'", "' OR file:name = '", "]", "é\u202e", '"', "\n"])
+        return before + self.needle() + self.chance.choice(["", "'", "\\"])
 
     def node(self) -> Object:
         kind = self.chance.randrange(4)
@@ -98,7 +99,8 @@ class Maker:
         if kind == 0:
             types = ["domain-name", "file-path", "mutex", "email-subject", "http-user-agent", "windows-reg-key", "user-name", "atm"]
             wanted = self.chance.choice(types)
-            values = [f"{self.needle()}.example" if wanted == "domain-name" else self.odd().replace("\n", "") for _ in range(self.chance.randrange(1, 4))]
+            values = [f"{self.needle()}.example" if wanted == "domain-name" else self.odd().replace("\n", "")
+                      for _ in range(self.chance.randrange(1, 4))]
             return {"BulkObservable": {"type": wanted, "BulkObservableList": values}}
         if kind == 1:
             return {"FileData": {"File": [{"FileName": self.odd(), "HashData": {"scope": "file-contents", "Hash": [self.hash()]}}]}}
@@ -126,12 +128,15 @@ class Maker:
 
     def document(self) -> Object:
         incident: Object = {
-            "purpose": "reporting", "IncidentID": {"id": f"{self.needle()}", "name": "src.example"}, "GenerationTime": "2026-06-01T10:00:00Z",
-            "Description": [self.odd(), {"lang": "de", "value": self.odd()}], "Contact": [self.contact() for _ in range(self.chance.randrange(1, 3))],
+            "purpose": "reporting", "IncidentID": {"id": f"{self.needle()}", "name": "src.example"},
+            "GenerationTime": "2026-06-01T10:00:00Z",
+            "Description": [self.odd(), {"lang": "de", "value": self.odd()}],
+            "Contact": [self.contact() for _ in range(self.chance.randrange(1, 3))],
             "EventData": [self.event() for _ in range(self.chance.randrange(1, 3))],
             "Indicator": [self.indicator() for _ in range(self.chance.randrange(1, 4))],
             "AlternativeID": {"IncidentID": [{"id": self.needle(), "name": "other.example"}]},
-            "Method": [{"Reference": [{"URL": [f"https://{self.needle()}.example/"], "Description": [self.chance.choice(["CVE-2026-12345", self.needle()])]}]}],
+            "Method": [{"Reference": [{"URL": [f"https://{self.needle()}.example/"],
+                                       "Description": [self.chance.choice(["CVE-2026-12345", self.needle()])]}]}],
             "History": {"HistoryItem": [{"action": "other", "DateTime": "2026-06-01T10:00:00Z", "Description": [self.odd()]}]},
             "AdditionalData": [{"dtype": "string", "name": "note", "value": self.needle()}],
         }

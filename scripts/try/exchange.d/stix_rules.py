@@ -29,14 +29,16 @@ DOMAIN: dict[str, tuple[set[str], set[str]]] = {
 }
 OBSERVABLE: dict[str, tuple[set[str], set[str]]] = {
     "ipv4-addr": ({"value"}, {"resolves_to_refs", "belongs_to_refs"}), "ipv6-addr": ({"value"}, {"resolves_to_refs", "belongs_to_refs"}),
-    "domain-name": ({"value"}, {"resolves_to_refs"}), "url": ({"value"}, set()), "email-addr": ({"value"}, {"display_name", "belongs_to_ref"}),
+    "domain-name": ({"value"}, {"resolves_to_refs"}), "url": ({"value"}, set()),
+    "email-addr": ({"value"}, {"display_name", "belongs_to_ref"}),
     "mac-addr": ({"value"}, set()), "autonomous-system": ({"number"}, {"name", "rir"}), "mutex": ({"name"}, set()),
     "file": (set(), {"hashes", "name", "size"}), "windows-registry-key": (set(), {"key", "values"}),
     "user-account": (set(), {"user_id", "account_login"}), "email-message": ({"is_multipart"}, {"subject", "from_ref", "to_refs"}),
 }
 ONE_OF = {"file": {"hashes", "name"}, "windows-registry-key": {"key", "values"}, "user-account": {"user_id", "account_login"}}
 MOMENTS = {"created", "modified", "valid_from", "valid_until", "published", "first_observed", "last_observed"}
-TEXTS = {"name", "description", "content", "pattern", "value", "key", "user_id", "subject", "contact_information", "identity_class", "relationship_type"}
+TEXTS = {"name", "description", "content", "pattern", "value", "key", "user_id", "subject", "contact_information", "identity_class",
+         "relationship_type"}
 HASHES = {"MD5": 32, "SHA-1": 40, "SHA-256": 64, "SHA-512": 128}
 
 
@@ -91,7 +93,8 @@ def _of_marking(value: Object) -> Iterator[str]:
 
 def _of_members(value: Object, kind: str) -> Iterator[str]:
     must, may = DOMAIN.get(kind) or OBSERVABLE[kind]
-    common = COMMON if kind in DOMAIN else COMMON - {"created", "modified", "created_by_ref", "revoked", "labels", "confidence", "lang", "external_references"}
+    common = COMMON if kind in DOMAIN else COMMON - {"created", "modified", "created_by_ref", "revoked", "labels", "confidence", "lang",
+                                                     "external_references"}
     must = must | ({"created", "modified"} if kind in DOMAIN else set())
     yield from (f"{name} is missing" for name in sorted(must - set(value)))
     yield from (f"{name} isn't a property of it" for name in sorted(set(value) - must - may - common))
@@ -131,7 +134,8 @@ def moment_of(text: object) -> datetime.datetime | None:
 def _of_moments(value: Object) -> Iterator[str]:
     told = {name: moment_of(value[name]) for name in MOMENTS & set(value)}
     yield from (f"{name} isn't a timestamp: {value[name]}" for name, each in told.items() if each is None)
-    yield from (f"{name} has no milliseconds" for name in ("created", "modified") if name in value and not re.search(r"\.[0-9]{3,}Z", str(value[name])))
+    yield from (f"{name} has no milliseconds" for name in ("created", "modified") if name in value
+                and not re.search(r"\.[0-9]{3,}Z", str(value[name])))
     for first, last in (("created", "modified"), ("first_observed", "last_observed")):
         one, other = told.get(first), told.get(last)
         if one and other and one > other:

@@ -1,4 +1,5 @@
-"""Checks of iodef-hub-taxii: what each reader polls before and after each kind of change, versions, bad requests, what is kept and logged."""
+"""Checks of iodef-hub-taxii: what each reader polls before and after each kind of change, versions, bad requests, and what is kept and
+logged."""
 from __future__ import annotations
 
 import base64
@@ -132,15 +133,18 @@ class Trial:
         needles = {needle for each in now.values() for needle in each.needles}
         withheld = {needle for report in self.reports.values() for needle in report.labels} - needles
         found = reports.needles_in(list(whole.kept.values()))
-        yield same(f"{name}: there is something seen and something withheld", bool(needles) and (bool(withheld) or watch.reader == "source"))
+        yield same(f"{name}: there is something seen and something withheld",
+                   bool(needles) and (bool(withheld) or watch.reader == "source"))
         yield same(f"{name}: nothing withheld is in the collection", sorted(found - needles)[:5], [])
         ids = {each for it in now.values() for each in it.ids}
         self.ids |= ids
         turned = [each for each in alive if each not in ids]
         missing = [each for each in ids if each not in alive]
         # An object that was revoked before has another id; as many are there as are missing, and the six that each collection has.
-        yield same(f"{name}: each object that the hub's excerpts make is there", (len(missing), len(turned) - 6), (len(missing), len(missing)))
-        yield same(f"{name}: an id changes only after a revocation", [each for each in missing if not whole.kept.get(each, {}).get("revoked")
+        yield same(f"{name}: each object that the hub's excerpts make is there", (len(missing), len(turned) - 6),
+                   (len(missing), len(missing)))
+        yield same(f"{name}: an id changes only after a revocation",
+                   [each for each in missing if not whole.kept.get(each, {}).get("revoked")
                                                                      and each.partition("--")[0] in VERSIONED], [])
         yield same(f"{name}: the rules of STIX hold", faults_of(list(whole.kept.values()))[:5], [])
         yield same(f"{name}: a consumer that polls on has the same versions", _versions(watch.consumer), _versions(whole))
@@ -186,7 +190,8 @@ class Changes:
         assert status == 200 or json.loads(told)["code"] in ("S1", "S2"), (what, told)
 
     def _path(self, number: int) -> str:
-        """A class that has needles, of a report: the same for both phases. Of a grant, one whose label hides it from the grantee, if there is one."""
+        """A class that has needles, of a report: the same in all phases. Of a grant, one whose label hides it from the grantee, if there is
+        one."""
         if number not in self.paths:
             named = [each.path for each in self.trial.reports[number].classes if each.needles]
             person = GRANTEES.get(KINDS[number % len(KINDS)])
@@ -257,7 +262,8 @@ class Changes:
 
 
 GRANTEES = {"grant": "stranger", "grant to a person": "client", "an end": "member"}
-KINDS = ["none", "grant", "grant to a person", "an end", "gate", "gate of a class", "address an organisation", "address a person", "replace"]
+KINDS = ["none", "grant", "grant to a person", "an end", "gate", "gate of a class", "address an organisation", "address a person",
+         "replace"]
 
 
 def of_changes(trial: Trial) -> Check:
@@ -281,14 +287,16 @@ def of_changes(trial: Trial) -> Check:
     yield same("something was revoked", bool(revoked))
     again = [name for watch in trial.watches.values() for name in watch.consumer.kept if name not in trial.ids]
     yield same("and something that was is there again, by another id", len(again) > 6 * len(READERS))
-    (nothing,) = {each["id"] for watch in trial.watches.values() for each in watch.consumer.kept.values() if each.get("name") == "withdrawn" and
+    (nothing,) = {each["id"] for watch in trial.watches.values() for each in watch.consumer.kept.values()
+                  if each.get("name") == "withdrawn" and
                   each["type"] == "mutex"}
     yield same("and has nothing of a report", {json.dumps(_words(each), sort_keys=True) for each in revoked} - withdrawn(nothing), set())
 
 
 def _words(value: Object) -> Object:
     """An object that is revoked without its ids and moments."""
-    return {name: it for name, it in value.items() if name not in ("id", "created", "modified", "valid_from", "published", "first_observed", "last_observed")}
+    return {name: it for name, it in value.items() if name not in ("id", "created", "modified", "valid_from", "published",
+                                                                   "first_observed", "last_observed")}
 
 
 RED = ["marking-definition--e828b379-4e03-4974-9ac4-e53a884c97c1"]
@@ -300,7 +308,8 @@ def withdrawn(nothing: str) -> set[str]:
     return {json.dumps({**BARE, **each}, sort_keys=True) for each in (
         {"type": "identity", "name": "withdrawn"}, {"type": "vulnerability", "name": "withdrawn"},
         {"type": "indicator", "pattern": "[mutex:name = 'withdrawn']", "pattern_type": "stix"},
-        {"type": "note", "content": "withdrawn", "object_refs": [nothing]}, {"type": "report", "name": "withdrawn", "object_refs": [nothing]},
+        {"type": "note", "content": "withdrawn", "object_refs": [nothing]},
+        {"type": "report", "name": "withdrawn", "object_refs": [nothing]},
         {"type": "observed-data", "number_observed": 1, "object_refs": [nothing]},
         {"type": "relationship", "relationship_type": "related-to", "source_ref": nothing, "target_ref": nothing})}
 
@@ -342,8 +351,10 @@ def of_pages(trial: Trial) -> Check:
 
 HEAD = f"Accept: {MEDIA}\r\nAuthorization: Bearer key-member\r\n"
 BAD_FILTERS = ["limit=0", "limit=-1", "limit=x", "limit=", "limit=1.5", "limit=9999999999", "next=x", "next=-1", "next=", "added_after=x",
-               "added_after=2026-06-01", "added_after=2026-13-01T00:00:00Z", "added_after=2026-06-01T00:00:00", "added_after=2026-06-01T00:00:00%2B02:00",
-               "added_after=", "match[type]=A", "match[type]=", "match[id]=x", "match[id]=,", "match[version]=2026-06-01T00:00:00Z", "match[version]=new",
+               "added_after=2026-06-01", "added_after=2026-13-01T00:00:00Z", "added_after=2026-06-01T00:00:00",
+               "added_after=2026-06-01T00:00:00%2B02:00",
+               "added_after=", "match[type]=A", "match[type]=", "match[id]=x", "match[id]=,", "match[version]=2026-06-01T00:00:00Z",
+               "match[version]=new",
                "match[spec_version]=3", "foo=1", "match[foo]=1", "limit=1&limit=2", "limit", "=", "%", "%ff=1", "limit=%ff", "a" * 2049]
 
 
@@ -368,22 +379,30 @@ def bad_heads(collection: str) -> Iterator[tuple[str, bytes, int, str]]:
     yield "no key", get(objects, f"Accept: {MEDIA}\r\n"), 401, "KeyMissing"
     for what, told in (("an unknown key", "Bearer nobody"), ("another scheme", "Digest key-member"), ("Basic without base64", "Basic ***"),
                        ("Basic without a password", "Basic " + base64.b64encode(b"key-member").decode()), ("an empty key", "Bearer "),
-                       ("a key too long", "Bearer " + "k" * 129), ("a key with a space", "Bearer key member"), ("only the scheme", "Bearer")):
-        yield what, get(objects, f"Accept: {MEDIA}\r\nAuthorization: {told}\r\n"), 401, "KeyUnknown" if what == "an unknown key" else "KeyMissing"
+                       ("a key too long", "Bearer " + "k" * 129), ("a key with a space", "Bearer key member"),
+                       ("only the scheme", "Bearer")):
+        code = "KeyUnknown" if what == "an unknown key" else "KeyMissing"
+        yield what, get(objects, f"Accept: {MEDIA}\r\nAuthorization: {told}\r\n"), 401, code
     for each in ("application/json", "application/taxii+json;version=2.0", "text/html", "application/stix+json;version=2.1", ";;;,,"):
         yield f"Accept {each}", get(objects, f"Accept: {each}\r\nAuthorization: Bearer key-member\r\n"), 406, "NotAcceptable"
-    for path in ("/", "/taxii2x/", "/taxii2/other/", "/taxii2/hub/x/", "/taxii2/hub/collections/x/", "/taxii2/hub//collections/", f"{collection}x/",
-                 f"{objects}x/", f"{objects}indicator--00000000-0000-4000-8000-000000000000/", f"{objects}a/versions/b/", "/taxii2/hub/status/1/",
+    for path in ("/", "/taxii2x/", "/taxii2/other/", "/taxii2/hub/x/", "/taxii2/hub/collections/x/", "/taxii2/hub//collections/",
+                 f"{collection}x/",
+                 f"{objects}x/", f"{objects}indicator--00000000-0000-4000-8000-000000000000/", f"{objects}a/versions/b/",
+                 "/taxii2/hub/status/1/",
                  f"{objects}../../", "/taxii2/hub/collections/00000000-0000-4000-8000-000000000000/objects/", f"{objects}%00/"):
         yield path[-60:], get(path), 404, ""
     for method in ("POST", "DELETE", "PUT", "PATCH", "OPTIONS"):
         yield method, get(objects, HEAD + "Content-Length: 0\r\n", method), 405, "OnlyReading"
     yield "a body", get(objects, HEAD + "Content-Length: 5\r\n") + b"hello", 400, "HasBody"
     yield "a chunked body", get(objects, HEAD + "Transfer-Encoding: chunked\r\n"), 400, "HasBody"
-    for what, head in (("no HTTP", b"hello\r\n\r\n"), ("HTTP/0.9", b"GET /taxii2/\r\n\r\n"), ("HTTP/2", get("/taxii2/", version="HTTP/2.0")),
-                       ("TLS", bytes.fromhex("16030100050100000100") + b"\r\n\r\n"), ("an address", get("http://x/taxii2/")), ("small letters", get("/taxii2/", method="get")),
-                       ("two keys", get(objects, HEAD + "Authorization: Bearer key-source\r\n")), ("a folded line", get(objects, HEAD + " x\r\n")),
-                       ("a field without a colon", get(objects, HEAD + "x\r\n")), ("bytes beyond ASCII", get(objects, HEAD + "X: \xff\r\n")),
+    for what, head in (("no HTTP", b"hello\r\n\r\n"), ("HTTP/0.9", b"GET /taxii2/\r\n\r\n"),
+                       ("HTTP/2", get("/taxii2/", version="HTTP/2.0")),
+                       ("TLS", bytes.fromhex("16030100050100000100") + b"\r\n\r\n"), ("an address", get("http://x/taxii2/")),
+                       ("small letters", get("/taxii2/", method="get")),
+                       ("two keys", get(objects, HEAD + "Authorization: Bearer key-source\r\n")),
+                       ("a folded line", get(objects, HEAD + " x\r\n")),
+                       ("a field without a colon", get(objects, HEAD + "x\r\n")),
+                       ("bytes beyond ASCII", get(objects, HEAD + "X: \xff\r\n")),
                        ("a zero", get(objects, HEAD + "X: \0\r\n")), ("a bare line feed", get(objects, HEAD + "X: a\nY: b\r\n"))):
         yield what, head, 400, "BadHead"
     yield "a long head", get(objects, HEAD + f"X: {'x' * 9000}\r\n"), 431, "HeadTooLong"
@@ -499,7 +518,8 @@ def of_command(context: Context) -> Check:
     words = {"--hub": "http://127.0.0.1:1", "--name": NAME, "--state": str(context.folder / "other.db"), "--port": str(next(context.ports))}
     text = context.folder / "text.db"
     text.write_text("no database, but a text that is as long as one would be" * 100)
-    for what, changed, wanted in (("no such folder", {"--state": "/nowhere/state.db"}, 1), ("a file that is none", {"--state": str(text)}, 1),
+    for what, changed, wanted in (("no such folder", {"--state": "/nowhere/state.db"}, 1),
+                                  ("a file that is none", {"--state": str(text)}, 1),
                                   ("plain HTTP", {"--hub": "http://hub.example.org"}, 2), ("no port", {"--port": "0"}, 2),
                                   ("no seconds", {"--look": "x"}, 2), ("names that aren't there", {"--names": "/nowhere"}, 2)):
         given = [each for pair in {**words, **changed}.items() for each in pair]

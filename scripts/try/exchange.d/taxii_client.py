@@ -131,7 +131,8 @@ class Client:
         for part in self.parts(f"{collection}manifest/", **filters):
             for each in part.objects:
                 want({"id", "date_added", "version"} <= set(each), "an entry of a manifest lacks something")
-                want(bool(MOMENT.fullmatch(each["date_added"])) and bool(MOMENT.fullmatch(each["version"])), "a moment of a manifest isn't one")
+                want(bool(MOMENT.fullmatch(each["date_added"])) and bool(MOMENT.fullmatch(each["version"])),
+                     "a moment of a manifest isn't one")
                 found.append(each)
         want([each["date_added"] for each in found] == sorted(each["date_added"] for each in found), "a manifest isn't in order")
         return found
