@@ -11,7 +11,7 @@ from .serving import Answer, Refusal, Request, Service, log, refusal_of
 
 LONGEST_HEAD, MOST_FIELDS = 8192, 64
 HEAD_SECONDS, SEND_SECONDS = 15.0, 60.0
-MOST_CONNECTIONS = 64
+MOST_CONNECTIONS = 32
 REASONS = {
     200: "OK", 400: "Bad Request", 401: "Unauthorized", 404: "Not Found", 405: "Method Not Allowed", 406: "Not Acceptable",
     408: "Request Timeout", 414: "URI Too Long", 431: "Request Header Fields Too Large", 500: "Internal Server Error",

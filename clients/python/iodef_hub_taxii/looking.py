@@ -1,13 +1,14 @@
 """Reading a hub for one key: what is listed, and each excerpt, one request at a time with pauses, so that the hub serves others between."""
 from __future__ import annotations
 
+import contextlib
 import hashlib
 import hmac
 import json
 import threading
 import time
 from collections import deque
-from collections.abc import Callable, Mapping
+from collections.abc import Callable, Iterator, Mapping
 from dataclasses import dataclass
 from typing import Any, TypeVar
 
@@ -21,7 +22,8 @@ from .store import Store
 FORM = b"1"  # of the objects that are made: another form is another content
 LONGEST_EXCERPT = 4 * 1024 * 1024  # bytes of an answer; the hub's own limit of a report is 256 KiB
 PAGE = 100
-MOST_FRESH = 4
+MOST_FRESH = 2
+ROOM = 4  # excerpts in hand at once, of all requests
 T = TypeVar("T")
 Object = dict[str, Any]
 
@@ -36,8 +38,19 @@ class Turns:
     def __init__(self, pause: float, patience: float) -> None:
         self._pause, self._patience = pause, patience
         self._waiting: deque[object] = deque()
+        self._room = threading.BoundedSemaphore(ROOM)
         self._change = threading.Condition()
         self.asked = 0
+
+    @contextlib.contextmanager
+    def room(self) -> Iterator[None]:
+        """Room for an excerpt, which may be large."""
+        if not self._room.acquire(timeout=self._patience):
+            raise Busy
+        try:
+            yield
+        finally:
+            self._room.release()
 
     def __call__(self, ask: Callable[[], T]) -> T:
         ticket = object()
@@ -60,8 +73,8 @@ class Turns:
 
 @dataclass(frozen=True)
 class Settings:
-    """`name` is the hub's, of which ids are made; `look_seconds` is how long a poll may read before it answers; an excerpt that was read
-    within `again_seconds` isn't read again by a further poll."""
+    """`name` is the hub's, of which ids are made; `look_seconds` is how long a request may read before it answers, with `more` if it has
+    not read all; an excerpt that was read within `again_seconds` before a poll isn't read again."""
 
     url: str
     name: str
@@ -88,17 +101,13 @@ class Reader:
         self._fresh: dict[int, list[Object]] = {}  # the objects of the last few excerpts that were read for this request
         self.unfit = 0
 
-    def look(self) -> None:
-        """Lists what the hub shows, and reads what is due, for as long as a poll may."""
+    def look(self, before: int, is_first: bool) -> None:
+        """Reads what was read last before a moment, in milliseconds, for as long as a request may; at first it lists what the hub shows."""
         deadline = time.monotonic() + self._settings.look_seconds
         self._store.greet(self.number)
-        self._store.listed(self.number, self._listed())
-        self.read_due(deadline, time.time_ns() // 1_000_000 - round(self._settings.again_seconds * 1000))
-
-    def go_on(self) -> None:
-        """Reads what was listed and not yet read."""
-        self._store.greet(self.number)
-        self.read_due(time.monotonic() + self._settings.look_seconds, 1)
+        if is_first:
+            self._store.listed(self.number, self._listed())
+        self._read_due(deadline, before)
 
     def _listed(self) -> dict[int, int]:
         found: dict[int, int] = {}
@@ -110,7 +119,7 @@ class Reader:
                 return found
             after = page[-1].number
 
-    def read_due(self, deadline: float, before: int) -> None:
+    def _read_due(self, deadline: float, before: int) -> None:
         while time.monotonic() < deadline and (due := self._store.due(self.number, before, PAGE)):
             for number in due:
                 if time.monotonic() >= deadline:
@@ -127,17 +136,16 @@ class Reader:
 
     def _note(self, number: int, keep: bool) -> list[Object]:
         """Reads an excerpt, and notes a new version if its content is another one than before. Returns its objects, if they are kept."""
-        excerpt = self._excerpt(number)
-        if excerpt is None:
-            self._store.hide(self.number, number)
-            return []
-        try:
-            self._note_content(excerpt, number)
-            return self._served(excerpt, number) if keep else []
-        except (Unfit, UnicodeError, RecursionError):
-            self.unfit += 1
-            self._store.hide(self.number, number)
-            return []
+        with self._turns.room():
+            excerpt = self._excerpt(number)
+            try:
+                if excerpt is not None:
+                    self._note_content(excerpt, number)
+                    return self._served(excerpt, number) if keep else []
+            except (Unfit, UnicodeError, RecursionError):
+                self.unfit += 1
+        self._store.hide(self.number, number)
+        return []
 
     def _note_content(self, excerpt: Excerpt, number: int) -> None:
         kept = self._store.kept(self.number, number)

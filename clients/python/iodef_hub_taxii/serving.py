@@ -8,6 +8,7 @@ import json
 import re
 import sys
 import threading
+import time
 import urllib.parse
 import uuid
 from collections.abc import Callable, Mapping
@@ -128,13 +129,26 @@ def _words(filters: Mapping[str, str], name: str, form: re.Pattern[str]) -> froz
     return frozenset(words)
 
 
-def wanted_of(filters: Mapping[str, str]) -> tuple[Wanted, int]:
-    """Which objects are asked for, and how many."""
+@dataclass(frozen=True)
+class Asked:
+    """Which objects are asked for, and how many; and before which moment, in milliseconds, what was read last is read again. A further page
+    has the moment of its first one."""
+
+    wanted: Wanted
+    count: int
+    before: int
+    is_first: bool
+
+
+def asked_of(filters: Mapping[str, str], again_seconds: float) -> Asked:
     after = moment_of(filters["added_after"]) if "added_after" in filters else -1
+    now = time.time_ns() // 1_000_000
+    before = now - round(again_seconds * 1000)
     if "next" in filters:
-        if not re.fullmatch("[0-9]{1,18}", filters["next"]):
+        told = re.fullmatch("([0-9]{1,18})-([0-9]{1,14})", filters["next"])
+        if told is None:
             raise Refusal(400, "BadNext", "next isn't one that was served")
-        after = max(after, int(filters["next"]))
+        after, before = max(after, int(told[1])), min(int(told[2]), now)
     if not re.fullmatch("[1-9][0-9]{0,8}", filters.get("limit", "1")):
         raise Refusal(400, "BadLimit", "limit isn't a whole number from 1 on")
     count = min(int(filters.get("limit", MOST_OBJECTS)), MOST_OBJECTS)
@@ -143,7 +157,8 @@ def wanted_of(filters: Mapping[str, str]) -> tuple[Wanted, int]:
     specs = _words(filters, "match[spec_version]", re.compile(r"2\.[01]"))
     if versions is not None and not versions & {"first", "last", "all"}:
         raise Refusal(400, "BadMatch", "match[version] is first, last or all, as only the last version is kept")
-    return Wanted(after, frozenset() if specs is not None and "2.1" not in specs else types, ids), count
+    types = frozenset() if specs is not None and "2.1" not in specs else types
+    return Asked(Wanted(after, types, ids), count, before, "next" not in filters)
 
 
 # The service
@@ -154,7 +169,7 @@ class Service:
 
     def __init__(self, settings: Settings, store: Store, turns: Turns, title: str) -> None:
         self.settings, self.store, self.turns, self.title = settings, store, turns, title
-        self._looking: set[int] = set()
+        self._looking: dict[int, threading.Lock] = {}
         self._lock = threading.Lock()
         self.counts = {"requests_total": 0, "refused_total": 0, "failed_total": 0, "objects_total": 0, "unfit_total": 0}
 
@@ -238,43 +253,35 @@ class Service:
 
     def _page(self, request: Request, reader: Reader, steps: list[str]) -> tuple[Page, dict[str, Any], dict[str, str]]:
         """A page, the members that tell of further ones, and the fields of when its objects were added."""
-        filters = filters_of(request.query, FILTERS)
-        wanted, count = wanted_of(filters)
-        if len(steps) > 3:
+        asked = asked_of(filters_of(request.query, FILTERS), self.settings.again_seconds)
+        wanted, is_single = asked.wanted, len(steps) > 3
+        if is_single:
             wanted = Wanted(wanted.after, wanted.types, frozenset([steps[3]]))
-        self._look(reader, wanted, count, "next" in filters, len(steps) > 3)
-        page = Collection(self.store, reader).page(wanted, count)
+            self.store.greet(reader.number)
+        elif asked.is_first or len(self.store.rows(reader.number, wanted, asked.count)) < asked.count:
+            self._look(reader, asked)
+        page = Collection(self.store, reader).page(wanted, asked.count)
         self.count("unfit_total", reader.unfit)
         self.count("objects_total", len(page.entries))
         further = page.next
-        if further is None and len(steps) <= 3 and self.store.unread(reader.number):
+        if further is None and not is_single and self.store.due(reader.number, asked.before, 1):
             further = moment_of(page.entries[-1].added) if page.entries else max(wanted.after, 0)
-        told: dict[str, Any] = {"more": further is not None, **({"next": str(further)} if further is not None else {})}
+        told: dict[str, Any] = {"more": False} if further is None else {"more": True, "next": f"{further}-{asked.before}"}
         added = [each.added for each in page.entries]
         fields = {"X-TAXII-Date-Added-First": added[0], "X-TAXII-Date-Added-Last": added[-1]} if added else {}
         return page, told, fields
 
-    def _look(self, reader: Reader, wanted: Wanted, count: int, is_further: bool, is_single: bool) -> None:
-        """Reads the hub before a page, unless another poll of the same reader does, or a further page is full."""
-        if is_single:
-            self.store.greet(reader.number)
-            return
-        if is_further and (len(self.store.rows(reader.number, wanted, count)) == count or not self.store.unread(reader.number)):
-            return
+    def _look(self, reader: Reader, asked: Asked) -> None:
+        """Reads the hub before a page. While another request of the same reader does, this one waits for it."""
         with self._lock:
-            is_first = reader.number not in self._looking
-            self._looking.add(reader.number)
-        if not is_first:
+            looking = self._looking.setdefault(reader.number, threading.Lock())
+        if looking.acquire(timeout=self.settings.look_seconds):
+            try:
+                reader.look(asked.before, asked.is_first)
+            finally:
+                looking.release()
+        else:
             self.store.greet(reader.number)
-            return
-        try:
-            if is_further:
-                reader.go_on()
-            else:
-                reader.look()
-        finally:
-            with self._lock:
-                self._looking.discard(reader.number)
 
     def _objects(self, request: Request, reader: Reader, steps: list[str]) -> Answer:
         page, told, fields = self._page(request, reader, steps)

@@ -146,10 +146,6 @@ class Store:
                                      "LIMIT ?", (reader, before, count))
             return [number for number, in found]
 
-    def unread(self, reader: int) -> bool:
-        """Whether the hub has listed an incident that wasn't read since."""
-        return bool(self.due(reader, 1, 1))
-
     def kept(self, reader: int, incident: int) -> Kept | None:
         with self._lock:
             told = self._db.execute(f"SELECT created, modified, answer, content FROM excerpt {OF_ONE}", (reader, incident)).fetchone()

@@ -32,9 +32,10 @@ this key first saw this content. So a grant, a gate, a new address, or an end th
 What is seen no more is served once more: `revoked`, with fixed words. Consumers keep what they have, and what they do with it then is
 theirs. If it is seen again it gets a new id, as no version follows a revocation.
 
-A poll lists what the hub shows, and reads what is new or has another revision first, then the excerpts that were read the longest ago,
-for --look seconds at most; the next poll goes on. Requests to the hub follow one another, each with a pause as long as it took, so half
-of the hub's time is left to others. If --look isn't enough, a change without a new revision is seen by a later poll.
+A poll lists what the hub shows, and reads all excerpts again: what is new or has another revision first, then what was read the longest
+ago. A request reads for --look seconds at most; then it answers with `more`, and the next page goes on. So a change is seen by the first
+poll behind it whose pages are all taken. Requests to the hub follow one another, each with a pause as long as it took, so half of the
+hub's time is left to others.
 
 The file of state has ids, times, and HMACs by the keys; no content. But an id is made of a value, so whoever reads the file can try out
 values: it is for the service's user alone. It grows with the objects that keys ever saw. Without it all is new, with the first ids, also
@@ -76,9 +77,9 @@ def words() -> argparse.ArgumentParser:
     parser.add_argument("--names", default=os.environ.get("IODEF_HUB_NAMES", ""), metavar="FILE",
                         help="a file of iodef-hub-directory --names, for the sources' names (default: IODEF_HUB_NAMES)")
     parser.add_argument("--look", type=_seconds, default=20.0, metavar="SECONDS",
-                        help="how long a poll may read before it answers (default: 20)")
+                        help="how long a request may read before it answers (default: 20)")
     parser.add_argument("--again", type=_seconds, default=60.0, metavar="SECONDS",
-                        help="an excerpt that was read within this time isn't read again for a list (default: 60)")
+                        help="an excerpt that was read within this time before a poll isn't read again (default: 60)")
     parser.add_argument("--pause", type=_seconds, default=0.002, metavar="SECONDS",
                         help="the least pause between requests to the hub (default: 0.002)")
     parser.epilog = (f"A page has at most {MOST_OBJECTS} objects. Exit status: 0 ended by a signal; "

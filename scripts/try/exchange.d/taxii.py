@@ -104,7 +104,7 @@ class Trial:
         self.chance = random.Random(context.seed)
         self.count = min(context.count, REPORTS)
         self.hub = reports.circle(context.program, context.folder, next(context.ports))
-        self.service = Service(context.folder, self.hub.port, next(context.ports), "--again", "0", "--look", "60")
+        self.service = Service(context.folder, self.hub.port, next(context.ports), "--again", "0", "--look", "5")
         self.service.start()
         self.reports: dict[int, reports.Report] = {}
         self.watches: dict[str, Watch] = {}
@@ -350,7 +350,7 @@ def of_pages(trial: Trial) -> Check:
 # Bad requests
 
 HEAD = f"Accept: {MEDIA}\r\nAuthorization: Bearer key-member\r\n"
-BAD_FILTERS = ["limit=0", "limit=-1", "limit=x", "limit=", "limit=1.5", "limit=9999999999", "next=x", "next=-1", "next=", "added_after=x",
+BAD_FILTERS = ["next=1", "next=1-", "limit=0", "limit=-1", "limit=x", "limit=", "limit=1.5", "limit=9999999999", "next=x", "next=-1", "next=", "added_after=x",
                "added_after=2026-06-01", "added_after=2026-13-01T00:00:00Z", "added_after=2026-06-01T00:00:00",
                "added_after=2026-06-01T00:00:00%2B02:00",
                "added_after=", "match[type]=A", "match[type]=", "match[id]=x", "match[id]=,", "match[version]=2026-06-01T00:00:00Z",
@@ -434,7 +434,7 @@ def of_bad(trial: Trial) -> Check:
 
 def of_room(trial: Trial) -> Check:
     """More connections than there is room for."""
-    open_ones = [socket.create_connection(("127.0.0.1", trial.service.port), timeout=60) for _ in range(64)]
+    open_ones = [socket.create_connection(("127.0.0.1", trial.service.port), timeout=60) for _ in range(32)]
     try:
         time.sleep(0.5)
         yield same("one connection too many is turned away", bytes_asked(trial.service.port, b"")[0], 503)
