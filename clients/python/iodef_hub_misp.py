@@ -23,8 +23,10 @@ from collections.abc import Iterator, Sequence
 from dataclasses import dataclass, field, replace
 from typing import Any, Union
 
-from iodef_hub_ask.characters import shown
-from iodef_hub_ask.limits import MOST_BYTES, MOST_GATES, MOST_LINES, lines_of
+sys.path.append("/usr/share/iodef-hub/client")  # where the Debian package has the modules
+
+from iodef_hub_ask.characters import shown  # noqa: E402
+from iodef_hub_ask.limits import MOST_BYTES, MOST_GATES, MOST_LINES, lines_of  # noqa: E402
 
 LAST_NUMBER = 2**32 - 1
 LONGEST_INPUT = 64 * 1024 * 1024

@@ -5,8 +5,10 @@ import base64
 import contextlib
 import io
 import json
+import os
 import pathlib
 import re
+import shutil
 import socket
 import subprocess
 import sys
@@ -21,7 +23,8 @@ from iodef_hub_xml.table import MEMORY, rows
 from . import xml_generated as generated
 from .context import Context, same
 
-COMMAND = TOP / "clients" / "python" / "iodef-hub-xml"
+CLIENTS = TOP / "clients" / "python"
+COMMAND = CLIENTS / "iodef-hub-xml"
 IODEF = "urn:ietf:params:xml:ns:iodef-2.0"
 DS, ENUM, SCI = "http://www.w3.org/2000/09/xmldsig#", "urn:ietf:params:xml:ns:iodef-enum-1.0", "urn:ietf:params:xml:ns:iodef-sci-1.0"
 SHA256 = "http://www.w3.org/2001/04/xmlenc#sha256"
@@ -319,9 +322,22 @@ def words() -> Iterator[tuple[bool, str]]:
     yield same("a full disk", (ran.returncode, b"Traceback" in ran.stderr), (2, False))
 
 
+def packaged(folder: pathlib.Path) -> Iterator[tuple[bool, str]]:
+    """The commands as the Debian package has them: each alone in a folder, with the modules in another one."""
+    (folder / "bin").mkdir(parents=True)
+    for name in ("iodef_hub_ask", "iodef_hub_xml"):
+        shutil.copytree(CLIENTS / name, folder / "client" / name)
+    shutil.copy(CLIENTS / "iodef_hub.py", folder / "client")
+    for name, source in (("iodef-hub-ask", "iodef-hub-ask"), ("iodef-hub-misp", "iodef_hub_misp.py"), ("iodef-hub-xml", "iodef-hub-xml")):
+        file = folder / "bin" / name
+        file.write_text((CLIENTS / source).read_text().replace("/usr/share/iodef-hub/client", str(folder / "client")))
+        ran = subprocess.run([sys.executable, file, "--help"], env={"PATH": os.environ["PATH"]}, cwd=folder, capture_output=True)
+        yield same(f"{name} runs where the package has it", (ran.returncode, ran.stderr), (0, b""))
+
+
 def of_misp() -> Iterator[tuple[bool, str]]:
     """What the bridge to MISP writes is the same behind XML, but for labels that XML can't hold."""
-    folder = TOP / "clients" / "python" / "examples"
+    folder = CLIENTS / "examples"
     mapping = misp.Mapping.read((folder / "map.json").read_bytes())
     for name, fault in (("types", ""), ("objects", "LabelNotHeld: IndicatorExpression has no label in XML"), ("hostile", "BadCharacter: XML has no character U+001B")):
         with contextlib.redirect_stderr(io.StringIO()):
@@ -340,4 +356,5 @@ def checks(context: Context) -> Iterator[tuple[bool, str]]:
     yield from limits()
     yield from schemas(context)
     yield from words()
+    yield from packaged(context.folder / "package")
     yield from of_misp()
