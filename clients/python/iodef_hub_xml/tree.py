@@ -11,7 +11,7 @@ from .documents import DEEPEST, too_long
 from .faults import Missing, Notes, Unfit
 from .table import IODEF, PREFIXES, XML
 
-MOST_NODES = 200_000  # elements, attributes and processing instructions of an input, with those inside its values
+MOST_NODES = 100_000  # elements, attributes and processing instructions of an input, with those inside its values
 MOST_PREFIXES, MOST_PREFIXES_AT_ONCE = 5_000, 100
 NOT_IN_XML = re.compile("[^\t\n\r\x20-\ud7ff\ue000-\ufffd\U00010000-\U0010ffff]")
 PREFIXED = re.compile(r"[^\W\d][\w.-]*(?=:)")
