@@ -65,7 +65,7 @@ FROM = [
     (r"usr/share/doc/iodef-hub/examples/(receipts/.*)", r"deploy/\1"),
     (r"usr/share/doc/iodef-hub/examples/(alerts\.yml)", r"deploy/monitoring/\1"),
     (r"usr/share/doc/iodef-hub/examples/(mail-news)", r"clients/python/examples/\1"),
-    (r"usr/share/man/man1/(iodef-hub-(?:ask|misp)\.1)\.gz", r"clients/python/\1"),
+    (r"usr/share/man/man1/(iodef-hub-(?:ask|misp|xml)\.1)\.gz", r"clients/python/\1"),
     (r"usr/include/(iodef_redact\.h)", r"clients/c/\1"),
     (r"usr/lib/[\w-]+/pkgconfig/(iodef_redact\.pc)", r"clients/c/\1"),
     (r"usr/lib/python3/dist-packages/(iodef_redact\.py)", r"clients/python/\1"),

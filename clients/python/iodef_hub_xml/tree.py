@@ -122,10 +122,7 @@ def read(text: bytes, notes: Notes, budget: Budget, place: str = "") -> Node:
 def read_content(text: str, notes: Notes, budget: Budget, place: str) -> list[Union[str, Node]]:
     """The texts and elements of a value that is the content of an element."""
     inner = PROLOG.sub("", text, 1)
-    try:
-        return read(f"<content>{inner}</content>".encode(), notes, budget, place).content
-    except UnicodeEncodeError:
-        raise Unfit("BadCharacter", "the text has half a character", place) from None
+    return read(f"<content>{inner}</content>".encode(), notes, budget, place).content
 
 
 def split(name: str) -> tuple[str, str]:
