@@ -11,7 +11,7 @@ from .documents import DEEPEST, too_long
 from .faults import Missing, Notes, Unfit
 from .table import IODEF, PREFIXES, XML
 
-MOST_NODES = 200_000  # elements, attributes and processing instructions of an input, with those inside its values
+MOST_NODES = 100_000  # elements, attributes and processing instructions of an input, with those inside its values
 MOST_PREFIXES, MOST_PREFIXES_AT_ONCE = 5_000, 100
 NOT_IN_XML = re.compile("[^\t\n\r\x20-\ud7ff\ue000-\ufffd\U00010000-\U0010ffff]")
 PREFIXED = re.compile(r"[^\W\d][\w.-]*(?=:)")
@@ -122,10 +122,7 @@ def read(text: bytes, notes: Notes, budget: Budget, place: str = "") -> Node:
 def read_content(text: str, notes: Notes, budget: Budget, place: str) -> list[Union[str, Node]]:
     """The texts and elements of a value that is the content of an element."""
     inner = PROLOG.sub("", text, 1)
-    try:
-        return read(f"<content>{inner}</content>".encode(), notes, budget, place).content
-    except UnicodeEncodeError:
-        raise Unfit("BadCharacter", "the text has half a character", place) from None
+    return read(f"<content>{inner}</content>".encode(), notes, budget, place).content
 
 
 def split(name: str) -> tuple[str, str]:

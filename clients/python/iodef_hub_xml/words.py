@@ -62,7 +62,8 @@ WAYS = {"to-json": converted_to_json, "to-xml": converted_to_xml}
 
 
 def words() -> argparse.ArgumentParser:
-    parser = argparse.ArgumentParser(prog="iodef-hub-xml", description="IODEF reports in XML (RFC 7970) to JSON (RFC 8727) for iodef-hub, and back.")
+    what = "IODEF reports in XML (RFC 7970) to JSON (RFC 8727) for iodef-hub, and back."
+    parser = argparse.ArgumentParser(prog="iodef-hub-xml", description=what)
     ways = parser.add_subparsers(dest="way", required=True, metavar="to-json|to-xml|table")
     there = ways.add_parser("to-json", help="the report in JSON for a document in XML")
     back = ways.add_parser("to-xml", help="the document in XML for a report in JSON, or for what iodef-hub-ask --json show prints")

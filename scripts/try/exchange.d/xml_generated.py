@@ -17,8 +17,24 @@ from iodef_hub_xml.table import CLASSES, IODEF, PREFIXES, ROOT, Class, Row
 # `n12n` in texts, 5000000012 as a number.
 NEEDLE = re.compile(r"n[0-9]+n|5[0-9]{9}")
 NUMBERS = 5_000_000_000
-EXTENDED = ("TLP:AMBER", "tlp:clear", "TLP:GREEN", "campus only", "TLP:AMBER+STRICT", "a \"b\" & <c>\t\n")
-TEXTS = ("", " ", "\n", "\t", "\r\n", "&<>\"'", "]]>", "ä€", "\u2028", "\U0001f600", "\ue000", "<!-- no comment -->", "  two spaces  ", "%en;", "{}")
+EXTENDED = ("TLP:AMBER", "tlp:clear", "TLP:GREEN", "campus only", "TLP:AMBER+STRICT", 'a "b" & <c>\t\n')
+TEXTS = (
+    "",
+    " ",
+    "\n",
+    "\t",
+    "\r\n",
+    "&<>\"'",
+    "]]>",
+    "ä€",
+    "\u2028",
+    "\U0001f600",
+    "\ue000",
+    "<!-- no comment -->",
+    "  two spaces  ",
+    "%en;",
+    "{}",
+)
 FOREIGN = ("urn:example:one", "urn:example:two", "", IODEF, PREFIXES["ds"])
 
 
@@ -39,14 +55,16 @@ class Maker:
     def value(self, kind: str) -> str:
         if kind == "number":
             self.count += 1
-            return self.chance.choice((f"{NUMBERS + self.count}", f"{NUMBERS + self.count}.50", f"+{NUMBERS + self.count}", f"0{NUMBERS + self.count}"))
+            return self.chance.choice(
+                (f"{NUMBERS + self.count}", f"{NUMBERS + self.count}.50", f"+{NUMBERS + self.count}", f"0{NUMBERS + self.count}")
+            )
         if kind == "lines":
             return "\n".join(self.needle() for _ in range(self.chance.randint(1, 4)))
         return self.needle() if kind == "token" else self.text()
 
     def report(self) -> ElementTree.Element:
         root = self.element(f"{{{IODEF}}}{ROOT}", CLASSES[ROOT], 0)
-        for each in root.findall(f"{{{IODEF}}}Incident")[1 if self.is_whole else 3:]:
+        for each in root.findall(f"{{{IODEF}}}Incident")[1 if self.is_whole else 3 :]:
             root.remove(each)
         if self.is_whole and root.find(f"{{{IODEF}}}Incident") is None:
             root.append(self.element(f"{{{IODEF}}}Incident", CLASSES["Incident"], 1))

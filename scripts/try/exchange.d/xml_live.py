@@ -26,7 +26,17 @@ ADMIN, SOURCE = "admin-key", "key-2"
 # Who reads, with the strictest label that its clearance reaches: a community with the source is GREEN, a stranger CLEAR.
 READERS = {"key-3": 1, "key-4": 0}
 CLEAR, GREEN, AMBER, STRICT, RED = range(5)
-HANDLINGS = {"public": CLEAR, "white": CLEAR, "partner": GREEN, "green": GREEN, "need-to-know": STRICT, "amber": STRICT, "private": RED, "red": RED, "default": RED}
+HANDLINGS = {
+    "public": CLEAR,
+    "white": CLEAR,
+    "partner": GREEN,
+    "green": GREEN,
+    "need-to-know": STRICT,
+    "amber": STRICT,
+    "private": RED,
+    "red": RED,
+    "default": RED,
+}
 EXTENDED = {"TLP:CLEAR": CLEAR, "TLP:WHITE": CLEAR, "TLP:GREEN": GREEN, "TLP:AMBER": AMBER, "TLP:AMBER+STRICT": STRICT, "TLP:RED": RED}
 
 
@@ -61,7 +71,11 @@ def places(value: Any, path: str, handling: int) -> Iterator[tuple[str, int, dic
 
 def needles_of(value: dict[str, Any]) -> set[str]:
     """Those that a class has directly."""
-    plain = {member: [one for one in each if not isinstance(one, dict)] if isinstance(each, list) else each for member, each in value.items() if not isinstance(each, dict)}
+    plain = {
+        member: [one for one in each if not isinstance(one, dict)] if isinstance(each, list) else each
+        for member, each in value.items()
+        if not isinstance(each, dict)
+    }
     return {needle for needle, _ in generated.labels_in_json(plain)}
 
 
@@ -115,12 +129,17 @@ def generated_reports(hub: Hub, context: Context) -> Iterator[tuple[bool, str]]:
             fault, more, less = difference(hub, key, incident, document, gate)
             seen, withheld = seen + more, withheld + less
             faults += [f"report {number} for {key}: {fault}"] if fault else []
-    yield same(f"of {min(REPORTS, context.count)} reports the XML of {len(READERS)} readers has the {seen} values that the policy shows, and none of the {withheld} others",
-               (faults[:5], seen > 0, withheld > 0), ([], True, True))
+    yield same(
+        f"of {min(REPORTS, context.count)} reports the XML of {len(READERS)} readers has the {seen} values that the policy shows, "
+        f"and none of the {withheld} others",
+        (faults[:5], seen > 0, withheld > 0),
+        ([], True, True),
+    )
 
 
 def by_commands(hub: Hub, folder: pathlib.Path) -> Iterator[tuple[bool, str]]:
     """An example from XML to the hub and to another organisation's XML, by commands alone."""
+
     def ask(key: str, *words: str, given: bytes = b"") -> tuple[int, bytes]:
         room = {**os.environ, "IODEF_HUB_URL": f"http://127.0.0.1:{hub.port}", "IODEF_HUB_KEY": key, "XDG_STATE_HOME": str(folder)}
         ran = subprocess.run([sys.executable, ASK, *words], input=given, capture_output=True, env=room)
@@ -133,10 +152,24 @@ def by_commands(hub: Hub, folder: pathlib.Path) -> Iterator[tuple[bool, str]]:
     (number,) = json.loads(answer)["numbers"]
     status, answer = ask("key-3", "--json", "show", str(number))
     status, text, errors = command("to-xml", given=answer)
-    yield same("the excerpt is XML, and what is withheld is said", (status, errors), (0, "iodef-hub-xml: something is withheld from you in 2 places\n"))
-    for needle, is_there in (("j.doe@example.com", False), ("First victim", False), ("198.51.100.23", False), ("takeover-account", False), ("192.0.2.17", True),
-                             ("payroll-check.example.net", True)):
-        yield same(f"{needle} is in the source's XML, and in a member's{'' if is_there else ' not'}", (needle.encode() in source, needle.encode() in text), (True, is_there))
+    yield same(
+        "the excerpt is XML, and what is withheld is said",
+        (status, errors),
+        (0, "iodef-hub-xml: something is withheld from you in 2 places\n"),
+    )
+    for needle, is_there in (
+        ("j.doe@example.com", False),
+        ("First victim", False),
+        ("198.51.100.23", False),
+        ("takeover-account", False),
+        ("192.0.2.17", True),
+        ("payroll-check.example.net", True),
+    ):
+        yield same(
+            f"{needle} is in the source's XML, and in a member's{'' if is_there else ' not'}",
+            (needle.encode() in source, needle.encode() in text),
+            (True, is_there),
+        )
     yield same("and it is the excerpt again", json.loads(command("to-json", given=text)[1]), json.loads(answer)["document"])
     yield from after_changes(hub, number)
 
@@ -145,19 +178,30 @@ def after_changes(hub: Hub, number: int) -> Iterator[tuple[bool, str]]:
     """The XML of an excerpt before and behind each change that shows more or less."""
     victim, node = "path=/Incident/0/Contact/1", "path=/Incident/0/EventData/1/Record/RecordData/0"
     changes = (
-        ("a permission", "grant", f"revision=1&{victim}&org=3", (True, False)), ("and one more", "grant", f"revision=1&{node}&org=3", (True, True)),
-        ("a gate", "gate", f"revision=1&{victim}&level=0", (False, True)), ("the gate opened", "gate", f"revision=1&{victim}&level=5", (True, True)),
-        ("a withdrawal", "withdraw", f"{victim}&org=3", (False, True)), ("and one more", "withdraw", f"{node}&org=3", (False, False)),
-        ("an address", "address", "person=3", (True, True)), ("its end", "unaddress", "person=3", (False, False)),
+        ("a permission", "grant", f"revision=1&{victim}&org=3", (True, False)),
+        ("and one more", "grant", f"revision=1&{node}&org=3", (True, True)),
+        ("a gate", "gate", f"revision=1&{victim}&level=0", (False, True)),
+        ("the gate opened", "gate", f"revision=1&{victim}&level=5", (True, True)),
+        ("a withdrawal", "withdraw", f"{victim}&org=3", (False, True)),
+        ("and one more", "withdraw", f"{node}&org=3", (False, False)),
+        ("an address", "address", "person=3", (True, True)),
+        ("its end", "unaddress", "person=3", (False, False)),
     )
     for what, change, words, wanted in changes:
         hub.done(SOURCE, "POST", f"/incidents/{number}/{change}", words.encode())
         status, text, _ = command("to-xml", given=hub.ask("key-3", "GET", f"/incidents/{number}")[1])
-        yield same(f"what is withheld is in no XML behind {what} ({change})", (status, b"j.doe@example.com" in text, b"198.51.100.23" in text), (0, *wanted))
+        yield same(
+            f"what is withheld is in no XML behind {what} ({change})",
+            (status, b"j.doe@example.com" in text, b"198.51.100.23" in text),
+            (0, *wanted),
+        )
     hub.done(SOURCE, "POST", f"/incidents/{number}/grant", b"revision=1&path=/Incident/0/Contact/1/Email/0&org=4")
     status, text, errors = command("to-xml", given=hub.ask("key-4", "GET", f"/incidents/{number}")[1])
-    yield same("an excerpt is refused for a label that the hub added where XML has none", (status, text, errors),
-               (1, b"", "iodef-hub-xml: refused: LabelNotHeld: Email has no label in XML: /Incident/0/Contact/0/Email/0\n"))
+    yield same(
+        "an excerpt is refused for a label that the hub added where XML has none",
+        (status, text, errors),
+        (1, b"", "iodef-hub-xml: refused: LabelNotHeld: Email has no label in XML: /Incident/0/Contact/0/Email/0\n"),
+    )
 
 
 def checks(context: Context) -> Iterator[tuple[bool, str]]:

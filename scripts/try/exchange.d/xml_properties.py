@@ -7,7 +7,7 @@ import xml.etree.ElementTree as ElementTree
 from collections.abc import Iterator
 
 from iodef_hub_xml import documents, to_json, to_xml, tree
-from iodef_hub_xml.faults import Notes
+from iodef_hub_xml.faults import Notes, Unfit
 from iodef_hub_xml.table import CLASSES
 
 from . import xml_generated as generated
@@ -45,7 +45,12 @@ def checks(context: Context) -> Iterator[tuple[bool, str]]:
         root = ElementTree.fromstring(text)
         seen.update(each.tag.rpartition("}")[2] for each in root.iter())
         values += sum(1 for _ in generated.labels_in_xml(root))
-        faults += [f"report {number}: {each}" for each in differences(text)]
-    yield same(f"{context.count} generated reports are the same behind JSON, with the labels of {values} values at each step", faults[:5], [])
+        try:
+            faults += [f"report {number}: {each}" for each in differences(text)]
+        except Unfit as fault:
+            faults.append(f"report {number} is refused: {fault}")
+    yield same(
+        f"{context.count} generated reports are the same behind JSON, with the labels of {values} values at each step", faults[:5], []
+    )
     elements = {row.name.rpartition("}")[2] for of in CLASSES.values() for row in of.elements.values() if not row.is_attribute}
     yield same("each element of the table is in one of them", sorted(elements - set(seen)) if context.count >= 1000 else [], [])
