@@ -153,10 +153,10 @@ def by_hand() -> Check:
         yield same(f"pattern: {what}", got, wanted)
         yield same(f"and is of the grammar: {what}", [fault for each in got if (fault := fault_of_pattern(each))], [])
     both = {"IndicatorExpression": {"operator": "and", "Observable": [bulk("mutex", "a"), bulk("mutex", "b")]}}
-    for place, wanted in (("/Incident/0/Indicator/0/IndicatorExpression", 0),
+    for place, count in (("/Incident/0/Indicator/0/IndicatorExpression", 0),
                           ("/Incident/0/Indicator/0/IndicatorExpression/Observable/0", 0),
                           ("/Incident/0/Indicator/0", 1), ("/Incident/0/Contact/0", 1)):
-        yield same(f"with something withheld at {place}, patterns", len(patterns_of(both, (place,))), wanted)
+        yield same(f"with something withheld at {place}, patterns", len(patterns_of(both, (place,))), count)
     yield from markings_by_hand()
     yield from relationships_by_hand()
 
@@ -358,7 +358,9 @@ def indicator(pattern: str, **members: Any) -> Object:
 
 def back(*objects: Object) -> Object:
     document: Object = report_of(bundle(*objects), "csirt.example", NOW)[0]
-    return document["Incident"][0]
+    (found,) = document["Incident"]
+    assert isinstance(found, dict)
+    return found
 
 
 BACK_PATTERNS: list[tuple[str, Object]] = [
@@ -394,6 +396,15 @@ def of_back() -> Check:
 
 # Hostile inputs
 
+WRONG: list[tuple[str, object]] = [
+    ("null", None), ("a text", "x"), ("a number", 7), ("a float", 1.5), ("true", True), ("a list of lists", [[]]), ("an object", {})]
+WRONG_IN_OBJECT: list[tuple[str, object]] = [
+    ("null", None), ("a number", 7), ("a list", ["x"]), ("an object", {"a": 1}), ("another text", "\u202e\n")]
+WRONG_IN_OTHERS: list[tuple[str, object]] = [("null", None), ("a number", 7), ("an object", {"a": 1}), ("a list of numbers", [1])]
+WRONG_WORDS: list[tuple[str, ...]] = [
+    (), ("to-stix",), ("to-stix", "--hub", ""), ("to-iodef",), ("to-stix", "--hub", "h", "--now", "yesterday"),
+    ("to-stix", "--hub", "h", "/nowhere")]
+
 
 def hostile() -> Iterator[tuple[str, bytes]]:
     """Inputs for both ways, each of which has to be refused."""
@@ -404,8 +415,7 @@ def hostile() -> Iterator[tuple[str, bytes]]:
                 ("NaN", b'{"objects":NaN}'), ("a member twice", b'{"objects":[],"objects":[]}'), ("markup", b"<xml/>"),
                 ("very deep", b"[" * 100_000 + b"]" * 100_000), ("deep objects", b'{"document":' * 5000 + b"1" + b"}" * 5000))
     for name in ("document", "objects", "withheld", "number", "source"):
-        for what, wrong in (("null", None), ("a text", "x"), ("a number", 7), ("a float", 1.5), ("true", True), ("a list of lists", [[]]),
-                            ("an object", {})):
+        for what, wrong in WRONG:
             if (name, what) not in (("number", "a number"), ("source", "a number"), ("number", "null"), ("source", "null"),
                                     ("document", "an object")):
                 yield f"{name}: {what}", json.dumps({**answer(incident()), "objects": [], name: wrong}).encode()
@@ -415,14 +425,14 @@ def hostile_bundles() -> Iterator[tuple[str, bytes]]:
     good = indicator("[mutex:name = 'a']")
     for name in ("type", "id", "pattern", "pattern_type", "valid_from", "description", "revoked", "modified", "valid_until",
                  "spec_version"):
-        for what, wrong in (("null", None), ("a number", 7), ("a list", ["x"]), ("an object", {"a": 1}), ("another text", "\u202e\n")):
+        for what, wrong in WRONG_IN_OBJECT:
             if (name, what) not in (("pattern", "another text"), ("description", "another text")):
                 yield f"{name}: {what}", bundle({**good, name: wrong})
     others = [("identity", "name"), ("identity", "roles"), ("identity", "contact_information"), ("note", "content"),
               ("vulnerability", "name"),
               ("observed-data", "object_refs"), ("report", "object_refs"), ("report", "description"), ("report", "created_by_ref")]
     for kind, name in others:
-        for what, wrong in (("null", None), ("a number", 7), ("an object", {"a": 1}), ("a list of numbers", [1])):
+        for what, wrong in WRONG_IN_OTHERS:
             yield f"{kind} {name}: {what}", bundle({"type": kind, "id": f"{kind}--{ONE_ID}1", name: wrong})
     yield "an id of another type", bundle({**good, "id": f"report--{ONE_ID}1"})
     yield "an id that is none", bundle({**good, "id": "indicator--x"})
@@ -441,10 +451,9 @@ def of_hostile() -> Check:
         status, out, err = run(*words, given=given)
         is_named = err.startswith("iodef-hub-stix: refused: ") and err.count("\n") == 1 and "Traceback" not in err
         yield same(f"{words[0]}, hostile, {what}", (status, out, is_named or err), (1, "", True))
-    for words in ((), ("to-stix",), ("to-stix", "--hub", ""), ("to-iodef",), ("to-stix", "--hub", "h", "--now", "yesterday"),
-                  ("to-stix", "--hub", "h", "/nowhere")):
-        status, out, err = run(*words)
-        yield same(f"words: {words}", (status, out, "Traceback" in err, bool(err)), (2, "", False, True))
+    for each in WRONG_WORDS:
+        status, out, err = run(*each)
+        yield same(f"words: {each}", (status, out, "Traceback" in err, bool(err)), (2, "", False, True))
 
 
 def of_command() -> Check:

@@ -305,13 +305,14 @@ BARE: Object = {"spec_version": "2.1", "revoked": True, "object_marking_refs": R
 
 def withdrawn(nothing: str) -> set[str]:
     """What is left of an object of each type."""
-    return {json.dumps({**BARE, **each}, sort_keys=True) for each in (
+    told: tuple[Object, ...] = (
         {"type": "identity", "name": "withdrawn"}, {"type": "vulnerability", "name": "withdrawn"},
         {"type": "indicator", "pattern": "[mutex:name = 'withdrawn']", "pattern_type": "stix"},
         {"type": "note", "content": "withdrawn", "object_refs": [nothing]},
         {"type": "report", "name": "withdrawn", "object_refs": [nothing]},
         {"type": "observed-data", "number_observed": 1, "object_refs": [nothing]},
-        {"type": "relationship", "relationship_type": "related-to", "source_ref": nothing, "target_ref": nothing})}
+        {"type": "relationship", "relationship_type": "related-to", "source_ref": nothing, "target_ref": nothing})
+    return {json.dumps({**BARE, **each}, sort_keys=True) for each in told}
 
 
 def of_pages(trial: Trial) -> Check:
@@ -417,19 +418,22 @@ def of_bad(trial: Trial) -> Check:
         status, value, is_taxii = bytes_asked(trial.service.port, head)
         told = status, is_taxii, value.get("http_status"), bool(value.get("title")), code in ("", value.get("error_code"))
         yield same(f"bad: {what}", told, (wanted, True, str(wanted), True, True))
-    other = trial.service.client("stranger")
-    try:
-        other.get(f"{collection}objects/")
-        told = "served"
-    except Failed as failed:
-        told = f"{failed.status} {failed.error['error_code']}"
-    yield same("another reader's collection isn't there", told, "404 NoCollection")
+    yield same("another reader's collection isn't there", asked(trial.service.client("stranger"), f"{collection}objects/"), "404 NoCollection")
     yield same("no traceback in the log", "Traceback" in trial.service.log.read_text(), False)
     with socket.create_connection(("127.0.0.1", trial.service.port), timeout=60) as slow:
         began = time.monotonic()
         slow.sendall(b"GET /taxii2/ HTTP/1.1\r\n")
-        told = slow.recv(4096).decode()
-        yield same("who is slow is answered in time", (told[:12], 14 < time.monotonic() - began < 25), ("HTTP/1.1 408", True))
+        first = slow.recv(4096).decode()[:12]
+        yield same("who is slow is answered in time", (first, 14 < time.monotonic() - began < 25), ("HTTP/1.1 408", True))
+
+
+def asked(client: Client, url: str) -> str:
+    """The status and the name of the fault, if there is one."""
+    try:
+        client.get(url)
+    except Failed as failed:
+        return f"{failed.status} {failed.error['error_code']}"
+    return "served"
 
 
 def of_room(trial: Trial) -> Check:
@@ -505,12 +509,7 @@ def of_away(trial: Trial) -> Check:
     for reader, wanted in (("client", "401 KeyUnknown"), ("member", "503 HubAway")):
         if reader == "member":
             trial.hub.stop()
-        try:
-            trial.service.client(reader).get("/taxii2/")
-            told = "served"
-        except Failed as failed:
-            told = f"{failed.status} {failed.error['error_code']}"
-        yield same(f"{reader}, suspended or without a hub", told, wanted)
+        yield same(f"{reader}, suspended or without a hub", asked(trial.service.client(reader), "/taxii2/"), wanted)
     yield same("the server ends by a signal", trial.service.stop(), 0)
 
 
