@@ -26,6 +26,7 @@ from typing import Any
 HERE = pathlib.Path(__file__).resolve().parent
 BEGINNING = (1980, 1, 1, 0, 0, 0)  # of a zip's time: the same files make the same wheel
 LIBRARY = "libiodef_redact.so.1"
+PACKAGES = ("iodef_hub_ask", "iodef_hub_stix", "iodef_hub_taxii", "iodef_hub_xml")
 VERSION = r"\d+(\.\d+)*((a|b|rc)\d+)?(\.post\d+)?"  # the forms of PEP 440 that are used
 # The machines of a library of 64 bits, by the numbers of ELF.
 MACHINES = {62: "x86_64", 183: "aarch64"}
@@ -75,6 +76,8 @@ def contents(table: dict[str, Any], stem: str, tag: str, given: Given) -> dict[s
         "Metadata-Version: 2.1", f"Name: {table['name']}", f"Version: {table['version']}", f"Summary: {table['description']}",
         f"License: {table['license']['text']}", f"Requires-Python: {table['requires-python']}",
     ]
+    for extra, needed in table["optional-dependencies"].items():
+        about += [f"Provides-Extra: {extra}", *(f'Requires-Dist: {name}; extra == "{extra}"' for name in needed)]
     commands = ["[console_scripts]", *(f"{name} = {what}" for name, what in table["scripts"].items())]
     is_pure = "false" if given.library else "true"
     wheel = ["Wheel-Version: 1.0", "Generator: build_wheel", f"Root-Is-Purelib: {is_pure}", f"Tag: {tag}"]
@@ -86,8 +89,8 @@ def contents(table: dict[str, Any], stem: str, tag: str, given: Given) -> dict[s
         "iodef_hub_misp.py": (HERE / "iodef_hub_misp.py").read_bytes(),
     }
     made |= {f"iodef_redact/{name}": it for name, it in ((LIBRARY, given.library), ("VERSION", given.about)) if it}
-    for module in sorted((HERE / "iodef_hub_ask").glob("*.py")):
-        made[f"iodef_hub_ask/{module.name}"] = module.read_bytes()
+    for module in sorted(each for name in PACKAGES for each in (HERE / name).glob("*.py")):
+        made[f"{module.parent.name}/{module.name}"] = module.read_bytes()
     for page in sorted(HERE.glob("*.1")):
         made[f"{stem}.data/data/share/man/man1/{page.name}"] = page.read_bytes()
     for name, lines in (("METADATA", about), ("WHEEL", wheel), ("entry_points.txt", commands)):

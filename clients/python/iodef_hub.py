@@ -347,11 +347,12 @@ class Hub:
     A call raises Refused if the hub refuses it, Unreachable if nothing was changed, MayBeTaken if a change may have been taken,
     and NotHub if something else answers. Each of these is a HubError. `ca` is a file of certificates to trust instead of the
     system's, `timeout` is how many seconds a connection may go without a byte, `tries` is the most times that a request is sent,
-    and `pause` is the seconds before the second try.
+    `pause` is the seconds before the second try, and `longest` is the most bytes of an answer.
     """
 
     def __init__(
-        self, url: str, key: str, ca: str | None = None, timeout: float = 70, tries: int = 5, pause: float = 1
+        self, url: str, key: str, ca: str | None = None, timeout: float = 70, tries: int = 5, pause: float = 1,
+        longest: int = LONGEST_REPLY,
     ) -> None:
         parts = urllib.parse.urlsplit(url)
         if parts.scheme not in ("http", "https") or not parts.hostname or parts.query or parts.fragment or "@" in parts.netloc:
@@ -368,7 +369,7 @@ class Hub:
         port = parts.port or (443 if parts.scheme == "https" else 80)
         self.url = f"{parts.scheme}://{self._host}:{port}{self._path}"
         """The hub's address with its port, written in one way."""
-        self._key, self._timeout, self._tries, self._pause = key, timeout, max(tries, 1), pause
+        self._key, self._timeout, self._tries, self._pause, self._longest = key, timeout, max(tries, 1), pause, longest
         self._tls = ssl.create_default_context(cafile=ca) if parts.scheme == "https" else None
         self.heard = b""
         """The bytes of the newest answer's body, as received."""
@@ -396,16 +397,16 @@ class Hub:
                 unsent = fault  # some bytes were never handed over; a refusal may have come meanwhile
             try:
                 answer = connection.getresponse()
-                text = answer.read(LONGEST_REPLY + 1)
+                text = answer.read(self._longest + 1)
                 # A read with a bound doesn't tell by itself that the reply ended early.
-                if len(text) <= LONGEST_REPLY and answer.length:
+                if len(text) <= self._longest and answer.length:
                     raise http.client.IncompleteRead(text, answer.length)
             except (OSError, http.client.HTTPException) as fault:
                 if unsent:
                     return Unreachable("Unreachable", "the request wasn't sent in full", str(unsent))
                 return MayBeTaken("MayBeTaken", "the answer is lost", str(fault) or type(fault).__name__)
-            if len(text) > LONGEST_REPLY:
-                return _stranger(f"more than {LONGEST_REPLY} bytes")
+            if len(text) > self._longest:
+                return _stranger(f"more than {self._longest} bytes")
             return answer.status, answer.getheader("Retry-After"), text
         finally:
             connection.close()

@@ -24,8 +24,8 @@ from dataclasses import dataclass, field, replace
 from typing import Any, Union
 
 from iodef_hub_ask.characters import shown
+from iodef_hub_ask.limits import MOST_BYTES, MOST_GATES, MOST_LINES, lines_of
 
-MOST_BYTES, MOST_LINES, MOST_GATES = 262_144, 4_096, 16
 LAST_NUMBER = 2**32 - 1
 LONGEST_INPUT = 64 * 1024 * 1024
 LONGEST_VALUE = 65_535  # bytes of a value in MISP
@@ -778,15 +778,6 @@ def settled(value: Any, path: str, gates: list[str]) -> Any:
     if MARK in value:
         gates.append(f"{value[MARK][0]}:{value[MARK][1]}:{path}")
     return {name: settled(each, f"{path}/{name}", gates) for name, each in value.items() if name != MARK}
-
-
-def lines_of(value: dict[str, Any]) -> int:
-    """How many lines a document has, as the hub counts them: one for each member, and one for each element of an array."""
-    count = 0
-    for each in value.values():
-        elements = each if isinstance(each, list) and each else [each]
-        count += len(elements) + sum(lines_of(one) for one in elements if isinstance(one, dict))
-    return count
 
 
 def built(event: Event, items: Sequence[Item], part: int) -> Report:

@@ -43,8 +43,7 @@ class Given:
 Files = dict[str, bytes | Link]
 # Where a file of the package comes from, by the beginning of its path. What isn't named here is generated.
 FROM = [
-    (r"usr/bin/(iodef-hub-ask)", r"clients/python/\1"),
-    (r"usr/bin/iodef-hub-misp", r"clients/python/iodef_hub_misp.py"),
+    (r"usr/bin/(iodef-hub-(?:ask|misp|stix|taxii|xml))", r"clients/python/\1"),
     (r"usr/bin/(iodef-hub-version)", r"deploy/deb/\1"),
     (r"usr/bin/(iodef-hub-demo)", r"demo/\1"),
     (r"usr/share/iodef-hub/demo/reports/((?:phishing|botnet|denial-of-service)\.json)", r"docs/examples/\1"),
@@ -65,7 +64,7 @@ FROM = [
     (r"usr/share/doc/iodef-hub/examples/(receipts/.*)", r"deploy/\1"),
     (r"usr/share/doc/iodef-hub/examples/(alerts\.yml)", r"deploy/monitoring/\1"),
     (r"usr/share/doc/iodef-hub/examples/(mail-news)", r"clients/python/examples/\1"),
-    (r"usr/share/man/man1/(iodef-hub-(?:ask|misp)\.1)\.gz", r"clients/python/\1"),
+    (r"usr/share/man/man1/(iodef-hub-(?:ask|misp|stix|taxii|xml)\.1)\.gz", r"clients/python/\1"),
     (r"usr/include/(iodef_redact\.h)", r"clients/c/\1"),
     (r"usr/lib/[\w-]+/pkgconfig/(iodef_redact\.pc)", r"clients/c/\1"),
     (r"usr/lib/python3/dist-packages/(iodef_redact\.py)", r"clients/python/\1"),
@@ -75,7 +74,10 @@ COMMANDS = {
     "iodef-hub": "crates/hub_program/src/words.rt",
     "iodef-redact": "crates/redact_program/src/words.rt",
     "iodef-hub-ask": "clients/python/iodef-hub-ask",
-    "iodef-hub-misp": "clients/python/iodef_hub_misp.py",
+    "iodef-hub-misp": "clients/python/iodef-hub-misp",
+    "iodef-hub-stix": "clients/python/iodef-hub-stix",
+    "iodef-hub-taxii": "clients/python/iodef-hub-taxii",
+    "iodef-hub-xml": "clients/python/iodef-hub-xml",
     "iodef-hub-version": "deploy/deb/iodef-hub-version",
     "iodef-hub-demo": "demo/iodef-hub-demo",
 }
