@@ -40,6 +40,7 @@ class Hub(threading.Thread):
         super().__init__(daemon=True)
         self.heads: list[str] = []
         self.listener = socket.create_server(("127.0.0.1", port))
+        self.port = int(self.listener.getsockname()[1])
 
     def run(self) -> None:
         with contextlib.suppress(OSError):
