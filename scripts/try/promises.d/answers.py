@@ -120,8 +120,13 @@ def requests_in_hand(edge: Edge) -> Checks:
     time.sleep(0.5)
     yield same("with 19 requests in hand an address is served", 401, edge.ask("/me", address=address).status)
     held.append(edge.begin(address))
-    time.sleep(0.5)
-    yield answer("with 20 it isn't", edge.ask("/me", address=address), 503, ANSWER | LATER, AWAY)
+    told = edge.ask("/me", address=address)
+    for _ in range(20):
+        if told.status == 503:
+            break
+        time.sleep(0.2)
+        told = edge.ask("/me", address=address)
+    yield answer("with 20 it isn't", told, 503, ANSWER | LATER, AWAY)
     yield same("another address is", 401, edge.ask("/me").status)
     told, seconds = all_of(held[-1])
     is_well = told.startswith("HTTP/1.1 408 ") and told.endswith(refused("TooSlow")) and 13 < seconds < 17

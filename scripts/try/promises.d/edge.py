@@ -88,6 +88,14 @@ def answer_of(told: str) -> Answer:
     return Answer(int(first.split()[1]) if first.startswith("HTTP/") else 0, fields, body)
 
 
+def until_listens(port: int) -> None:
+    for _ in range(100):
+        with contextlib.suppress(OSError), socket.create_connection(("127.0.0.1", port)):
+            return
+        time.sleep(0.1)
+    raise ValueError(f"nobody listens on port {port}")
+
+
 class Edge(load.Proxies):
     """Both proxies in a folder: nginx at a port and HAProxy and the hub at the next ones. Of the circle `health` there is no hub."""
 
@@ -100,6 +108,8 @@ class Edge(load.Proxies):
             super().__init__(both, folder, load.Ports(port))
         except SystemExit as fault:
             raise Missing(f"a proxy that starts here: {fault}") from fault
+        for each in (port, port + 1, port + 3):
+            until_listens(each)
         self.hub = Hub(port + 2)
         self.hub.start()
 

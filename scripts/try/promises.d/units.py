@@ -1,4 +1,4 @@
-"""The units: what systemd makes of their sandbox, and each other line of theirs. The tables are written by hand."""
+"""The units: what systemd makes of their sandbox, and each of their lines, also those that others imply. The tables are written by hand."""
 
 from __future__ import annotations
 
@@ -7,7 +7,7 @@ import pathlib
 import re
 import tempfile
 
-from asking import DEPLOY, Check, Checks, program, run
+from asking import DEPLOY, Check, Checks, program, run, same
 
 # What a unit is exposed to, by systemd's own names; it has nothing else. Each sees the machine's folders, and names devices that every
 # program may use. One that needs the network can't be without it, nor one that reads stores without the right to read them.
@@ -32,9 +32,47 @@ EXPOSED = {
 # How systemd weighs what it says of addresses.
 ADDRESSES = {"0.1": "localhost", "0.2": "none"}
 
-# The lines of [Service] of which systemd judges nothing.
+# What each unit has; what those have but the metrics; but iodef-hub-room too; and what those have that are no part of root.
+CONFINED = """
+    NoNewPrivileges=yes
+    ProtectSystem=strict
+    ProtectHome=yes
+    PrivateTmp=yes
+    PrivateDevices=yes
+    ProtectKernelTunables=yes
+    ProtectKernelModules=yes
+    ProtectControlGroups=yes
+    RestrictNamespaces=yes
+    RestrictSUIDSGID=yes
+    LockPersonality=yes
+    MemoryDenyWriteExecute=yes
+    SystemCallArchitectures=native
+    SystemCallErrorNumber=EPERM
+    SystemCallFilter=@system-service
+"""
+MORE = CONFINED + """
+    ProtectKernelLogs=yes
+    ProtectClock=yes
+    ProtectHostname=yes
+    RestrictRealtime=yes
+"""
+MOST = MORE + """
+    UMask=0077
+    ProtectProc=invisible
+    ProcSubset=pid
+"""
+DYNAMIC = MOST + """
+    DynamicUser=yes
+    PrivateUsers=yes
+    RemoveIPC=yes
+    AmbientCapabilities=
+    CapabilityBoundingSet=
+    StateDirectoryMode=0700
+    LimitCORE=0
+"""
+# All lines of [Service].
 LINES = {
-    "iodef-hub@": """
+    "iodef-hub@": DYNAMIC + """
         Type=exec
         EnvironmentFile=/etc/iodef-hub/%i.conf
         ExecStart=/usr/lib/iodef-hub/limit-memory %S/iodef-hub/%i/hub.db /usr/bin/iodef-hub serve %S/iodef-hub/%i/hub.db ${PORT} 4294967295
@@ -48,24 +86,25 @@ LINES = {
         TimeoutStopSec=5
         SuccessExitStatus=SIGTERM
         StateDirectory=iodef-hub/%i
-        StateDirectoryMode=0700
         MemoryMax=1G
         MemorySwapMax=0
         TasksMax=8
-        LimitCORE=0
         LimitNOFILE=64
         CPUWeight=80
-        SystemCallFilter=@system-service
         SystemCallFilter=~@privileged @resources @aio @keyring @ipc @setuid @sync
         SystemCallFilter=fsync fdatasync prlimit64 pipe pipe2
-        SystemCallErrorNumber=EPERM
         IPAddressAllow=localhost
         SocketBindDeny=any
         SocketBindAllow=ipv4:tcp:21000-21999
         DevicePolicy=closed
         InaccessiblePaths=-/boot -/root -/mnt -/media -/srv
+        User=iodef-hub-%i
+        RestrictAddressFamilies=AF_INET
+        IPAddressDeny=any
+        DeviceAllow=
+        KeyringMode=private
     """,
-    "iodef-hub-watch@": """
+    "iodef-hub-watch@": DYNAMIC + """
         Type=exec
         Environment=EVERY=300 WATCH_WORDS=
         EnvironmentFile=/etc/iodef-hub-watch/%i.conf
@@ -76,29 +115,27 @@ LINES = {
         Restart=always
         RestartSec=60
         StateDirectory=iodef-hub-watch/%i
-        StateDirectoryMode=0700
         MemoryMax=512M
         TasksMax=32
-        LimitCORE=0
-        SystemCallFilter=@system-service
         SystemCallFilter=~@privileged @resources
         SystemCallFilter=prlimit64
-        SystemCallErrorNumber=EPERM
         InaccessiblePaths=-/var/lib/private/iodef-hub -/var/backups/iodef-hub
+        RestrictAddressFamilies=AF_INET AF_INET6 AF_UNIX
     """,
-    "iodef-hub-backup@": """
+    "iodef-hub-backup@": MOST + """
         Type=oneshot
         ExecStart=/usr/sbin/iodef-hub-backup /var/lib/private/iodef-hub/%i/hub.db /var/backups/iodef-hub/%i 48
         TimeoutStartSec=30min
         Nice=10
         IOSchedulingClass=idle
         ReadWritePaths=/var/backups/iodef-hub
-        SystemCallFilter=@system-service
         SystemCallFilter=~@privileged @resources
         SystemCallFilter=sync ioprio_set
-        SystemCallErrorNumber=EPERM
+        PrivateNetwork=yes
+        CapabilityBoundingSet=CAP_DAC_READ_SEARCH CAP_DAC_OVERRIDE
+        RestrictAddressFamilies=none
     """,
-    "iodef-hub-standby@": """
+    "iodef-hub-standby@": MOST + """
         Type=oneshot
         ExecStart=/usr/sbin/iodef-hub-standby fetch %i
         TimeoutStartSec=15min
@@ -106,20 +143,20 @@ LINES = {
         StateDirectoryMode=0700
         Nice=10
         IOSchedulingClass=idle
-        SystemCallFilter=@system-service
-        SystemCallErrorNumber=EPERM
+        CapabilityBoundingSet=CAP_DAC_READ_SEARCH CAP_DAC_OVERRIDE CAP_CHOWN CAP_FOWNER
+        RestrictAddressFamilies=AF_INET AF_INET6 AF_UNIX
     """,
-    "iodef-hub-metrics": """
+    "iodef-hub-metrics": CONFINED + """
         Type=oneshot
         ExecStart=/usr/lib/iodef-hub/iodef-hub-metrics /var/lib/prometheus/node-exporter/iodef-hub.prom
         TimeoutStartSec=50
         Nice=10
         ReadWritePaths=/var/lib/prometheus/node-exporter
         IPAddressAllow=localhost
-        SystemCallFilter=@system-service
-        SystemCallErrorNumber=EPERM
+        RestrictAddressFamilies=AF_UNIX AF_INET AF_NETLINK
+        IPAddressDeny=any
     """,
-    "iodef-hub-room": """
+    "iodef-hub-room": MORE + """
         Type=exec
         ExecStart=/usr/lib/iodef-hub/iodef-hub-room /var/lib/prometheus/node-exporter/iodef-hub-room.prom
         SyslogIdentifier=iodef-hub-room
@@ -129,8 +166,37 @@ LINES = {
         MemoryMax=256M
         TasksMax=16
         ReadWritePaths=/var/lib/prometheus/node-exporter
-        SystemCallFilter=@system-service
-        SystemCallErrorNumber=EPERM
+        PrivateNetwork=yes
+        CapabilityBoundingSet=CAP_DAC_READ_SEARCH CAP_DAC_OVERRIDE
+        RestrictAddressFamilies=AF_UNIX
+    """,
+}
+# The lines of [Unit] and [Install], without its words for people.
+AROUND = {
+    "iodef-hub@": """
+        Wants=time-sync.target
+        After=network.target time-sync.target
+        ConditionPathExists=/var/lib/private/iodef-hub/%i/hub.db
+        StartLimitIntervalSec=0
+        WantedBy=multi-user.target
+    """,
+    "iodef-hub-watch@": """
+        Wants=network-online.target
+        After=network-online.target
+        ConditionPathExists=/etc/iodef-hub-watch/%i.news
+        StartLimitIntervalSec=0
+        WantedBy=multi-user.target
+    """,
+    "iodef-hub-backup@": "ConditionPathExists=/var/lib/private/iodef-hub/%i/hub.db",
+    "iodef-hub-standby@": """
+        Wants=network-online.target
+        After=network-online.target
+        ConditionPathExists=/etc/iodef-hub-standby/%i.conf
+    """,
+    "iodef-hub-metrics": "ConditionPathExists=/etc/iodef-hub",
+    "iodef-hub-room": """
+        After=haproxy.service
+        WantedBy=multi-user.target
     """,
 }
 TIMERS = {
@@ -138,14 +204,15 @@ TIMERS = {
     "iodef-hub-metrics": ["OnCalendar=minutely", "AccuracySec=5s"],
     "iodef-hub-standby@": ["OnCalendar=minutely", "AccuracySec=1s"],
 }
-# Judged by systemd, but for their words: their lines are in both tables.
-BOTH = {"SystemCallFilter", "IPAddressAllow"}
-
 
 def section(file: pathlib.Path, name: str) -> list[str]:
     """The lines of a section of a unit."""
     text = re.search(rf"^\[{name}\]\n(.*?)(?=^\[|\Z)", file.read_text(), re.M | re.S)
     return [line for line in (text[1] if text else "").split("\n") if line and not line.startswith("#")]
+
+
+def stripped(text: str) -> list[str]:
+    return [line.strip() for line in text.split("\n") if line.strip()]
 
 
 def judged(name: str, folder: pathlib.Path) -> list[dict[str, str | None]]:
@@ -178,11 +245,13 @@ def sandboxes() -> Checks:
 def lines() -> Checks:
     shipped = {file.stem for file in (DEPLOY / "systemd").glob("*.service")}
     yield differ("each unit is looked at", set(EXPOSED), shipped, "not looked at is")
-    with tempfile.TemporaryDirectory() as name:
-        names = {re.split("[=/]", str(row["name"]))[0] for row in judged("iodef-hub@", pathlib.Path(name))} | {"DynamicUser", "AmbientCapabilities"}
     for unit, text in LINES.items():
-        found = section(DEPLOY / "systemd" / f"{unit}.service", "Service")
-        rest = {line for line in found if line.partition("=")[0] not in names - BOTH}
-        yield differ(f"{unit} has its other lines", {line.strip() for line in text.strip().split("\n")}, rest, "it has")
+        file, wanted = DEPLOY / "systemd" / f"{unit}.service", stripped(text)
+        yield differ(f"{unit} has its lines", set(wanted), set(section(file, "Service")), "it has")
+        # A later filter allows, or takes back, what is in an earlier one.
+        filters = [line for line in wanted if line.startswith("SystemCallFilter=")]
+        yield same(f"the filters of {unit} are in their order", filters, [line for line in section(file, "Service") if line in filters])
+        found = [line for line in section(file, "Unit") + section(file, "Install") if not line.startswith(("Description=", "Documentation="))]
+        yield differ(f"{unit} waits for what it must, and starts with the machine if it should", set(stripped(AROUND[unit])), set(found), "it has")
     for unit, wanted_lines in TIMERS.items():
         yield differ(f"the timer of {unit} has its lines", set(wanted_lines), set(section(DEPLOY / "systemd" / f"{unit}.timer", "Timer")), "it has")
