@@ -8,7 +8,7 @@ import re
 import tempfile
 import typing
 
-from asking import DEPLOY, Check, Checks, program, run
+from asking import DEPLOY, TOP, Check, Checks, program, run
 
 FILE = DEPLOY / "monitoring" / "alerts.yml"
 MIB = 1 << 20
@@ -116,16 +116,36 @@ def asked(promtool: str, tests: list[dict[str, object]]) -> str:
         return "" if told.returncode == 0 else " ".join((told.stdout + told.stderr).replace(str(file), "").split())[:600]
 
 
-def raised() -> Checks:
-    promtool = program("promtool", "prometheus")
+def all_trials() -> dict[str, list[dict[str, object]]]:
+    """Of each promise its tests."""
+    told = {}
     for name, it in ALERTS:
         metrics = ", ".join(f"{metric} {value}" for metric, value in it.raised.items())
-        yield Check(f"{name} is raised by {metrics}, and not by {', '.join(map(str, it.quiet.values()))}", asked(promtool, trials(name, it)))
-    for file, text in OLD:
-        yield Check(f"HubMetricsOld is raised by {file}", asked(promtool, old_metrics(file, text)))
+        told[f"{name} is raised by {metrics}, and not by {', '.join(map(str, it.quiet.values()))}"] = trials(name, it)
+    return told | {f"HubMetricsOld is raised by {file}": old_metrics(file, text) for file, text in OLD}
+
+
+def raised() -> Checks:
+    """All at once, as promtool takes a while to start, and one by one only if one isn't kept."""
+    promtool, tests = program("promtool", "prometheus"), all_trials()
+    is_well = not asked(promtool, [test for each in tests.values() for test in each])
+    for promise, each in tests.items():
+        yield Check(promise, "" if is_well else asked(promtool, each))
 
 
 def names() -> Checks:
     found = set(re.findall(r"^ *- alert: (\w+)$", FILE.read_text(), re.M))
     wrong = [f"there is no {it}" for it in sorted(NAMES - found)] + [f"{it} has no series" for it in sorted(found - NAMES)]
     yield Check("there is each alert, and each has its series", "; ".join(wrong))
+
+
+def promised() -> Checks:
+    """What deploy/promises.toml says: the files that are written from it, and the series of its alerts."""
+    told = run(TOP / "scripts" / "promises")
+    yield Check("each file is as deploy/promises.toml has it", "" if told.returncode == 0 else told.stdout.strip().replace("\n", "; ")[:600] + told.stderr[-300:])
+    promtool = program("promtool", "prometheus")
+    with tempfile.TemporaryDirectory() as name:
+        file = pathlib.Path(name) / "tests.yml"
+        file.write_text(run(TOP / "scripts" / "promises", "--alerts").stdout)
+        tested = run(promtool, "test", "rules", file)
+    yield Check("each of its alerts is raised by its series alone", "" if tested.returncode == 0 else " ".join((tested.stdout + tested.stderr).split())[:600])
