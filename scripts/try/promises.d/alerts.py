@@ -8,7 +8,7 @@ import re
 import tempfile
 import typing
 
-from asking import DEPLOY, TOP, Check, Checks, program, run
+from asking import DEPLOY, Check, Checks, program, run
 
 FILE = DEPLOY / "monitoring" / "alerts.yml"
 MIB = 1 << 20
@@ -137,15 +137,3 @@ def names() -> Checks:
     found = set(re.findall(r"^ *- alert: (\w+)$", FILE.read_text(), re.M))
     wrong = [f"there is no {it}" for it in sorted(NAMES - found)] + [f"{it} has no series" for it in sorted(found - NAMES)]
     yield Check("there is each alert, and each has its series", "; ".join(wrong))
-
-
-def promised() -> Checks:
-    """What deploy/promises.toml says: the files that are written from it, and the series of its alerts."""
-    told = run(TOP / "scripts" / "promises")
-    yield Check("each file is as deploy/promises.toml has it", "" if told.returncode == 0 else told.stdout.strip().replace("\n", "; ")[:600] + told.stderr[-300:])
-    promtool = program("promtool", "prometheus")
-    with tempfile.TemporaryDirectory() as name:
-        file = pathlib.Path(name) / "tests.yml"
-        file.write_text(run(TOP / "scripts" / "promises", "--alerts").stdout)
-        tested = run(promtool, "test", "rules", file)
-    yield Check("each of its alerts is raised by its series alone", "" if tested.returncode == 0 else " ".join((tested.stdout + tested.stderr).split())[:600])
