@@ -68,11 +68,9 @@ def of_hub(edge: Edge) -> Checks:
     yield answer("an answer of the hub", edge.ask("/me", *GOOD), 200, ANSWER, '{"number":1}')
     yield answer("a refusal of the hub", edge.ask("/me"), 401, ANSWER, '{"code":"NoPerson"}')
     yield answer("a failure of the hub, whose code only the log has", edge.ask("/fails"), 503, ANSWER, '{"code":"F1"}')
-    edge.hub.heads.clear()
-    edge.ask("/me", *GOOD, "-H", "Cookie: a=b", "-H", "X-Forwarded-For: 192.0.2.99", "-H", "Accept-Language: en")
-    lines = edge.hub.heads[-1].lower().split("\r\n") if edge.hub.heads else []
-    wanted = ["authorization: bearer good", "connection: close", "get /me http/1.1", "host: hub"]
-    yield same("no field of a caller reaches the hub but its key", wanted, sorted(lines))
+    edge.ask("/groups", *GOOD, "-H", "Cookie: a=b", "-H", "X-Forwarded-For: 192.0.2.99", "-H", "Accept-Language: en")
+    heads = [sorted(head.lower().split("\r\n")) for head in edge.hub.heads if head.startswith("GET /groups ")]
+    yield same("no field of a caller reaches the hub but its key", [["authorization: bearer good", "connection: close", "get /groups http/1.1", "host: hub"]], heads)
 
 
 def of_nginx(edge: Edge) -> Checks:

@@ -107,7 +107,7 @@ def situation(room: pathlib.Path, ports: dict[str, int], processes: dict[str, in
 @contextlib.contextmanager
 def processes() -> Iterator[dict[str, int]]:
     """A process with a limit of data, and one without."""
-    each = {"payments": subprocess.Popen(["prlimit", f"--data={200 * MIB}", "sleep", "60"]), "health": subprocess.Popen(["sleep", "60"])}
+    each = {"payments": subprocess.Popen(["prlimit", f"--data={200 * MIB}", "sleep", "9999"]), "health": subprocess.Popen(["sleep", "9999"])}
     try:
         yield {name: it.pid for name, it in each.items()}
     finally:

@@ -16,7 +16,7 @@ import tempfile
 import time
 from collections.abc import Iterator
 
-from asking import TOP, Check, Checks, Missing, program, run, same
+from asking import TOP, Check, Checks, Missing, program, repeated, run, same
 
 sys.path.insert(0, str(TOP / "scripts" / "try"))
 
@@ -59,7 +59,7 @@ def listens(hub: str) -> Checks:
         try:
             told = [line.split()[3] for line in run(ss, "-Hltn", f"sport = :{port}").stdout.split("\n") if line]
             yield same("the hub is reached by this machine alone", [f"127.0.0.1:{port}"], told)
-            yield from waits(port)
+            yield from repeated(lambda: waits(port))
         finally:
             process.terminate()
             process.wait()
