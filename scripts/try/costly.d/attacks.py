@@ -76,11 +76,11 @@ def lines(count: int, name: str = "a") -> str:
     return f'"{name}":[' + ",".join(["1"] * count) + "]"
 
 
-def dear_view(first: int) -> bytes:
+def dear_view(first: int, places: int = 650) -> bytes:
     """A report whose View has more than a hundred megabytes: 650 places below 27 classes with long names. It is posted at the hub's own port,
     as the proxy has a limit of names."""
     name, frame = "n" * 7_700, '{"a":{"restriction":"public"}}'
-    more = f'"{name}":[{{' * 27 + '"e":[' + ",".join([frame] * 650) + "]" + "}]" * 27
+    more = f'"{name}":[{{' * 27 + '"e":[' + ",".join([frame] * places) + "]" + "}]" * 27
     return f'{{"Incident":[{{"Contact":0,"GenerationTime":0,"IncidentID":{first},"purpose":0,"restriction":"red",{more}}}]}}'.encode()
 
 
@@ -176,6 +176,41 @@ def bodies_held(hub: Served, weaker: Changes) -> Iterator[Check]:
         at.honest.run(attack, SECONDS)
         yield from at.honest.checks("280 bodies that are held", 0.0, 0.2)
         yield ends["408"] > 100, f"  their ends: {dict(ends)}"
+
+
+def visits_beside_readers(hub: Served, weaker: Changes) -> Iterator[Check]:
+    """Ten readers with search after search, two in hand each, and three visitors who open 20 reports one after another. Each of these takes
+    the hub a tenth of a second, and waits for the search in hand alone."""
+    seen, one = hub.post(dear_view(7, 60))[0], 0.0
+    for turn in range(10):
+        hub.done(ADMIN, "POST", "/persons", f"org=3&name=many{turn}&role=reader&key={digest(f'many{turn}')}".encode())
+    # More than the hub keeps in memory.
+    for turn in range(40):
+        if (one := min(alone(hub, BEN, "GET", f"/search?needle=none-{again}") for again in range(3))) > 0.5:
+            break
+        hub.post(incidents(1_000 + 16 * turn, 16, lines(4_060)))
+    view = costs(hub, seen)
+    with trial(hub, {}, weaker) as at:
+        lists, visits = collections.Counter[int](), list[edge.Told]()
+        until = time.monotonic() + SECONDS
+
+        def one_caller(place: int) -> None:
+            turn, reader = 0, (place - 3) // 2
+            while time.monotonic() < until and not (place < 3 and turn == 20):
+                turn += 1
+                if place < 3:
+                    visits.append(ask(at.proxies, f"127.47.14.{place + 1}", at.honest.KEYS[place], "GET", f"/incidents/{seen}"))
+                else:
+                    told = ask(at.proxies, f"127.47.13.{reader + 1}", f"many{reader}", "GET", f"/search?needle=visit-{place}-{turn}")
+                    lists[told.status] += 1
+
+        at_once(23, one_caller)
+        bad = [each.status for each in visits if each.status != 200]
+        yield not bad and len(visits) == 60, f"beside ten readers each of 60 Views of three visitors is answered: {len(visits)}, {bad or 'all are'}"
+        took, most = [each.took for each in visits], 2 * one + 3 * view + edge.BESIDE
+        told = ", ".join(f"{edge.at_share(took, share):.1f}" for share in (0.5, 0.95, 1))
+        yield edge.at_share(took, 0.95) <= most, f"  50, 95 and all of 100 took {told} s, of at most {most:.1f}; alone {view:.2f} s"
+        yield one > 0.5 and lists[200] > 10, f"  a search alone takes {one:.1f} s; the readers' answers: {dict(lists)}"
 
 
 # ---- who is who
@@ -448,11 +483,13 @@ def refused_flood(hub: Served, weaker: Changes) -> Iterator[Check]:
         yield sum(" 429 " in line for line in logged) > 0, "  and those that were refused are among them"
 
 
-WITHOUT_CLASS = {"haproxy.cfg": [("is_list or { sc_conn_cur(0) gt 4 } or { sc_http_req_rate(0) gt 600 } or { var(txn.slow) -m int ge 20 }", "is_list")]}
+# Only lists wait until nothing else does, whoever asks.
+WITHOUT_CLASS = {"haproxy.cfg": [("{ sc_conn_cur(0) gt 4 } or { sc_http_req_rate(0) gt 600 } or { var(txn.behind) -m int gt 60000 } or is_list {", "is_list {")]}
 ATTACKS: dict[str, tuple[Callable[[Served, Changes], Iterator[Check]], Changes]] = {
     "views-before-lists": (views_before_lists, WITHOUT_CLASS),
     "refused-posts-before-lists": (refused_posts_before_lists, {"haproxy.cfg": [(" or is_report { sc_conn_cur(0) gt 2 }", ""), *WITHOUT_CLASS["haproxy.cfg"]]}),
     "streams-left": (streams_left, WITHOUT_CLASS),
+    "visits-beside-readers": (visits_beside_readers, {"haproxy.cfg": [("gt 60000 }", "gt 5000 }")]}),
     "bodies-held": (bodies_held, {"haproxy.cfg": [("    option http-buffer-request ", "    #")]}),
     "other-spellings": (other_spellings, {"haproxy.cfg": [("set-var(txn.key) req.fhdr(authorization),bytes(7),sha2(256),hex,lower if { req.fhdr(authorization) -m reg -i '^bearer [!-~]{1,128}$' }",
                                                            "set-var(txn.key) http_auth_bearer,sha2(256),hex,lower if { http_auth_bearer -m found }")]}),
