@@ -61,6 +61,9 @@ class Words(argparse.ArgumentParser):
             "--program", metavar="FILE", type=_program, required=required, help="the built iodef-hub, such as out/iodef-hub"
         )
 
+    def take_redact(self) -> None:
+        self.add_argument("--redact", metavar="FILE", type=_program, help="the built iodef-redact, such as out/iodef-redact")
+
     def take_port(self) -> None:
         self.add_argument(
             "--port", metavar="N", type=_port, default=free_port(), help="the port of loopback that its hub takes; by default a free one"

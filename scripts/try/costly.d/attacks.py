@@ -28,7 +28,7 @@ IS_WEAKENED = False
 # Reports and new revisions of a day, in place of 500.
 FEW = ("int(500)", "int(6)")
 # More time in the queue, in place of a faster machine.
-PATIENT: Changes = {"haproxy.cfg": [("timeout queue        30s", "timeout queue        150s")], "iodef-hub-api.conf": [("proxy_read_timeout         100s", "proxy_read_timeout         300s")]}
+PATIENT: Changes = {"haproxy.cfg": [("timeout queue        45s", "timeout queue        150s")], "iodef-hub-api.conf": [("proxy_read_timeout         115s", "proxy_read_timeout         300s")]}
 
 
 class Trial(typing.NamedTuple):

@@ -47,6 +47,10 @@ class Origin:
         self.listed: list[int] | None = None  # the numbers of a list that it answers in the hub's place
         self.at_once = self.most_at_once = 0  # how many excerpts are asked for now, and were at most
         self.instead: dict[str, Answer] = {}
+        self.moved: dict[str, str] = {}  # where an answer leads
+        self.may_be_kept = False  # whether a browser may keep the hub's answers
+        self.waits: dict[tuple[str, str], threading.Event] = {}  # of a method and a path, until when an answer waits
+        self.heads: list[tuple[str, dict[str, str]]] = []
         self.asked: list[tuple[str, str]] = []
         self.bodies: list[bytes] = []
         self.one_at_a_time = threading.Lock()
@@ -68,6 +72,7 @@ class Origin:
 
             def answer(self) -> None:
                 body = self.rfile.read(int(self.headers.get("Content-Length", "0")))
+                origin.heads.append((self.path, dict(self.headers)))
                 status, kind, content = origin.answer_to(self.command, self.path, self.headers.get("Authorization"), body)
                 try:
                     self.send(status, kind, content)
@@ -78,6 +83,10 @@ class Origin:
                 self.send_response(status)
                 self.send_header("Content-Type", kind)
                 self.send_header("Content-Length", str(len(content)))
+                if status == 302:
+                    self.send_header("Location", origin.moved[self.path])
+                if origin.may_be_kept:
+                    self.send_header("Cache-Control", "max-age=1000")
                 if self.path.removeprefix("/2").startswith("/ui/"):
                     self.send_header("Content-Security-Policy", policy_of(origin.page.read_text()))
                     self.send_header("X-Content-Type-Options", "nosniff")
@@ -107,10 +116,15 @@ class Origin:
             return 404, "text/plain", b""
         if path in self.instead:
             return self.instead.pop(path)
+        if path in self.moved:
+            return 302, "text/plain", b""
         if path == "/incidents" and method == "GET" and self.listed is not None:
             return self.answer_of_list(target)
         if not re.fullmatch(r"/incidents/\d+", path) or method != "GET":
-            return self.answer_of_hub(method, target, key, body, port)
+            told = self.answer_of_hub(method, target, key, body, port)
+            if (method, path) in self.waits:
+                self.waits[(method, path)].wait(60)
+            return told
         self.count_asked(1)
         try:
             return self.answer_of_hub(method, target, key, body, port)
