@@ -24,12 +24,18 @@ STEP, MOST = 32_768, 4_194_304
 SECONDS = 60
 CIRCLE = "payments"
 HOME = pathlib.Path("/var/lib/private/iodef-hub") / CIRCLE
-STANDBY, SETTINGS, BACKUPS = pathlib.Path("/var/lib/iodef-hub-standby") / CIRCLE, pathlib.Path("/etc/iodef-hub-standby"), pathlib.Path("/var/backups/iodef-hub")
+STANDBY, SETTINGS, BACKUPS = (
+    pathlib.Path("/var/lib/iodef-hub-standby") / CIRCLE,
+    pathlib.Path("/etc/iodef-hub-standby"),
+    pathlib.Path("/var/backups/iodef-hub"),
+)
 # In place of systemd's commands, and of ssh, which runs what rsync asks of the machine that serves.
 STAND_INS = {
     "systemctl": "#!/bin/sh\nexit 0\n",
-    "systemd-run": '#!/bin/bash\nwhile [ "$1" != /bin/sh ]; do shift; done\nmkdir -p "/var/lib/private/iodef-hub/' + CIRCLE + '" || exit 1\n'
-    "[ -e /var/lib/iodef-hub ] || ln -s private/iodef-hub /var/lib/iodef-hub || exit 1\nexec \"$@\"\n",
+    "systemd-run": '#!/bin/bash\nwhile [ "$1" != /bin/sh ]; do shift; done\nmkdir -p "/var/lib/private/iodef-hub/'
+    + CIRCLE
+    + '" || exit 1\n'
+    '[ -e /var/lib/iodef-hub ] || ln -s private/iodef-hub /var/lib/iodef-hub || exit 1\nexec "$@"\n',
     "ssh": '#!/bin/sh\nwhile [ "$1" != rsync ] && [ $# -gt 0 ]; do shift; done\n[ $# -gt 0 ] || exit 255\ncd "$GIVEN" && exec "$@"\n',
 }
 
@@ -45,8 +51,14 @@ class Place:
 
     def environment(self) -> dict[str, str]:
         tools = self.room / "tools"
-        return {"PATH": f"{tools}:/usr/bin:/bin:/usr/sbin:/sbin", "HOME": "/root", "LC_ALL": "C.UTF-8", "TMPDIR": str(self.room / "tmp"),
-                "IODEF_HUB_PROGRAM": self.program, "GIVEN": str(self.room / "given")}
+        return {
+            "PATH": f"{tools}:/usr/bin:/bin:/usr/sbin:/sbin",
+            "HOME": "/root",
+            "LC_ALL": "C.UTF-8",
+            "TMPDIR": str(self.room / "tmp"),
+            "IODEF_HUB_PROGRAM": self.program,
+            "GIVEN": str(self.room / "given"),
+        }
 
 
 class Tool(typing.NamedTuple):
@@ -80,7 +92,7 @@ def mount(*words: str) -> None:
 
 
 def place_of(program: str, store: pathlib.Path, older: pathlib.Path, room: pathlib.Path) -> Place:
-    for folder in ("tools", "given", "etc.upper", "etc.work"):
+    for folder in ("tools", "given"):
         (room / folder).mkdir(parents=True)
     for name, text in STAND_INS.items():
         (room / "tools" / name).write_text(text)
@@ -94,16 +106,22 @@ class Disks:
 
     def __init__(self, place: Place) -> None:
         self.place = place
-        self.at = {"store": pathlib.Path("/var/lib"), "copies": pathlib.Path("/var/backups"), "temporary": place.room / "tmp", "settings": pathlib.Path("/etc/iodef-hub"), "pointing": SETTINGS}
+        self.at = {
+            "store": pathlib.Path("/var/lib"),
+            "copies": pathlib.Path("/var/backups"),
+            "temporary": place.room / "tmp",
+            "settings": pathlib.Path("/etc/iodef-hub"),
+            "pointing": SETTINGS,
+        }
 
     def __enter__(self) -> Disks:
-        etc, upper = self.place.room / "etc", self.place.room / "etc.fs"
-        for folder in (etc, upper, self.at["temporary"]):
+        changes = self.place.room / "etc"
+        for folder in (changes, self.at["temporary"]):
             folder.mkdir(exist_ok=True)
-        mount("-t", "tmpfs", "tmpfs", str(upper))
+        mount("-t", "tmpfs", "tmpfs", str(changes))
         for name in ("upper", "work"):
-            (upper / name).mkdir()
-        mount("-t", "overlay", "overlay", "-o", f"lowerdir=/etc,upperdir={upper}/upper,workdir={upper}/work", "/etc")
+            (changes / name).mkdir()
+        mount("-t", "overlay", "overlay", "-o", f"lowerdir=/etc,upperdir={changes}/upper,workdir={changes}/work", "/etc")
         self.at["settings"].mkdir(exist_ok=True)
         SETTINGS.mkdir(exist_ok=True)
         for folder in self.at.values():
@@ -111,7 +129,7 @@ class Disks:
         return self
 
     def __exit__(self, *_: object) -> None:
-        for folder in [*self.at.values(), pathlib.Path("/etc"), self.place.room / "etc.fs"]:
+        for folder in [*self.at.values(), pathlib.Path("/etc"), self.place.room / "etc"]:
             subprocess.run(["umount", "--lazy", str(folder)], check=False, capture_output=True)
 
     def fill(self, disk: str, free: int) -> None:
@@ -132,7 +150,11 @@ def files_of(folders: typing.Iterable[pathlib.Path]) -> dict[str, bytes]:
     found = {}
     for top in folders:
         for file in sorted(top.rglob("*")):
-            if file.is_file() and file.name not in ("fill", "lock", "in.db", f"{CIRCLE}.upstream.before") and not file.name.endswith("-shm"):
+            if (
+                file.is_file()
+                and file.name not in ("fill", "lock", "in.db", f"{CIRCLE}.upstream.before")
+                and not file.name.endswith("-shm")
+            ):
                 found[str(file)] = file.read_bytes()
     return {name: it for name, it in found.items() if not name.endswith("-wal") or len(it) > 41}
 
@@ -191,7 +213,9 @@ def erasable(place: Place) -> None:
     with sqlite3.connect(HOME / "hub.db") as rows:
         rows.execute("PRAGMA journal_mode = DELETE")
         rows.execute("PRAGMA secure_delete = OFF")
-        rows.executemany("INSERT INTO item VALUES (9, ?, 1, 'zz', 1, 1, ?)", ((place, f"a text to be erased {place}") for place in range(1000)))
+        rows.executemany(
+            "INSERT INTO item VALUES (9, ?, 1, 'zz', 1, 1, ?)", ((place, f"a text to be erased {place}") for place in range(1000))
+        )
         rows.commit()
         rows.execute("DELETE FROM item WHERE incident = 9")
         rows.commit()
@@ -229,11 +253,15 @@ def is_migrated(place: Place) -> bool:
 
 
 def is_rekeyed(_: Place) -> bool:
-    return bool(asked(HOME / "hub.db", "SELECT hex(key) FROM person WHERE number = 1") == "0" * 64) and is_sound(one(HOME, "hub.db.before-rekey-*Z"))
+    return bool(asked(HOME / "hub.db", "SELECT hex(key) FROM person WHERE number = 1") == "0" * 64) and is_sound(
+        one(HOME, "hub.db.before-rekey-*Z")
+    )
 
 
 def is_closed(_: Place) -> bool:
-    return asked(HOME / "hub.db", "SELECT level FROM gate WHERE incident = 1 AND path = ''") == 0 and is_sound(one(HOME, "hub.db.before-close-*"))
+    return asked(HOME / "hub.db", "SELECT level FROM gate WHERE incident = 1 AND path = ''") == 0 and is_sound(
+        one(HOME, "hub.db.before-close-*")
+    )
 
 
 def is_shrunk(_: Place) -> bool:
@@ -245,7 +273,10 @@ def is_erased(_: Place) -> bool:
 
 
 def is_set_up(_: Place) -> bool:
-    return asked(HOME / "hub.db", "SELECT count(*) FROM person") == 1 and pathlib.Path(f"/etc/iodef-hub/{CIRCLE}.conf").read_text() == "PORT=21010\n"
+    return (
+        asked(HOME / "hub.db", "SELECT count(*) FROM person") == 1
+        and pathlib.Path(f"/etc/iodef-hub/{CIRCLE}.conf").read_text() == "PORT=21010\n"
+    )
 
 
 def is_fetched(_: Place) -> bool:
@@ -280,16 +311,70 @@ TOOLS = [
     Tool("iodef-hub-shrink", "store", circle, (STORE, "2", "1", "--yes"), is_shrunk, SPACE, READ_ONLY, (1, MISSING)),
     Tool("iodef-hub-shrink", "temporary", circle, (STORE, "2", "1", "--yes"), is_shrunk, SPACE, "", (0, "done")),
     Tool("iodef-hub-erase", "store", erasable, (str(HOME), "--texts", "TEXTS", "--yes"), is_erased, SPACE, READ_ONLY, (1, MISSING)),
-    Tool("iodef-hub-setup", "store", nothing, (CIRCLE, "21010", "Hub"), is_set_up, "the store was not made", "the store was not made", (0, "serves")),
+    Tool(
+        "iodef-hub-setup",
+        "store",
+        nothing,
+        (CIRCLE, "21010", "Hub"),
+        is_set_up,
+        "the store was not made",
+        "the store was not made",
+        (0, "serves"),
+    ),
     Tool("iodef-hub-setup", "settings", nothing, (CIRCLE, "21010", "Hub"), is_set_up, "the settings", "the settings", (0, "serves")),
-    Tool("iodef-hub-standby", "store", standby, ("fetch", CIRCLE), is_fetched, "(No space left on device|disk is full)", READ_ONLY, (0, "hub-")),
-    Tool("iodef-hub-standby", "store", standby_with_copy, ("take-over", CIRCLE, "--pointed"), is_taken_over, SPACE, READ_ONLY, (1, "there is no copy")),
-    Tool("iodef-hub-standby", "settings", standby_with_copy, ("take-over", CIRCLE, "--pointed"), is_taken_over, SPACE, READ_ONLY, (0, "is served from")),
-    Tool("iodef-hub-standby", "pointing", pointing, ("point", CIRCLE, "192.0.2.1:21010", "--by-hand"), is_pointed, SPACE, READ_ONLY, (0, "are passed only to")),
+    Tool(
+        "iodef-hub-standby",
+        "store",
+        standby,
+        ("fetch", CIRCLE),
+        is_fetched,
+        "(No space left on device|disk is full)",
+        READ_ONLY,
+        (0, "hub-"),
+    ),
+    Tool(
+        "iodef-hub-standby",
+        "store",
+        standby_with_copy,
+        ("take-over", CIRCLE, "--pointed"),
+        is_taken_over,
+        SPACE,
+        READ_ONLY,
+        (1, "there is no copy"),
+    ),
+    Tool(
+        "iodef-hub-standby",
+        "settings",
+        standby_with_copy,
+        ("take-over", CIRCLE, "--pointed"),
+        is_taken_over,
+        SPACE,
+        READ_ONLY,
+        (0, "is served from"),
+    ),
+    Tool(
+        "iodef-hub-standby",
+        "pointing",
+        pointing,
+        ("point", CIRCLE, "192.0.2.1:21010", "--by-hand"),
+        is_pointed,
+        SPACE,
+        READ_ONLY,
+        (0, "are passed only to"),
+    ),
     Tool("iodef-hub-drill", "temporary", circle_and_copy, (STORE, str(BACKUPS / "copy.db")), always, SPACE, "", (0, "0 differ")),
     Tool("iodef-hub-check", "store", circle, (STORE, "--documents"), always, "", "", (3, MISSING)),
     Tool("iodef-hub-directory", "store", circle, (STORE,), always, "", "", (1, MISSING)),
-    Tool("iodef-hub-directory", "copies", circle_and_copy, (STORE, "--names", str(BACKUPS / "names.json")), lambda _: (BACKUPS / "names.json").stat().st_size > 2, SPACE, READ_ONLY, (1, "isn't written")),
+    Tool(
+        "iodef-hub-directory",
+        "copies",
+        circle_and_copy,
+        (STORE, "--names", str(BACKUPS / "names.json")),
+        lambda _: (BACKUPS / "names.json").stat().st_size > 2,
+        SPACE,
+        READ_ONLY,
+        (1, "isn't written"),
+    ),
     Tool("iodef-hub-receipts", "store", logged, (STORE, "--log", "/var/lib"), always, "", "", (1, MISSING)),
 ]
 
@@ -309,7 +394,9 @@ def run(tool: Tool, place: Place, disks: Disks) -> End:
         words += ["--program", place.program]
     folders = list(disks.at.values())
     before = files_of(folders)
-    ran = subprocess.run([BIN / tool.name, *words], capture_output=True, text=True, env=place.environment(), stdin=subprocess.DEVNULL, timeout=SECONDS)
+    ran = subprocess.run(
+        [BIN / tool.name, *words], capture_output=True, text=True, env=place.environment(), stdin=subprocess.DEVNULL, timeout=SECONDS
+    )
     after = files_of(folders)
     changed = sorted(name for name in {*before, *after} if before.get(name) != after.get(name))
     return End(ran.returncode, ran.stdout, ran.stderr, changed)
@@ -370,8 +457,14 @@ def by_output(tool: Tool, place: Place) -> str | None:
     with Disks(place), open("/dev/full", "wb") as full:
         tool.prepare(place)
         words = [str(place.room / "texts") if it == "TEXTS" else it for it in tool.words]
-        ran = subprocess.run([BIN / tool.name, *words], stdout=full, stderr=subprocess.PIPE, text=True, env=place.environment(), timeout=SECONDS)
-        return None if ran.returncode and "No space left" in ran.stderr and "Traceback" not in ran.stderr else f"status {ran.returncode}: {ran.stderr!r}"
+        ran = subprocess.run(
+            [BIN / tool.name, *words], stdout=full, stderr=subprocess.PIPE, text=True, env=place.environment(), timeout=SECONDS
+        )
+        return (
+            None
+            if ran.returncode and "No space left" in ran.stderr and "Traceback" not in ran.stderr
+            else f"status {ran.returncode}: {ran.stderr!r}"
+        )
 
 
 def cases(place: Place) -> Iterator[tuple[bool, str]]:
@@ -380,7 +473,9 @@ def cases(place: Place) -> Iterator[tuple[bool, str]]:
     for tool in TOOLS:
         for what, by_fault in faults:
             fault = by_fault(tool, place)
-            yield fault is None, f"{tool.name} {tool.words[0] if tool.name == 'iodef-hub-standby' else ''}, {what} of {tool.disk}" + (f": {fault}" if fault else "")
+            yield fault is None, f"{tool.name} {tool.words[0] if tool.name == 'iodef-hub-standby' else ''}, {what} of {tool.disk}" + (
+                f": {fault}" if fault else ""
+            )
     for tool in TOOLS:
         if tool.name in ("iodef-hub-check", "iodef-hub-directory", "iodef-hub-receipts") and tool.disk == "store":
             fault = by_output(tool, place)
