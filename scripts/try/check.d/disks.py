@@ -146,13 +146,13 @@ class Disks:
 
 def files_of(folders: typing.Iterable[pathlib.Path]) -> dict[str, bytes]:
     """Each file below the folders with its bytes. The indexes of logs and locks don't count, nor a log without a change, nor what a
-    standby keeps for its next transfer, nor where a proxy notes what it passes requests to now."""
+    standby keeps for its next transfer."""
     found = {}
     for top in folders:
         for file in sorted(top.rglob("*")):
             if (
                 file.is_file()
-                and file.name not in ("fill", "lock", "in.db", f"{CIRCLE}.upstream.before")
+                and file.name not in ("fill", "lock", "in.db")
                 and not file.name.endswith("-shm")
             ):
                 found[str(file)] = file.read_bytes()
@@ -204,7 +204,9 @@ def standby_with_copy(place: Place) -> None:
 
 
 def pointing(place: Place) -> None:
+    """Where a proxy passes requests, which is what it notes before it changes that."""
     (SETTINGS / f"{CIRCLE}.upstream").write_text("server 192.0.2.2:21010 max_fails=0;\n")
+    (SETTINGS / f"{CIRCLE}.upstream.before").write_text("192.0.2.2:21010\n")
 
 
 def erasable(place: Place) -> None:
