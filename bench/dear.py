@@ -8,10 +8,14 @@ The reports have 27 classes in one another, each in an array and under a long na
 """
 
 import argparse
+import pathlib
 import re
 import subprocess
 import sys
 import tempfile
+
+sys.path.insert(0, str(pathlib.Path(__file__).resolve().parent.parent / "scripts"))
+import record  # noqa: E402
 
 # How many classes are in one another, below the Incident, and how many bytes each of their names has.
 CHAIN, NAME = 27, "n" * 8_000
@@ -85,4 +89,4 @@ def main():
 
 
 if __name__ == "__main__":
-    main()
+    record.run(main)

@@ -27,6 +27,8 @@ import typing
 from collections.abc import Callable
 
 HERE = pathlib.Path(__file__).resolve().parent
+sys.path.insert(0, str(HERE.parent / "scripts"))
+import record  # noqa: E402
 ADMIN, POSTER, COORDINATOR, READER = "admin-key", "poster-key", "coordinator-key", "reader-key"
 TURNS = 5
 # How many classes stand in one another in a costly report, and how many bytes each of their names has.
@@ -278,4 +280,4 @@ def main() -> None:
 
 
 if __name__ == "__main__":
-    main()
+    record.run(main, "out/iodef-hub")

@@ -65,6 +65,7 @@ from opening import document
 
 sys.path.insert(0, str(many.TOP / "scripts"))
 import progress  # noqa: E402
+import record  # noqa: E402
 
 DAY = 86_400
 EACH = 5                     # persons of an organisation
@@ -749,4 +750,4 @@ def main() -> None:
 
 
 if __name__ == "__main__":
-    main()
+    record.run(main)

@@ -22,6 +22,9 @@ import tempfile
 from opening import Hub, document
 
 TOP = pathlib.Path(__file__).resolve().parent.parent
+sys.path.insert(0, str(TOP / "scripts"))
+import record  # noqa: E402
+
 TABLES = """
     CREATE TABLE hub (version INTEGER NOT NULL) STRICT;
     CREATE TABLE org (number INTEGER PRIMARY KEY, name TEXT NOT NULL UNIQUE) STRICT;
@@ -101,4 +104,4 @@ def main() -> None:
 
 
 if __name__ == "__main__":
-    main()
+    record.run(main, "out/iodef-hub")

@@ -23,6 +23,8 @@ import sys
 import tempfile
 
 TOP = pathlib.Path(__file__).resolve().parent.parent
+sys.path.insert(0, str(TOP / "scripts"))
+import record  # noqa: E402
 LABELS = (None, "public", "green", "amber", "red", "need-to-know")
 IDENTITY = "identity-of-the-report"
 
@@ -157,4 +159,4 @@ def main() -> None:
 
 
 if __name__ == "__main__":
-    main()
+    record.run(main, "out/iodef-hub")

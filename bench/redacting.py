@@ -30,6 +30,7 @@ sys.dont_write_bytecode = True
 sys.path[:0] = [str(TOP / "scripts"), str(HERE / "peer")]
 import bench  # noqa: E402
 import progress  # noqa: E402
+import record  # noqa: E402
 
 RUNS = 5
 MORE = 50
@@ -160,4 +161,4 @@ def main() -> None:
 
 
 if __name__ == "__main__":
-    main()
+    record.run(main)

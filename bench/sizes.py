@@ -54,6 +54,7 @@ from opening import document
 
 sys.path.insert(0, str(many.TOP / "scripts"))
 import progress  # noqa: E402
+import record  # noqa: E402
 
 ADMIN, POSTER, READER = "admin", "poster", "reader"
 # `EventData` classes of a report, by its kilobytes.
@@ -707,4 +708,4 @@ def main() -> None:
 
 
 if __name__ == "__main__":
-    main()
+    record.run(main)

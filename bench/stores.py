@@ -13,6 +13,9 @@ import sys
 import tempfile
 import time
 
+sys.path.insert(0, os.path.join(os.path.dirname(os.path.dirname(os.path.abspath(__file__))), "scripts"))
+import record  # noqa: E402
+
 LISTED = [250, 1000, 4000]
 OPENED = [1000, 2500, 5000, 10000]
 LABELS = [None, "public", "green", "amber", "red", "need-to-know"]
@@ -123,4 +126,4 @@ def main():
             grow(binary, port, folder, why, why == "a gate")
 
 
-main()
+record.run(main, "out/iodef-hub")

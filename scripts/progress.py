@@ -6,11 +6,12 @@ A script in Python calls `say`. A script in bash starts this file in the backgro
     scripts/progress.py MINUTES SCRIPT FILE
 
 SCRIPT is one of scripts/try, and FILE is where a line `ok: ..` or `FAILED: ..` appears for each of its checks.
-Minutes are those of a run on four processors. The number of a script's checks is that of its last run, by docs/TESTED.md.
+Minutes are those of a run on four processors. The number of a script's checks is that of its last whole run, by bench/runs.jsonl.
 """
 from __future__ import annotations
 
 import contextlib
+import json
 import os
 import pathlib
 import re
@@ -19,14 +20,15 @@ import threading
 import time
 from collections.abc import Callable
 
-TESTED = pathlib.Path(__file__).resolve().parent.parent / "docs" / "TESTED.md"
+RUNS = pathlib.Path(__file__).resolve().parent.parent / "bench" / "runs.jsonl"
 SECONDS_BETWEEN = 10
 
 
 def checks_of(script: str) -> int:
-    """How many checks the last run of this script of scripts/try had, or 0 if the page doesn't say."""
-    found = re.search(rf"^\| `{re.escape(script)}` \|.*?([\d,]+) passed, ", TESTED.read_text(), re.M)
-    return int(found[1].replace(",", "")) if found else 0
+    """How many checks the last whole run of this script of scripts/try had, or 0 if none is kept."""
+    kept = [json.loads(it) for it in RUNS.read_text().splitlines()]
+    counts = [it.get("passed", 0) + it.get("failed", 0) for it in kept if it["run"].split()[0] == f"scripts/try/{script}"]
+    return max(counts, default=0)
 
 
 def length(minutes: float) -> str:

@@ -20,6 +20,8 @@ import time
 
 HERE = pathlib.Path(__file__).resolve().parent
 TOP = HERE.parent.parent
+sys.path.insert(0, str(TOP / "scripts"))
+import record  # noqa: E402
 
 KEY = "abc"
 DIGEST = hashlib.sha256(KEY.encode()).hexdigest()
@@ -149,4 +151,4 @@ def main():
 
 
 if __name__ == "__main__":
-    main()
+    record.run(main, "out/iodef-hub")

@@ -3,6 +3,7 @@ from __future__ import annotations
 
 import datetime
 import hashlib
+import json
 import pathlib
 import re
 import subprocess
@@ -148,6 +149,11 @@ class Tree:
             raise Refused(f"the gate's log is of {ends[1]} crates and edits, but {self.commit[:10]} has {due}")
         return {"passed": due, "failed": 0, "lines": [said[-1], lines[-1]]}
 
+    def runs(self) -> list[dict[str, Any]]:
+        """The last whole run of each trial and measurement that the commit keeps. Older commits keep none."""
+        kept = self.folder / "bench" / "runs.jsonl"
+        return [json.loads(it) for it in kept.read_text().splitlines()] if kept.exists() else []
+
     def provenance(self, log: str, version: str, programs: dict[str, str], kit: str) -> dict[str, Any]:
         """`kit` is what `rt version` printed of the kit that built the programs."""
         self.judge_kit(kit)
@@ -159,6 +165,7 @@ class Tree:
             "kit": kit,
             "policy": {"sha256": subprocess.check_output([sys.executable, "scripts/check-docs", "--policy-digest"], cwd=self.folder, text=True).strip()},
             "programs": programs,
+            "runs": self.runs(),
             "sources": self.sources(),
             "version": version,
         }

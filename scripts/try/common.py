@@ -1,4 +1,5 @@
-"""The words that scripts of this folder are started with: `--program FILE`, `--port N` and `--help`; and `say_progress`.
+"""The words that scripts of this folder are started with: `--program FILE`, `--port N` and `--help`; `say_progress`; and `run`,
+which calls a script's `main` and leaves a line of the run.
 
 A word that is missing or wrong ends a script with status 2 and a message. No script builds a program.
 """
@@ -14,6 +15,9 @@ TOP = pathlib.Path(__file__).resolve().parent.parent.parent
 sys.path.insert(0, str(TOP / "scripts"))
 
 import progress  # noqa: E402
+import record  # noqa: E402
+
+run = record.run
 
 
 def say_progress(script: str, minutes: float, done: Callable[[], int], share: float = 1) -> None:
