@@ -158,8 +158,8 @@ def table() -> Iterator[tuple[bool, str]]:
         (status, errors, last),
         (0, "", f"{len(found)} rows, {sum(row.where == MEMORY for row in found)} of them from memory"),
     )
-    page = (TOP / "clients" / "README.md").read_text()
-    yield same("clients/README.md has the same counts", re.findall(r"has (\d+ rows, \d+ of them from memory)", page), [last])
+    page = (TOP / "docs" / "EXCHANGE.md").read_text()
+    yield same("docs/EXCHANGE.md has the same counts", re.findall(r"`iodef-hub-xml` has (\d+ rows, \d+ of them from memory)", page), [last])
 
 
 def limits() -> Iterator[tuple[bool, str]]:
