@@ -256,15 +256,15 @@ def words() -> Iterator[tuple[bool, str]]:
 
 def packaged(folder: pathlib.Path) -> Iterator[tuple[bool, str]]:
     """The commands as the Debian package has them: each alone in a folder, with the modules in another one."""
-    (folder / "bin").mkdir(parents=True)
-    for name in ("iodef_hub_ask", "iodef_hub_xml"):
-        shutil.copytree(CLIENTS / name, folder / "client" / name)
-    shutil.copy(CLIENTS / "iodef_hub.py", folder / "client")
-    for name, source in (("iodef-hub-ask", "iodef-hub-ask"), ("iodef-hub-misp", "iodef_hub_misp.py"), ("iodef-hub-xml", "iodef-hub-xml")):
-        file = folder / "bin" / name
-        file.write_text((CLIENTS / source).read_text().replace("/usr/share/iodef-hub/client", str(folder / "client")))
+    for name in ("bin", "client"):
+        (folder / name).mkdir(parents=True)
+    for each in CLIENTS.glob("iodef_hub*"):
+        (shutil.copytree if each.is_dir() else shutil.copy)(each, folder / "client" / each.name)
+    for command in sorted(each for each in CLIENTS.glob("iodef-hub-*") if not each.suffix):
+        file = folder / "bin" / command.name
+        file.write_text(command.read_text().replace("/usr/share/iodef-hub/client", str(folder / "client")))
         ran = subprocess.run([sys.executable, file, "--help"], env={"PATH": os.environ["PATH"]}, cwd=folder, capture_output=True)
-        yield same(f"{name} runs where the package has it", (ran.returncode, ran.stderr), (0, b""))
+        yield same(f"{command.name} runs where the package has it", (ran.returncode, ran.stderr), (0, b""))
 
 
 def of_misp() -> Iterator[tuple[bool, str]]:
