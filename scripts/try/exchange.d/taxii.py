@@ -203,8 +203,8 @@ class Changes:
         words = urllib.parse.urlencode({"person": reports.PERSONS[person], "incident": number, "path": path})
         return str(self.hub.done("admin", "GET", f"/explain?{words}")["trace"]).startswith("verdict Hidden H-")
 
-    def widen(self, revision: int = 1, seconds: float = 25) -> None:
-        self.end = until(max(seconds, self.trial.count / 6))
+    def widen(self, revision: int = 1, seconds: float = 60) -> None:
+        self.end = until(max(seconds, self.trial.count / 3))
         for number in self.trial.reports:
             kind = KINDS[number % len(KINDS)]
             path = self._path(number)
