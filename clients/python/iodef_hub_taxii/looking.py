@@ -120,11 +120,8 @@ class Reader:
             after = page[-1].number
 
     def _read_due(self, deadline: float, before: int) -> None:
-        while time.monotonic() < deadline and (due := self._store.due(self.number, before, PAGE)):
-            for number in due:
-                if time.monotonic() >= deadline:
-                    return
-                self._note(number, keep=False)
+        while time.monotonic() < deadline and (due := self._store.due(self.number, before, 1)):
+            self._note(due[0], keep=False)
 
     def objects(self, incident: int) -> list[Object]:
         """The objects of an incident as the hub serves it now, by their ids of this collection; none if it serves nothing."""

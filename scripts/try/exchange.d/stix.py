@@ -304,7 +304,8 @@ class Found:
 
 def _is_in(text: str, document: Object) -> bool:
     members = [each for _, it in reports.objects_in(document) for each in it.values()]
-    return text in ("tcp", "udp") or any(text in (each if isinstance(each, list) else [each]) or text in str(each).lower() for each in members)
+    return text in ("tcp", "udp") or any(text in (each if isinstance(each, list) else [each]) or text in str(each).lower()
+                                         for each in members)
 
 
 def _by_content(objects: list[Object]) -> dict[str, str]:
