@@ -85,6 +85,7 @@ def _bulk(kind: str, value: str) -> Object:
 
 
 def indicator_of(value: Object, made: Made) -> Object:
+    """The Indicator of an indicator."""
     label = label_of_object(value)
     if text_in(value, "pattern_type") != "stix":
         raise Unfit(f"object {value['id']}: pattern_type is not stix")
@@ -103,6 +104,7 @@ def indicator_of(value: Object, made: Made) -> Object:
 
 
 def contact_of(value: Object, is_author: bool) -> Object:
+    """The Contact of an identity."""
     roles = [each for each in texts_in(value, "roles") if each in RFC_ROLES]
     role = {"role": "creator" if is_author else roles[0]} if is_author or roles else {"role": "ext-value", "ext-role": "stix-identity"}
     kind = "person" if text_in(value, "identity_class") == "individual" else "organization"
@@ -114,15 +116,18 @@ def contact_of(value: Object, is_author: bool) -> Object:
 
 def value_of(value: Object) -> tuple[str, str] | None:
     """The kind and value of a cyber-observable object; None of one that the table lacks."""
-    for row in VALUES:
-        if row.type == value["type"]:
-            found: Any = value
-            for step in row.member.split("\0"):
-                found = found.get(step) if isinstance(found, dict) else None
-            told = spelled(row.kind, str(found)) if isinstance(found, (str, int)) and not isinstance(found, bool) else None
-            if told is not None:
-                return row.kind, told
+    for row in [each for each in VALUES if each.type == value["type"]]:
+        found = _member_at(value, row.member.split("\0"))
+        told = spelled(row.kind, str(found)) if isinstance(found, (str, int)) and not isinstance(found, bool) else None
+        if told is not None:
+            return row.kind, told
     return None
+
+
+def _member_at(value: Any, steps: Sequence[str]) -> object:
+    for step in steps:
+        value = value.get(step) if isinstance(value, dict) else None
+    return value
 
 
 def class_of(kind: str, value: str, category: str | None) -> Object:
@@ -160,18 +165,13 @@ def observed(value: Object | None, held: Object, made: Made) -> None:
 
 def _observations(objects: dict[str, Object], made: Made) -> None:
     """The observed values, then the objects that no observation names."""
-    named = set()
-    for value in [each for each in objects.values() if each["type"] == "observed-data"]:
-        for ref in texts_in(value, "object_refs"):
-            if ref in objects:
-                observed(value, objects[ref], made)
-                named.add(ref)
-            else:
-                made.left_out["references to what the bundle lacks"] += 1
-    types = {row.type for row in VALUES}
-    for name, value in objects.items():
-        if value["type"] in types and name not in named:
-            observed(None, value, made)
+    observations = [each for each in objects.values() if each["type"] == "observed-data"]
+    named = [(each, ref) for each in observations for ref in texts_in(each, "object_refs")]
+    made.left_out["references to what the bundle lacks"] += sum(ref not in objects for _, ref in named)
+    types, refs = {row.type for row in VALUES}, {ref for _, ref in named}
+    alone = [(None, name) for name, value in objects.items() if value["type"] in types and name not in refs]
+    for value, ref in [*((each, ref) for each, ref in named if ref in objects), *alone]:
+        observed(value, objects[ref], made)
 
 
 def _read(objects: dict[str, Object], author: str, made: Made) -> None:

@@ -76,13 +76,13 @@ def token(name: str) -> str:
 def inner_places(path: str, members: Mapping[str, Any], above: Place | None) -> list[Place]:
     """The classes that a class, or the root, directly holds."""
     around = above.label if above else "red"
-    found = []
-    for name, value in members.items():
-        here = f"{path}/{token(name)}"
-        for at, each in ([(f"{here}/{place}", one) for place, one in enumerate(value)] if isinstance(value, list) else [(here, value)]):
-            if isinstance(each, dict):
-                found.append(Place(at, name, each, label_of(each) or around, above))
-    return found
+    held = [(at, name, each) for name, value in members.items() for at, each in _placed(f"{path}/{token(name)}", value)]
+    return [Place(at, name, each, label_of(each) or around, above) for at, name, each in held if isinstance(each, dict)]
+
+
+def _placed(path: str, value: object) -> list[tuple[str, object]]:
+    """A member's value, or each element of its list, with its place."""
+    return [(f"{path}/{place}", one) for place, one in enumerate(value)] if isinstance(value, list) else [(path, value)]
 
 
 def places(document: Mapping[str, Any]) -> Iterator[Place]:

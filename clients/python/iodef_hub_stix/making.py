@@ -18,7 +18,7 @@ from iodef_hub_misp import ORDER, Taken, Wording, main_language, texts_of, wordi
 
 from .excerpt import Excerpt, Place, inner_places, moment, places
 from .marking import MARKING_IDS, strictest
-from .patterns import alternatives_of
+from .patterns import Alternative, alternatives_of
 from .values import Value, unfit_in, values_of
 
 Object = dict[str, Any]
@@ -133,12 +133,12 @@ class Maker:
     # Indicators
 
     def indicate(self, indicator: Place) -> None:
+        """An Indicator: an object for each alternative."""
         alternatives, unclear = alternatives_of(indicator, self.excerpt.withheld)
         self.left_out.update(unclear)
         told = {name: moment(indicator.members.get(name)) for name in ("StartTime", "EndTime")}
         for each in alternatives:
-            for place, member in each.made_of:
-                self.taken.all_of(place.members, member, "category", "type", "DigestMethod", "operator")
+            self._take_parts(each)
             labels = [each.label]
             members: Object = {"pattern": each.pattern, "pattern_type": "stix", "valid_from": self.created}
             if _at_most(indicator.label, each.label):
@@ -148,6 +148,10 @@ class Maker:
             members["name"] = _short(", ".join(value.text for value in each.values))
             made = self.put_versioned("indicator", "indicator", each.pattern, labels, members)
             self.based += [(made, value) for value in each.values]
+
+    def _take_parts(self, alternative: Alternative) -> None:
+        for place, member in alternative.made_of:
+            self.taken.all_of(place.members, member, "category", "type", "DigestMethod", "operator")
 
     def _valid(self, indicator: Place, told: dict[str, str | None]) -> Object:
         self.taken.all_of(indicator.members, *(name for name in told if told[name]))
@@ -213,10 +217,9 @@ class Maker:
 
     def refer(self, place: Place) -> None:
         """A Reference: a vulnerability of CVE, and its addresses as references of the report."""
-        for url in texts_of(place.members, "URL"):
-            if url.strip():
-                self.taken.all_of(place.members, "URL")
-                self.references.append(({"source_name": "reference", "url": url}, place.label))
+        urls = [each for each in texts_of(place.members, "URL") if each.strip()]
+        self.taken.all_of(place.members, *(["URL"] if urls else []))
+        self.references += [({"source_name": "reference", "url": each}, place.label) for each in urls]
         for wording, label in self.wordings(place):
             if CVE.fullmatch(wording.text):
                 name = self.take(wording).upper()

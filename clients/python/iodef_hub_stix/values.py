@@ -72,30 +72,27 @@ def _texts(place: Place, member: str) -> list[str]:
     return found
 
 
+def _held(place: Place) -> list[tuple[str, str | None, str]]:
+    """The texts of the members that hold values, each with its member and its kind, if one is told."""
+    found = [(each, text) for each in MEMBERS if each.of == place.name for text in _texts(place, each.name)]
+    return [(each.name, _kind_of(place, each.kind, text), text) for each, text in found]
+
+
 def values_of(place: Place) -> list[Value]:
     """The values that a class itself holds, each once. What hasn't the form of its kind isn't one."""
     found: dict[Value, None] = {}
-    for each in MEMBERS:
-        if each.of == place.name:
-            for text in _texts(place, each.name):
-                kind = _kind_of(place, each.kind, text)
-                told = spelled(kind, text)
-                if kind is not None and told is not None:
-                    found[Value(kind, told, each.name)] = None
+    for member, kind, text in _held(place):
+        told = spelled(kind, text)
+        if kind is not None and told is not None:
+            found[Value(kind, told, member)] = None
     return list(found)
 
 
 def unfit_in(place: Place) -> int:
     """How many texts of the members that hold values haven't the form of their kind; of kinds that aren't in the table, none."""
-    found = 0
-    for each in MEMBERS:
-        for text in _texts(place, each.name) if each.of == place.name else ():
-            kind = _kind_of(place, each.kind, text)
-            found += kind in BY_KIND and spelled(kind, text) is None
-    return found
+    return sum(kind in BY_KIND and spelled(kind, text) is None for _, kind, text in _held(place))
 
 
 def is_whole(place: Place) -> bool:
     """Whether each text of the members that hold values is a value."""
-    return all(spelled(_kind_of(place, each.kind, text), text) is not None
-               for each in MEMBERS if each.of == place.name for text in _texts(place, each.name))
+    return all(spelled(kind, text) is not None for _, kind, text in _held(place))

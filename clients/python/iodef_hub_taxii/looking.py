@@ -5,6 +5,7 @@ import contextlib
 import hashlib
 import hmac
 import json
+import sqlite3
 import threading
 import time
 from collections import deque
@@ -13,7 +14,6 @@ from dataclasses import dataclass
 from typing import Any, TypeVar
 
 import iodef_hub
-from iodef_hub_misp import Unfit
 from iodef_hub_stix.excerpt import Excerpt, moment
 from iodef_hub_stix.making import objects_of
 
@@ -120,11 +120,8 @@ class Reader:
             after = page[-1].number
 
     def _read_due(self, deadline: float, before: int) -> None:
-        while time.monotonic() < deadline and (due := self._store.due(self.number, before, PAGE)):
-            for number in due:
-                if time.monotonic() >= deadline:
-                    return
-                self._note(number, keep=False)
+        while time.monotonic() < deadline and (due := self._store.due(self.number, before, 1)):
+            self._note(due[0], keep=False)
 
     def objects(self, incident: int) -> list[Object]:
         """The objects of an incident as the hub serves it now, by their ids of this collection; none if it serves nothing."""
@@ -142,7 +139,9 @@ class Reader:
                 if excerpt is not None:
                     self._note_content(excerpt, number)
                     return self._served(excerpt, number) if keep else []
-            except (Unfit, UnicodeError, RecursionError):
+            except sqlite3.Error:
+                raise
+            except Exception:  # whatever a report is, the others are served; the metrics count it
                 self.unfit += 1
         self._store.hide(self.number, number)
         return []

@@ -84,6 +84,7 @@ def key_of(fields: Mapping[str, str]) -> str:
 
 
 def check_accept(fields: Mapping[str, str]) -> None:
+    """Refuses a request that accepts no TAXII 2.1. One without the field accepts all."""
     for each in fields.get("accept", "*/*").lower().split(","):
         kind, *words = [it.strip() for it in each.split(";")]
         version = [it.removeprefix("version=").strip('"') for it in words if it.startswith("version=")]
@@ -141,6 +142,7 @@ class Asked:
 
 
 def asked_of(filters: Mapping[str, str], again_seconds: float) -> Asked:
+    """What the parameters of a query ask for."""
     after = moment_of(filters["added_after"]) if "added_after" in filters else -1
     now = time.time_ns() // 1_000_000
     before = now - round(again_seconds * 1000)

@@ -11,6 +11,7 @@ import sqlite3
 import threading
 import time
 import uuid
+from collections import Counter
 from collections.abc import Iterable, Mapping, Sequence
 from dataclasses import dataclass
 
@@ -131,8 +132,7 @@ class Store:
         with self._change() as db:
             known = {number: (revision, shown) for number, revision, shown in db.execute(
                 "SELECT incident, revision, shown FROM excerpt WHERE reader = ?", (reader,))}
-            for number in [each for each, (_, shown) in known.items() if shown and each not in entries]:
-                _hide(db, reader, number)
+            _hide_all(db, reader, [each for each, (_, shown) in known.items() if shown and each not in entries])
             for number, revision in entries.items():
                 if number not in known:
                     db.execute("INSERT INTO excerpt VALUES (?, ?, ?, 1, 0, 0, 0, NULL, NULL)", (reader, number, revision))
@@ -242,20 +242,17 @@ def _next(db: sqlite3.Connection, reader: int) -> int:
 
 def _put(db: sqlite3.Connection, reader: int, incident: int, moment: int, names: Iterable[str]) -> None:
     """Adds the objects of an excerpt anew, and revokes or removes those that it hasn't any more."""
-    shown: dict[str, str] = {}
-    turns: dict[str, int] = {}
-    for name, base, revoked in db.execute(f"SELECT id, COALESCE(base, id), revoked FROM object {OF_ONE}", (reader, incident)):
-        if revoked:
-            turns[unpacked(base)] = turns.get(unpacked(base), 0) + 1
-        else:
-            shown[unpacked(base)] = unpacked(name)
+    known = [(unpacked(name), unpacked(base), bool(revoked)) for name, base, revoked in db.execute(
+        f"SELECT id, COALESCE(base, id), revoked FROM object {OF_ONE}", (reader, incident))]
+    shown = {base: name for name, base, revoked in known if not revoked}
+    turns = Counter(base for _, base, revoked in known if revoked)
     added = moment * 1000
     for base in names:
         name = shown.pop(base, None)
         if name is not None:
             db.execute("UPDATE object SET added = ? WHERE reader = ? AND id = ?", (added, reader, packed(name)))
         else:
-            turn = turns.get(base, 0)
+            turn = turns[base]
             db.execute("INSERT INTO object VALUES (?, ?, ?, ?, 0, ?)",
                        (reader, added, packed(again(base, turn)), incident, packed(base) if turn else None))
         added += 1
@@ -271,6 +268,11 @@ def _end(db: sqlite3.Connection, reader: int, names: Sequence[str], added: int) 
         else:
             db.execute("DELETE FROM object WHERE reader = ? AND id = ?", (reader, packed(name)))
     db.execute("UPDATE reader SET last = max(last, ?) WHERE number = ?", (added, reader))
+
+
+def _hide_all(db: sqlite3.Connection, reader: int, incidents: Iterable[int]) -> None:
+    for incident in incidents:
+        _hide(db, reader, incident)
 
 
 def _hide(db: sqlite3.Connection, reader: int, incident: int) -> None:

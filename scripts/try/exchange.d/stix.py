@@ -12,6 +12,7 @@ import traceback
 from collections.abc import Iterator
 from typing import Any
 
+from iodef_hub_misp import Unfit
 from iodef_hub_stix import words as stix_words
 from iodef_hub_stix.back import report_of
 from iodef_hub_stix.excerpt import Excerpt
@@ -303,7 +304,8 @@ class Found:
 
 def _is_in(text: str, document: Object) -> bool:
     members = [each for _, it in reports.objects_in(document) for each in it.values()]
-    return text in ("tcp", "udp") or any(text in (each if isinstance(each, list) else [each]) or text in str(each).lower() for each in members)
+    return text in ("tcp", "udp") or any(text in (each if isinstance(each, list) else [each]) or text in str(each).lower()
+                                         for each in members)
 
 
 def _by_content(objects: list[Object]) -> dict[str, str]:
@@ -456,6 +458,31 @@ def of_hostile() -> Check:
         yield same(f"words: {each}", (status, out, "Traceback" in err, bool(err)), (2, "", False, True))
 
 
+def of_odd(context: Context) -> Check:
+    """Reports and bundles with values of other kinds at some places: hubs accept such reports."""
+    chance = random.Random(context.seed)
+    broken, raised = [], []
+    for number in range(min(context.count, 300)):
+        document = reports.made_report(chance, number).document
+        whole = made(answer(document))
+        reports.make_odd(chance, document)
+        try:
+            objects = made(answer(document))
+            broken += faults_of([*definitions_of(objects), *objects])
+        except Exception as fault:
+            raised.append(f"to-stix: {fault!r}")
+        value = {"type": "bundle", "objects": whole}
+        reports.make_odd(chance, value)
+        try:
+            report_of(json.dumps(value).encode(), "csirt.example", NOW)
+        except Unfit:
+            pass
+        except Exception as fault:
+            raised.append(f"to-iodef: {fault!r}")
+    yield same("nothing odd in a report or a bundle is an unnamed fault", raised[:5], [])
+    yield same("and what is made of an odd report keeps the rules", broken[:5], [])
+
+
 def of_command() -> Check:
     value = answer(incident(EventData=[{"Flow": [{"System": [{"Node": NODE}]}]}], Assessment=[{"occurrence": "actual"}]))
     words = ("to-stix", "--hub", "hub.example.org", "--now", "2026-06-02T00:00:00Z")
@@ -481,5 +508,6 @@ def checks(context: Context) -> Check:
     yield from of_command()
     yield from of_back()
     yield from of_hostile()
+    yield from of_odd(context)
     if context.program is not None:
         yield from of_generated(context)

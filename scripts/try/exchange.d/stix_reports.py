@@ -1,6 +1,7 @@
 """Generated reports with a needle in each class that holds texts, and a hub with readers of different standing to post them to."""
 from __future__ import annotations
 
+import copy
 import json
 import pathlib
 import random
@@ -141,6 +142,32 @@ class Maker:
             "AdditionalData": [{"dtype": "string", "name": "note", "value": self.needle()}],
         }
         return {"version": "2.0", "lang": "en", "Incident": [incident]}
+
+
+ODD: list[object] = [
+    None, True, False, 0, -1, 6, 17, 2**63, "", "x", "a\0b", "2026-13-01", "2026-01-01T00:00:00Z", "0001-01-01T00:00:00+14:00",
+    "9999-12-31T23:59:59-14:00", "not", "or", "0", "e-mail", "asn", "AS99999999999", "ipv4-net", "10.0.0.0/8", "10.0.0.0/99", "::/0",
+    "file-hash", "mac", "\u202e", "\n", [], {}, [[]], ["x"], [1], [None], {"a": 1}, [{"a": []}], {"value": "v", "lang": "de"}, {"value": 5},
+    [{"value": "w", "restriction": "red"}], "CVE-2026-1234", "[mutex:name = 'a']",
+]
+NAMES = ["restriction", "category", "type", "value", "URL", "Name", "Observable", "IndicatorExpression", "Description", "Service", "Port",
+         "id", "pattern", "object_refs", "object_marking_refs", "revoked", "modified"]
+
+
+def spots_in(value: Any) -> Iterator[tuple[Any, Any]]:
+    """Each place in a value, with what holds it."""
+    for name, each in value.items() if isinstance(value, dict) else enumerate(value) if isinstance(value, list) else ():
+        yield value, name
+        yield from spots_in(each)
+
+
+def make_odd(chance: random.Random, value: Object) -> None:
+    """Puts values of other kinds at some places."""
+    for _ in range(chance.randrange(1, 6)):
+        holder, name = chance.choice(list(spots_in(value)))
+        holder[name] = copy.deepcopy(chance.choice(ODD))
+        if isinstance(holder, dict) and chance.random() < 0.3:
+            holder[chance.choice(NAMES)] = copy.deepcopy(chance.choice(ODD))
 
 
 def restriction(label: str) -> Object:

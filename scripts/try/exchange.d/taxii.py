@@ -116,8 +116,8 @@ class Trial:
             assert reports.post(self.hub, self.reports[number]) == number
 
     def phase(self, name: str) -> Check:
-        """Each reader polls since its last poll, and all anew. The one whose permissions end is the first."""
-        for reader in sorted(READERS, key=lambda each: each != "member"):
+        """Each reader polls since its last poll, and all anew."""
+        for reader in READERS:
             client = self.service.client(reader)
             (collection,) = client.collections()
             watch = self.watches.setdefault(reader, Watch(reader, Consumer(client, collection)))
@@ -182,7 +182,7 @@ class Changes:
     """Changes that show more, and those that show less again."""
 
     def __init__(self, trial: Trial) -> None:
-        self.trial, self.hub, self.end = trial, trial.hub, ""
+        self.trial, self.hub = trial, trial.hub
         self.paths: dict[int, str] = {}
 
     def _do(self, number: int, what: str, *words: tuple[str, object]) -> None:
@@ -203,8 +203,8 @@ class Changes:
         words = urllib.parse.urlencode({"person": reports.PERSONS[person], "incident": number, "path": path})
         return str(self.hub.done("admin", "GET", f"/explain?{words}")["trace"]).startswith("verdict Hidden H-")
 
-    def widen(self, revision: int = 1, seconds: float = 25) -> None:
-        self.end = until(max(seconds, self.trial.count / 6))
+    def widen(self, revision: int = 1) -> None:
+        end = until(3600)
         for number in self.trial.reports:
             kind = KINDS[number % len(KINDS)]
             path = self._path(number)
@@ -213,7 +213,7 @@ class Changes:
             elif kind == "grant to a person":
                 self._do(number, "grant", ("revision", 1), ("path", path), ("person", reports.PERSONS["client"]))
             elif kind == "an end":
-                self._do(number, "grant", ("revision", 1), ("path", path), ("org", reports.READERS["member"]), ("until", self.end))
+                self._do(number, "grant", ("revision", 1), ("path", path), ("org", reports.READERS["member"]), ("until", end))
             elif kind == "gate":
                 self._do(number, "gate", ("revision", 1), ("path", ""), ("level", 3))
             elif kind == "gate of a class":
@@ -256,8 +256,13 @@ class Changes:
         self.hub.done(reports.KEYS["source"], "PUT", target, json.dumps(report.document).encode())
         self.trial.reports[number] = report
 
-    def wait_for_end(self) -> None:
-        left = datetime.datetime.fromisoformat(self.end) - datetime.datetime.now(datetime.timezone.utc)
+    def let_end(self) -> None:
+        """The permissions with an end get one that is near, which shows the same; and it passes."""
+        end = until(max(3, self.trial.count / 50))
+        for number in self.trial.reports:
+            if KINDS[number % len(KINDS)] == "an end":
+                self._do(number, "grant", ("revision", 1), ("path", self._path(number)), ("org", reports.READERS["member"]), ("until", end))
+        left = datetime.datetime.fromisoformat(end) - datetime.datetime.now(datetime.timezone.utc)
         time.sleep(max(left.total_seconds() + 1, 0))
 
 
@@ -273,12 +278,16 @@ def of_changes(trial: Trial) -> Check:
     changes.widen()
     yield from trial.phase("shown more")
     wider = {reader: {number: it.text for number, it in watch.seen.items()} for reader, watch in trial.watches.items()}
-    changes.wait_for_end()
+    changes.let_end()
     changes.narrow()
     yield from trial.phase("shown less")
     after = {reader: {number: it.text for number, it in watch.seen.items()} for reader, watch in trial.watches.items()}
-    changes.widen(3, 3600)
+    changes.widen(3)
     yield from trial.phase("shown again")
+    consumer = trial.watches["member"].consumer
+    listed = {each["id"]: each["version"] for each in consumer.client.manifest(consumer.collection)}
+    yield same("the manifest has these versions", {name: listed.get(name) for name, each in consumer.kept.items() if "modified" in each},
+               {name: each["modified"] for name, each in consumer.kept.items() if "modified" in each})
     for kind in KINDS[1:]:
         told = [(one[reader][number] != other[reader][number]) for one, other in ((before, wider), (wider, after)) for reader in READERS
                 for number in trial.reports if KINDS[number % len(KINDS)] == kind]
@@ -351,7 +360,8 @@ def of_pages(trial: Trial) -> Check:
 # Bad requests
 
 HEAD = f"Accept: {MEDIA}\r\nAuthorization: Bearer key-member\r\n"
-BAD_FILTERS = ["next=1", "next=1-", "limit=0", "limit=-1", "limit=x", "limit=", "limit=1.5", "limit=9999999999", "next=x", "next=-1", "next=", "added_after=x",
+BAD_FILTERS = ["next=1", "next=1-", "limit=0", "limit=-1", "limit=x", "limit=", "limit=1.5", "limit=9999999999", "next=x", "next=-1",
+               "next=", "added_after=x",
                "added_after=2026-06-01", "added_after=2026-13-01T00:00:00Z", "added_after=2026-06-01T00:00:00",
                "added_after=2026-06-01T00:00:00%2B02:00",
                "added_after=", "match[type]=A", "match[type]=", "match[id]=x", "match[id]=,", "match[version]=2026-06-01T00:00:00Z",
@@ -418,7 +428,8 @@ def of_bad(trial: Trial) -> Check:
         status, value, is_taxii = bytes_asked(trial.service.port, head)
         told = status, is_taxii, value.get("http_status"), bool(value.get("title")), code in ("", value.get("error_code"))
         yield same(f"bad: {what}", told, (wanted, True, str(wanted), True, True))
-    yield same("another reader's collection isn't there", asked(trial.service.client("stranger"), f"{collection}objects/"), "404 NoCollection")
+    yield same("another reader's collection isn't there", asked(trial.service.client("stranger"), f"{collection}objects/"),
+               "404 NoCollection")
     yield same("no traceback in the log", "Traceback" in trial.service.log.read_text(), False)
     with socket.create_connection(("127.0.0.1", trial.service.port), timeout=60) as slow:
         began = time.monotonic()
