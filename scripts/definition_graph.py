@@ -16,6 +16,7 @@ Where = tuple[str, str]
 USE = re.compile(r"^ *(?:pub )?(?:ghost )?use (Rattle\.[\w.+]+?)(?:\.\{([^}]*)\}| as (\w+)|);?$", re.M)
 WORD = re.compile(r"[^\s(){}\[\];,.λ]+")
 NAMED = re.compile(r" *(?:(?:abbrev|unfoldable|pub|record|data) )*([^\s(){};,.]+)(?: [({].*)? : ")
+BINDS = re.compile("[λ∀∃]")
 COMMENT = re.compile(r"(?:^|\s)(?:--(?!\S*>)|//).*")
 TEXT_OR_COMMENT = re.compile(r'"(?:[^"\\]|\\.)*"|(?<!\S)--.*')
 DECLARED = ".specs.declared."
@@ -68,7 +69,8 @@ def parsed(text: str) -> Module:
             continue
         if indent == 0:
             inside, head = 0, set()
-        named = NAMED.match(line + " ")
+        # A bound variable's type is no type of a definition or a field.
+        named = None if BINDS.search(line.partition(" : ")[0]) else NAMED.match(line + " ")
         if named and indent == inside:
             name = named[1]
             found.words[name], found.texts[name] = set(head), []
