@@ -11,7 +11,6 @@ import json
 import os
 import pathlib
 import pwd
-import re
 import stat
 import subprocess
 import sys
@@ -83,16 +82,20 @@ def firewall(promised: Row) -> Told:
 def sandboxes(promised: Row) -> Told:
     for unit in promised["unit"]:
         name = unit["name"].replace("@", "@payments")
-        rows = json.loads(subprocess.run(["systemd-analyze", "security", "--no-pager", "--json=short", f"{name}.service"], capture_output=True, text=True).stdout)
-        differ = units.EXPOSED[unit["name"]] ^ units.exposed(unit["name"], rows)
+        told = subprocess.run(["systemd-analyze", "security", "--no-pager", "--json=short", f"{name}.service"], capture_output=True, text=True)
+        differ = units.EXPOSED[unit["name"]] ^ units.exposed(unit["name"], json.loads(told.stdout))
         yield f"{name} is exposed to nothing else than it must be", ", ".join(sorted(differ))
+
+
+def mode_of(it: os.stat_result) -> str:
+    return f"{stat.S_IMODE(it.st_mode):o} {pwd.getpwuid(it.st_uid).pw_name} {grp.getgrgid(it.st_gid).gr_name}"
 
 
 def modes(promised: Row) -> Told:
     for row in promised["mode"]:
         for pattern in row["paths"]:
             found = {path: os.stat(path) for path in glob.glob(pattern)}
-            wrong = [path for path, it in found.items() if f"{stat.S_IMODE(it.st_mode):o} {pwd.getpwuid(it.st_uid).pw_name} {grp.getgrgid(it.st_gid).gr_name}" != row["mode"]]
+            wrong = [path for path, it in found.items() if mode_of(it) != row["mode"]]
             yield f"{pattern} has mode {row['mode']}", ", ".join(wrong) if found else "there is none"
 
 
@@ -102,15 +105,21 @@ def alerts(promised: Row) -> Told:
     file = pathlib.Path("/try/alerts.json")
     file.write_text(json.dumps(tests))
     told = run("promtool", "test", "rules", file)
-    yield f"each of {len(promised['alert'])} alerts is raised by its series alone", "" if "SUCCESS" in told and "FAILED" not in told else " ".join(told.split())[:300]
+    is_well = "SUCCESS" in told and "FAILED" not in told
+    yield f"each of {len(promised['alert'])} alerts is raised by its series alone", "" if is_well else " ".join(told.split())[:300]
+
+
+def headed(metric: Row) -> str:
+    """The beginning of a metric in a file of the exporter."""
+    name = f"iodef_hub_{metric['name']}"
+    return f'# HELP {name} {metric["help"]}\n# TYPE {name} {metric["kind"]}\n{name}{{circle="'
 
 
 def metrics(promised: Row) -> Told:
     for is_room, name in ((False, "iodef-hub.prom"), (True, "iodef-hub-room.prom")):
         text = (EXPORTED / name).read_text()
         rows = [it for it in promised["metric"] if it.get("room", False) is is_room]
-        lacks = [it["name"] for it in rows if not re.search(rf'^# HELP iodef_hub_{it["name"]} {re.escape(it["help"])}\n# TYPE iodef_hub_{it["name"]} {it["kind"]}\n'
-                                                          rf'iodef_hub_{it["name"]}{{circle="', text, re.M)]
+        lacks = [it["name"] for it in rows if headed(it) not in text]
         yield f"{name} has each metric that is promised, with its help", ", ".join(lacks)
 
 

@@ -55,7 +55,7 @@ def program(name: str, package: str) -> str:
 
 def run(*words: object, **more: typing.Any) -> subprocess.CompletedProcess[str]:
     """Runs a command to its end, with what it prints."""
-    kept = {"capture_output": True, "text": True, "timeout": 120, "stdin": subprocess.DEVNULL} | more
+    kept = {"capture_output": True, "text": True, "timeout": 600, "stdin": subprocess.DEVNULL} | more
     if "input" in more:
         del kept["stdin"]
     return subprocess.run([str(word) for word in words], **kept)

@@ -71,10 +71,12 @@ def rows() -> Checks:
 def written() -> Checks:
     """The files are as deploy/promises.toml has them, and its alerts are raised by their series."""
     told = run(TOP / "scripts" / "promises")
-    yield Check("each file is as deploy/promises.toml has it", "" if told.returncode == 0 else told.stdout.strip().replace("\n", "; ")[:600] + told.stderr[-300:])
+    wrong = "" if told.returncode == 0 else told.stdout.strip().replace("\n", "; ")[:600] + told.stderr[-300:]
+    yield Check("each file is as deploy/promises.toml has it", wrong)
     promtool = program("promtool", "prometheus")
     with tempfile.TemporaryDirectory() as name:
         file = pathlib.Path(name) / "tests.yml"
         file.write_text(run(TOP / "scripts" / "promises", "--alerts").stdout)
         tested = run(promtool, "test", "rules", file)
-    yield Check("each of its alerts is raised by its series alone", "" if tested.returncode == 0 else " ".join((tested.stdout + tested.stderr).split())[:600])
+    wrong = "" if tested.returncode == 0 else " ".join((tested.stdout + tested.stderr).split())[:600]
+    yield Check("each of its alerts is raised by its series alone", wrong)

@@ -118,7 +118,8 @@ def situation(room: pathlib.Path, ports: dict[str, int], processes: dict[str, in
     told = "\n".join(f"{name}\n" * count for name, count in FAULTS.items())
     put(room / "bin" / "journalctl", f"#!/bin/sh\ncase \"$*\" in *iodef-hub@payments.service*--since*-1h*) cat <<'E'\n{told}\nFailed to start\nE\nesac\n", 0o755)
     cases = "".join(f"*MainPID*iodef-hub@{circle}.service) echo {process} ;;\n" for circle, process in processes.items())
-    put(room / "bin" / "systemctl", f'#!/bin/sh\ncase "$*" in\n{cases}*NRestarts*payments*) echo 7 ;;\n*NRestarts*) echo 0 ;;\n*MemoryMax*) echo {300 * MIB} ;;\nesac\n', 0o755)
+    cases += f"*NRestarts*payments*) echo 7 ;;\n*NRestarts*) echo 0 ;;\n*MemoryMax*) echo {300 * MIB} ;;\n"
+    put(room / "bin" / "systemctl", f'#!/bin/sh\ncase "$*" in\n{cases}esac\n', 0o755)
     places = {"SETTINGS": "settings", "STORES": "stores", "COPIES": "copies", "HAPROXY": "haproxy", "SITES": "nginx", "LOGS": "logs", "TAXII": "taxii"}
     return {**os.environ, "PATH": f"{room / 'bin'}:{os.environ['PATH']}", **{f"IODEF_HUB_{name}": str(room / place) for name, place in places.items()}}
 
@@ -221,7 +222,8 @@ def memory() -> Checks:
         put(limit, f"{NEEDED + 5999 + 64 * MIB}\n")
         ran = run(*start, env=around)
         said = re.sub(r"\d+", "N", ran.stderr.partition("iodef-hub: ")[2].partition(" \"[")[0])
-        yield same("with one byte less it ends with status 78 and says so", (78, "", "the store needs N MiB of memory and N MiB are allowed: write"), (ran.returncode, ran.stdout, said.strip()))
+        yield same("with one byte less it ends with status 78 and says so",
+                   (78, "", "the store needs N MiB of memory and N MiB are allowed: write"), (ran.returncode, ran.stdout, said.strip()))
         put(limit, "max\n")
         yield same("without a limit it sets none", "unlimited\n", run(*start, env=around).stdout)
 

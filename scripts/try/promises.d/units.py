@@ -259,8 +259,13 @@ def judged(name: str, folder: pathlib.Path) -> list[dict[str, str | None]]:
     return json.loads(told.stdout)
 
 
+def exposure(row: dict[str, str | None]) -> str:
+    """The name of a row; of addresses with what systemd found."""
+    return f"{row['name']} {ADDRESSES[str(row['exposure'])]}" if row["name"] == "IPAddressDeny=" else str(row["name"])
+
+
 def exposed(name: str, rows: list[dict[str, str | None]]) -> set[str]:
-    found = {f"{row['name']} {ADDRESSES.get(str(row['exposure']), '')}".rstrip() if row["name"] == "IPAddressDeny=" else str(row["name"]) for row in rows if row["exposure"]}
+    found = {exposure(row) for row in rows if row["exposure"]}
     if "CapabilityBoundingSet=*" in EXPOSED[name]:
         found = {it for it in found if not it.startswith("CapabilityBoundingSet=") or it in ROOT} | {"CapabilityBoundingSet=*"}
     return found
