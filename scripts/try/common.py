@@ -31,7 +31,7 @@ def free_port() -> int:
 def _program(name: str) -> str:
     """The whole path of a program that can be started, which the launcher isn't, since it may build one."""
     path = pathlib.Path(name).resolve()
-    if path == TOP / "iodef-hub":
+    if path in (TOP / "iodef-hub", TOP / "iodef-redact"):
         raise argparse.ArgumentTypeError(f"{name} is the launcher, which may build: name the program that it built in out/")
     if not path.is_file() or not os.access(path, os.X_OK):
         raise argparse.ArgumentTypeError(f"{name} is no program")
@@ -60,6 +60,9 @@ class Words(argparse.ArgumentParser):
         self.add_argument(
             "--program", metavar="FILE", type=_program, required=required, help="the built iodef-hub, such as out/iodef-hub"
         )
+
+    def take_redact(self) -> None:
+        self.add_argument("--redact", metavar="FILE", type=_program, help="the built iodef-redact, such as out/iodef-redact")
 
     def take_port(self) -> None:
         self.add_argument(
