@@ -26,6 +26,7 @@ from typing import Any
 HERE = pathlib.Path(__file__).resolve().parent
 BEGINNING = (1980, 1, 1, 0, 0, 0)  # of a zip's time: the same files make the same wheel
 LIBRARY = "libiodef_redact.so.1"
+PACKAGES = ("iodef_hub_ask", "iodef_hub_xml", "iodef_redact_mail")
 VERSION = r"\d+(\.\d+)*((a|b|rc)\d+)?(\.post\d+)?"  # the forms of PEP 440 that are used
 # The machines of a library of 64 bits, by the numbers of ELF.
 MACHINES = {62: "x86_64", 183: "aarch64"}
@@ -88,7 +89,7 @@ def contents(table: dict[str, Any], stem: str, tag: str, given: Given) -> dict[s
         "iodef_hub_misp.py": (HERE / "iodef_hub_misp.py").read_bytes(),
     }
     made |= {f"iodef_redact/{name}": it for name, it in ((LIBRARY, given.library), ("VERSION", given.about)) if it}
-    for module in sorted((*(HERE / "iodef_hub_ask").glob("*.py"), *(HERE / "iodef_hub_xml").glob("*.py"))):
+    for module in sorted(each for name in PACKAGES for each in (HERE / name).glob("*.py")):
         made[f"{module.parent.name}/{module.name}"] = module.read_bytes()
     for page in sorted(HERE.glob("*.1")):
         made[f"{stem}.data/data/share/man/man1/{page.name}"] = page.read_bytes()

@@ -56,7 +56,7 @@ def words() -> argparse.ArgumentParser:
     parser.add_argument("--port", type=int, metavar="N", help="in place of its port (default: 25, or 465 for implicit)")
     parser.add_argument("--tls", choices=TLS, help="in place of its tls (default: starttls, and none to this host)")
     parser.add_argument("--engine", metavar="PROGRAM", help="the program that redacts, in place of the library (also IODEF_REDACT)")
-    parser.add_argument("report", metavar="REPORT", help="the report, or - for standard input")
+    parser.add_argument("report", metavar="REPORT", help="a file with the report, or - for standard input")
     return parser
 
 

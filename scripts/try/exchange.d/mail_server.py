@@ -66,7 +66,8 @@ class Session:
 
     def run(self) -> None:
         self.say("220 trial")
-        for line in iter(self.file.readline, b""):
+        # The file is another one behind STARTTLS.
+        while line := self.file.readline():
             words = line.decode("latin-1").rstrip("\r\n")
             self.server.lines.append(words)
             verb = words.split(" ")[0].upper()
