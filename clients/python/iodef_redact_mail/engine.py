@@ -130,7 +130,8 @@ def engine_for(report: bytes, program: str | None) -> Engine:
     except OSError:
         pass
     if shutil.which(PROGRAM) is None:
-        raise Unusable(f"neither the library {iodef_redact.LIBRARY} nor the program {PROGRAM} was found: install one, or name it with --engine")
+        neither = f"neither the library {iodef_redact.LIBRARY} nor the program {PROGRAM} was found"
+        raise Unusable(f"{neither}: install one, or name the program with --engine")
     return Program(PROGRAM, report)
 
 

@@ -8,7 +8,8 @@ from .faults import Failed
 GPG = "gpg"
 SECONDS = 60
 # No file of options is read, as it may add recipients or give a fingerprint another meaning. No key is looked for anywhere else.
-WORDS = ("--batch", "--no-tty", "--no-options", "--no-auto-key-locate", "--no-auto-key-retrieve", "--disable-dirmngr", "--trust-model", "always")
+ALONE = ("--no-options", "--no-auto-key-locate", "--no-auto-key-retrieve", "--disable-dirmngr")
+WORDS = ("--batch", "--no-tty", *ALONE, "--trust-model", "always")
 # By the letter of a key's validity in a listing; `always` above trusts a key, but changes none of these.
 INVALID = {
     "e": ("KeyExpired", "the key has expired"),

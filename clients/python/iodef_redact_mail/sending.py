@@ -11,7 +11,7 @@ from iodef_hub_ask.characters import shown_exactly
 from .faults import Failed
 from .partners import Route
 
-SECONDS = 60
+SECONDS = 300  # a server may look long at a message before it answers
 LONGEST_SAID = 200  # characters of a server's words that are told
 
 
@@ -67,4 +67,4 @@ def send(route: Route, sender: str, to: str, text: bytes, begin: Callable[[], No
     except (smtplib.SMTPException, OSError) as fault:
         if has_begun:
             raise InDoubt(f"the connection ended before the answer: {type(fault).__name__}") from None
-        raise Failed("NotTaken", f"no mail server at {route.host}, port {route.number()}: {type(fault).__name__}") from None
+        raise Failed("NotTaken", f"mail server {route.host}, port {route.number()}: {type(fault).__name__}") from None

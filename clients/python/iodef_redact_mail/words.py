@@ -95,9 +95,17 @@ def incident_of(given: argparse.Namespace, report: bytes) -> int:
     return 0
 
 
+def is_utf8(word: str) -> bool:
+    """Whether a word of the command line was UTF-8."""
+    return not any(0xD800 <= ord(each) < 0xE000 for each in word)
+
+
 def asked_of(given: argparse.Namespace) -> Asked:
     if (given.id is None) != (given.id_name is None):
         raise Unusable("--id and --id-name go together")
+    for name in ("id", "id_name", "now"):
+        if not is_utf8(getattr(given, name) or ""):
+            raise Unusable(f"--{name.replace('_', '-')} isn't UTF-8")
     report = sys.stdin.buffer.read() if given.report == "-" else pathlib.Path(given.report).read_bytes()
     identifier = Identifier(given.id_name, given.id) if given.id is not None else None
     return Asked(given.report, report, incident_of(given, report), given.now or moment(), identifier)
@@ -219,6 +227,9 @@ def main() -> int:
         return NOT_USED
     except Unwritten as fault:
         say(str(fault))
+        return NOT_ALL
+    except KeyboardInterrupt:
+        say("interrupted: a later run names what was cut, and sends what wasn't begun")
         return NOT_ALL
     except (Unusable, OSError) as fault:
         say(str(fault))

@@ -31,7 +31,8 @@ class Ring:
 
 def gpg(folder: pathlib.Path, *words: str, given: bytes = b"") -> bytes:
     room = {**os.environ, "GNUPGHOME": str(folder)}
-    return subprocess.run(["gpg", "--batch", "--quiet", "--no-options", *words], input=given, capture_output=True, env=room, check=True).stdout
+    command = ["gpg", "--batch", "--quiet", "--no-options", *words]
+    return subprocess.run(command, input=given, capture_output=True, env=room, check=True).stdout
 
 
 def fingerprints(folder: pathlib.Path, name: str) -> list[str]:

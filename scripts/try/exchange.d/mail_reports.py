@@ -47,7 +47,8 @@ def generated(seed: int, number: int) -> Report:
         needle = f"needle{number}n{len(made.needles)}x"
         made.needles[needle] = own
         inner = [] if depth == 0 else [one(own, depth - 1, {}, "Description") for _ in range(chance.randrange(4))]
-        return {**label, **members, needle_in: [needle] if needle_in == "Description" else needle, **({"EventData": inner} if inner else {})}
+        held = {needle_in: [needle] if needle_in == "Description" else needle}
+        return {**label, **members, **held, **({"EventData": inner} if inner else {})}
 
     incident = one(4, 0, {"purpose": "reporting", "GenerationTime": "2026-04-16T10:02:11Z"}, "Description")
     own = next(iter(made.needles.values()))

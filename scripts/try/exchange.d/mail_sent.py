@@ -14,7 +14,7 @@ from .context import Context, same
 from .mail_command import IDENTIFIER, NOW, SENDER, Mailer, all_of, armor, attached, opened, parsed
 from .mail_keys import Ring
 from .mail_reports import CLEARANCES, TLP, Report, generated
-from .mail_server import Server, running
+from .mail_server import Kept, Server, running
 
 EXAMPLE = (TOP / "docs/examples/phishing.json").read_bytes()
 REPORTS = 20
@@ -66,8 +66,13 @@ def example(mailer: Mailer, server: Server, ring: Ring) -> Iterator[tuple[bool, 
     yield same("a dry run prints the table", (ran.status, ran.table, ran.said), wanted)
     yield same("and sends and keeps nothing", (server.taken(), (mailer.folder / "sent.jsonl").exists()), ([], False))
     ran = mailer.run("--send", *IDENTIFIER)
-    yield same("a run that sends prints the table too, and RED isn't sent plain", (ran.status, ran.table, ran.said[-1]), (3, rows, wanted[2][0]))
-    kept = server.taken()
+    found = ran.status, ran.table, ran.said[-1:]
+    yield same("a run that sends prints the table too, and RED isn't sent plain", found, wanted)
+    yield from example_sent(mailer, server.taken(), ran.said, ring)
+
+
+def example_sent(mailer: Mailer, kept: list[Kept], said: list[str], ring: Ring) -> Iterator[tuple[bool, str]]:
+    """The messages of the example."""
     sent = [("c@x.example", "CLEAR"), ("g@x.example", "GREEN"), ("s@x.example", "STRICT"), ("p@x.example", "RED")]
     yield same("each other recipient has one message", [(each.sender, each.to) for each in kept], [(SENDER, to) for to, _ in sent])
     for each, (to, clearance) in zip(kept, sent):
@@ -77,7 +82,7 @@ def example(mailer: Mailer, server: Server, ring: Ring) -> Iterator[tuple[bool, 
         yield same(f"{to}: the headers", found, [f"Our CERT <{SENDER}>", to, f"{label} incident report", sorted(HEADERS)])
         yield same(f"{to}: the excerpt is that of iodef-redact excerpt --whole", attached(opened(each, ring)), [excerpt])
         view = f'{{"clearance":"{label}","incident":0,"now":"{NOW}"}}'.encode()
-        yield from logged(to, ran.said, (EXAMPLE, view, excerpt), message["Message-ID"])
+        yield from logged(to, said, (EXAMPLE, view, excerpt), message["Message-ID"])
     outer = parsed(kept[2].text)
     parts = [each.get_content_type() for each in outer.iter_parts()]
     form = outer.get_content_type(), outer.get_param("protocol"), parts, ring.recipients_of(armor(outer))
@@ -103,10 +108,10 @@ def wanted_keys(mailer: Mailer, server: Server, ring: Ring) -> Iterator[tuple[bo
     keys = {"a": unknown, "b": ring.keys["expired"], "c": ring.keys["revoked"], "d": ring.keys["signing"], "e": ring.part}
     keys |= {"f": ring.keys["old subkey"], "g": ring.keys["good"]}
     mailer.give(EXAMPLE, *({"address": f"{to}@x.example", "clearance": "RED", "key": key} for to, key in keys.items()))
-    wanted = {"a": "KeyMissing", "b": "KeyExpired", "c": "KeyRevoked", "d": "KeyUnusable", "e": "KeyMissing", "f": "KeyUnusable", "g": "to send"}
+    wanted = ("KeyMissing", "KeyExpired", "KeyRevoked", "KeyUnusable", "KeyMissing", "KeyUnusable", "to send")
     for words in ((), ("--send",)):
         ran = mailer.run(*words)
-        yield same(f"keys {words}", (ran.status, ran.states()), (3, {f"{to}@x.example": state for to, state in wanted.items()}))
+        yield same(f"keys {words}", (ran.status, ran.states()), (3, {f"{to}@x.example": state for to, state in zip(keys, wanted)}))
     yield same("only the last is sent", [each.to for each in server.taken()], ["g@x.example"])
     mailer.variables = {"PATH": "/nowhere"}
     mailer.give(EXAMPLE, {"address": "h@x.example", "clearance": "RED", "key": keys["g"]}, {"address": "i@x.example", "clearance": "GREEN"})
@@ -144,7 +149,8 @@ def odd_reports(mailer: Mailer, server: Server) -> Iterator[tuple[bool, str]]:
     hidden = {**incident, "IncidentID": {**incident["IncidentID"], "restriction": "red"}}
     mailer.give(json.dumps({"version": "2.0", "Incident": [hidden]}).encode(), *both)
     ran = mailer.run("--send")
-    yield same("an IncidentID that is withheld wants --id", (ran.status, ran.states()), (3, {"g@x.example": "IdMissing", "r@x.example": "to send"}))
+    wanted = 3, {"g@x.example": "IdMissing", "r@x.example": "to send"}
+    yield same("an IncidentID that is withheld wants --id", (ran.status, ran.states()), wanted)
     server.taken()
     mailer.give(json.dumps({"version": "2.0", "Incident": [red, incident]}).encode(), *both)
     ran = mailer.run("--send")
@@ -179,8 +185,8 @@ def of_report(mailer: Mailer, server: Server, ring: Ring, report: Report, number
     for each, clearance in zip(kept, reached):
         name, text = CLEARANCES[clearance], all_of(each, ring)
         outside = (each.text.split(b"\r\n\r\n")[0] + (mailer.folder / "sent.jsonl").read_bytes()).decode() + said
-        leaks = [needle for needle, handling in report.needles.items() if needle in outside or handling > clearance and needle.encode() in text]
         seen = [needle for needle in report.needles if needle.encode() in text]
+        leaks = [needle for needle, handling in report.needles.items() if needle in outside or handling > clearance and needle in seen]
         shown = [needle for needle, handling in report.needles.items() if handling <= clearance]
         row = next(row for row in ran.table if row[0] == each.to)[2:5]
         subject = parsed(each.text)["Subject"]
@@ -188,14 +194,16 @@ def of_report(mailer: Mailer, server: Server, ring: Ring, report: Report, number
         found_of = leaks, seen, row, subject, is_same
         label = report.label(clearance)
         wanted = [], shown, [label, *map(str, report.classes(clearance))], f"{label} incident report", True
-        yield same(f"report {number} for {name}: the {len(shown)} texts that its clearance reaches, and none of the others", found_of, wanted)
+        what = f"the {len(shown)} texts that its clearance reaches, and none of the others"
+        yield same(f"report {number} for {name}: {what}", found_of, wanted)
 
 
 def by_tls(context: Context, ring: Ring) -> Iterator[tuple[bool, str]]:
     """STARTTLS with a certificate that the machine trusts, and with one that it doesn't; and without STARTTLS."""
     key, certificate = context.folder / "key.pem", context.folder / "certificate.pem"
-    made = ("-newkey", "ec", "-pkeyopt", "ec_paramgen_curve:prime256v1", "-nodes", "-subj", "/CN=localhost", "-addext", "subjectAltName=IP:127.0.0.1")
-    words = ("openssl", "req", "-x509", *made, "-days", "2", "-keyout", str(key), "-out", str(certificate))
+    kind = ("-newkey", "ec", "-pkeyopt", "ec_paramgen_curve:prime256v1", "-nodes", "-days", "2")
+    named = ("-subj", "/CN=localhost", "-addext", "subjectAltName=IP:127.0.0.1")
+    words = ("openssl", "req", "-x509", *kind, *named, "-keyout", str(key), "-out", str(certificate))
     subprocess.run(words, check=True, capture_output=True)
     tls = ssl.SSLContext(ssl.PROTOCOL_TLS_SERVER)
     tls.load_cert_chain(certificate, key)

@@ -126,7 +126,8 @@ def states(mailer: Mailer, server: Server) -> Iterator[tuple[bool, str]]:
         ran = mailer.run("--send")
         found = ran.status, ran.states()[TO[2]], to_of(server), file.read_bytes() == b"".join(lines[:-1]), "its last line" in ran.said[0]
         yield same(f"a last line cut behind {length} bytes doesn't count", found, (3, "cut", [], True, True))
-    for bad in (b"\n", b"{}\n", b"\xff\n", whole.replace(b'"what":"sent"', b'"what":"lost"', 1), whole.replace(b'"incident":0', b'"incident":"0"', 1)):
+    lost, mistyped = whole.replace(b'"what":"sent"', b'"what":"lost"', 1), whole.replace(b'"incident":0', b'"incident":"0"', 1)
+    for bad in (b"\n", b"{}\n", b"\xff\n", lost, mistyped):
         file.write_bytes(bad)
         ran = mailer.run("--send")
         found = ran.status, "BadState" in ran.said[0], ran.table, to_of(server), file.read_bytes() == bad
