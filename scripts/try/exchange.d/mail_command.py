@@ -77,6 +77,12 @@ def parsed(text: bytes) -> EmailMessage:
     return found
 
 
+def is_sound(text: bytes) -> bool:
+    """Whether any mail server takes a message: ASCII in lines that end as those of SMTP do, and are no longer."""
+    lines = text.split(b"\r\n")
+    return text.isascii() and not any(b"\n" in line or b"\r" in line or len(line) > 998 for line in lines)
+
+
 def opened(kept: Kept, ring: Ring | None) -> EmailMessage:
     """The part of a message with text and excerpt, decrypted if it is encrypted."""
     outer = parsed(kept.text)

@@ -4,13 +4,15 @@ from __future__ import annotations
 import contextlib
 import os
 import pathlib
+import re
 import subprocess
 import tempfile
 from collections.abc import Iterator
 from dataclasses import dataclass
 
 KINDS = ("good", "other", "expired", "revoked", "signing", "old subkey")
-LONG_AGO = "20200101T000000"
+# The second is later, as a part that is older than its key isn't made.
+LONG_AGO, THEN = "20200101T000000", "20200101T010000"
 
 
 @dataclass(frozen=True)
@@ -24,9 +26,9 @@ class Ring:
     def gpg(self, *words: str, given: bytes = b"") -> bytes:
         return gpg(self.folder, *words, given=given)
 
-    def recipients_of(self, text: bytes) -> int:
-        """For how many keys a text is encrypted."""
-        return self.gpg("--list-packets", given=text).count(b":pubkey enc packet:")
+    def recipients_of(self, text: bytes) -> list[str]:
+        """The keys that a text is encrypted for, by the ends of their fingerprints."""
+        return re.findall(r"^:pubkey enc packet:.* keyid ([0-9A-F]+)", self.gpg("--list-packets", given=text).decode(), re.M)
 
 
 def gpg(folder: pathlib.Path, *words: str, given: bytes = b"") -> bytes:
@@ -51,7 +53,7 @@ def make(folder: pathlib.Path, kind: str) -> None:
     elif kind == "old subkey":
         gpg(folder, "--faked-system-time", LONG_AGO, *quick, "ed25519", "sign", "never")
         key = fingerprints(folder, kind)[0]
-        gpg(folder, "--faked-system-time", LONG_AGO, "--passphrase", "", "--quick-add-key", key, "cv25519", "encr", "seconds=86400")
+        gpg(folder, "--faked-system-time", THEN, "--passphrase", "", "--quick-add-key", key, "cv25519", "encr", "seconds=86400")
     else:
         gpg(folder, *quick, "future-default", "default", "never")
     if kind == "revoked":

@@ -11,7 +11,7 @@ from typing import Any
 from common import TOP
 
 from .context import Context, same
-from .mail_command import IDENTIFIER, NOW, SENDER, Mailer, all_of, armor, attached, opened, parsed
+from .mail_command import IDENTIFIER, NOW, SENDER, Mailer, all_of, armor, attached, is_sound, opened, parsed
 from .mail_keys import Ring
 from .mail_reports import CLEARANCES, TLP, Report, generated
 from .mail_server import Kept, Server, running
@@ -78,8 +78,8 @@ def example_sent(mailer: Mailer, kept: list[Kept], said: list[str], ring: Ring) 
     for each, (to, clearance) in zip(kept, sent):
         label = TLP[CLEARANCES.index(clearance)]
         message, excerpt = parsed(each.text), mailer.excerpt(clearance)
-        found = [message["From"], message["To"], message["Subject"], sorted(message.keys())]
-        yield same(f"{to}: the headers", found, [f"Our CERT <{SENDER}>", to, f"{label} incident report", sorted(HEADERS)])
+        found = [message["From"], message["To"], message["Subject"], sorted(message.keys()), is_sound(each.text)]
+        yield same(f"{to}: the headers", found, [f"Our CERT <{SENDER}>", to, f"{label} incident report", sorted(HEADERS), True])
         yield same(f"{to}: the excerpt is that of iodef-redact excerpt --whole", attached(opened(each, ring)), [excerpt])
         view = f'{{"clearance":"{label}","incident":0,"now":"{NOW}"}}'.encode()
         yield from logged(to, said, (EXAMPLE, view, excerpt), message["Message-ID"])
@@ -87,9 +87,9 @@ def example_sent(mailer: Mailer, kept: list[Kept], said: list[str], ring: Ring) 
     parts = [each.get_content_type() for each in outer.iter_parts()]
     form = outer.get_content_type(), outer.get_param("protocol"), parts, ring.recipients_of(armor(outer))
     yield same(
-        "the encrypted message is PGP/MIME for one key alone",
+        "the encrypted message is PGP/MIME for its key alone",
         form,
-        ("multipart/encrypted", "application/pgp-encrypted", ["application/pgp-encrypted", "application/octet-stream"], 1),
+        ("multipart/encrypted", "application/pgp-encrypted", ["application/pgp-encrypted", "application/octet-stream"], [ring.part[-16:]]),
     )
 
 
@@ -129,9 +129,8 @@ def names(mailer: Mailer, server: Server) -> Iterator[tuple[bool, str]]:
         message = parsed(each.text)
         # Python up to 3.13 reads the folds between the encoded parts of a name as spaces.
         found = [("".join(one.display_name.split()), one.addr_spec) for one in message["To"].addresses]
-        is_short = max(len(line) for line in each.text.split(b"\r\n")) <= 998
         wanted = ([("".join(name.split()), f"n{at}@x.example")], sorted(HEADERS), f"n{at}@x.example", True)
-        yield same(f"the name {name[:30]!r}", (found, sorted(message.keys()), each.to, is_short), wanted)
+        yield same(f"the name {name[:30]!r}", (found, sorted(message.keys()), each.to, is_sound(each.text)), wanted)
 
 
 def odd_reports(mailer: Mailer, server: Server) -> Iterator[tuple[bool, str]]:
