@@ -136,8 +136,9 @@ class Mailing:
     def mail(self, due: Due) -> None:
         """Sends one message. Raises Failed or InDoubt."""
         assert due.excerpt.seen is not None
-        # A message that may have arrived has the same number when it is sent again.
-        number = due.before.message if due.before is not None and due.before.what == SENDING else messages.new_id(self.sender)
+        # A message that may have arrived has the same number when it is sent again, and stays in doubt if that is refused.
+        in_doubt = due.before if due.before is not None and due.before.what == SENDING else None
+        number = in_doubt.message if in_doubt else messages.new_id(self.sender)
         party = due.partner.party
         text = messages.message(self.sender, party, due.excerpt.seen.label, due.excerpt.document, due.partner.key, number)
         has_begun = False
@@ -150,7 +151,7 @@ class Mailing:
         try:
             send(self.route, self.sender.address, party.address, text, begin)
         except Failed:
-            if has_begun:
+            if has_begun and in_doubt is None:
                 self.keep(due, REFUSED, number)
             raise
         self.keep(due, SENT, number)

@@ -91,7 +91,7 @@ class Session:
             self.sender = found[1]
         elif verb == "RCPT" and found:
             self.to = found[1]
-            return "550 nobody" if self.way() == REFUSED_TO else "250 ok"
+            return "550 nobody\x1b[2J" if self.way() == REFUSED_TO else "250 ok"
         return "250 ok"
 
     def way(self) -> int:

@@ -64,7 +64,8 @@ def refusals(mailer: Mailer, server: Server, name: str, way: int) -> Iterator[tu
     ran = mailer.run("--send")
     code = {REFUSED_TO: "550", REFUSED_DATA: "451", REFUSED_MESSAGE: "554"}[way]
     line = f"iodef-redact-mail: {TO[1]}: not sent: NotTaken: the mail server answers {code} to {name}"
-    wanted = line + (": nobody" if way == REFUSED_TO else "")
+    # What the server says is told in printed characters.
+    wanted = line + (r": nobody\u001b[2J" if way == REFUSED_TO else "")
     yield same(f"{name} refused: the others are sent to", (ran.status, ran.said[1], to_of(server)), (3, wanted, [TO[0], TO[2]]))
     server.ways = {}
     ran = mailer.run("--send")
@@ -91,6 +92,12 @@ def cuts(mailer: Mailer, server: Server, name: str, way: int, count: int) -> Ite
         found = ran.status, ran.states()[TO[0]], [f"{TO[0]}: cut: " in each for each in ran.said], to_of(server)
         yield same(f"and a later run names it and doesn't send it {words}", found, (3, "cut", [True], []))
     number = number_of(mailer, TO[0])
+    server.ways = {TO[0]: REFUSED_MESSAGE}
+    ran = mailer.run("--send", "--again")
+    yield same("--again is refused", (ran.status, "NotTaken" in ran.said[0], to_of(server)), (3, True, []))
+    server.ways = {}
+    ran = mailer.run("--send")
+    yield same("and the first message is still in doubt", (ran.status, ran.states()[TO[0]], to_of(server)), (3, "cut", []))
     ran = mailer.run("--send", "--again")
     kept = server.taken()
     found = ran.status, ran.states()[TO[0]], [(each.to, parsed(each.text)["Message-ID"]) for each in kept]
