@@ -6,8 +6,6 @@ import smtplib
 import ssl
 from collections.abc import Callable, Iterator
 
-from iodef_hub_ask.characters import shown_exactly
-
 from .faults import Failed
 from .partners import Route
 
@@ -20,7 +18,7 @@ class InDoubt(Exception):
 
 
 def words_of(said: bytes) -> str:
-    return shown_exactly(said.decode(errors="replace"))[:LONGEST_SAID]
+    return said.decode(errors="replace")[:LONGEST_SAID]
 
 
 def taken(code: int, said: bytes, what: str) -> None:
