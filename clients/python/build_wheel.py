@@ -26,7 +26,7 @@ from typing import Any
 HERE = pathlib.Path(__file__).resolve().parent
 BEGINNING = (1980, 1, 1, 0, 0, 0)  # of a zip's time: the same files make the same wheel
 LIBRARY = "libiodef_redact.so.1"
-PACKAGES = ("iodef_hub_ask", "iodef_hub_stix", "iodef_hub_taxii", "iodef_hub_xml")
+PACKAGES = ("iodef_hub_ask", "iodef_hub_stix", "iodef_hub_taxii", "iodef_hub_xml", "iodef_redact_mail")
 VERSION = r"\d+(\.\d+)*((a|b|rc)\d+)?(\.post\d+)?"  # the forms of PEP 440 that are used
 # The machines of a library of 64 bits, by the numbers of ELF.
 MACHINES = {62: "x86_64", 183: "aarch64"}

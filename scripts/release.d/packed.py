@@ -44,11 +44,12 @@ Files = dict[str, bytes | Link]
 # Where a file of the package comes from, by the beginning of its path. What isn't named here is generated.
 FROM = [
     (r"usr/bin/(iodef-hub-(?:ask|misp|stix|taxii|xml))", r"clients/python/\1"),
+    (r"usr/bin/(iodef-redact-mail)", r"clients/python/\1"),
     (r"usr/bin/(iodef-hub-version)", r"deploy/deb/\1"),
     (r"usr/bin/(iodef-hub-demo)", r"demo/\1"),
     (r"usr/share/iodef-hub/demo/reports/((?:phishing|botnet|denial-of-service)\.json)", r"docs/examples/\1"),
     (r"usr/share/iodef-hub/(demo/.*)", r"\1"),
-    (r"usr/share/iodef-hub/client/(.*)", r"clients/python/\1"),
+    (r"usr/share/iodef-(?:hub|redact)/client/(.*)", r"clients/python/\1"),
     (r"usr/sbin/(.*)", r"deploy/bin/\1"),
     (r"usr/lib/iodef-hub/(.*)", r"deploy/lib/\1"),
     (r"(?:usr/)?lib/systemd/system/(.*)", r"deploy/systemd/\1"),
@@ -64,7 +65,7 @@ FROM = [
     (r"usr/share/doc/iodef-hub/examples/(receipts/.*)", r"deploy/\1"),
     (r"usr/share/doc/iodef-hub/examples/(alerts\.yml)", r"deploy/monitoring/\1"),
     (r"usr/share/doc/iodef-hub/examples/(mail-news)", r"clients/python/examples/\1"),
-    (r"usr/share/man/man1/(iodef-hub-(?:ask|misp|stix|taxii|xml)\.1)\.gz", r"clients/python/\1"),
+    (r"usr/share/man/man1/((?:iodef-hub-(?:ask|misp|stix|taxii|xml)|iodef-redact-mail)\.1)\.gz", r"clients/python/\1"),
     (r"usr/include/(iodef_redact\.h)", r"clients/c/\1"),
     (r"usr/lib/[\w-]+/pkgconfig/(iodef_redact\.pc)", r"clients/c/\1"),
     (r"usr/lib/python3/dist-packages/(iodef_redact\.py)", r"clients/python/\1"),
@@ -78,6 +79,7 @@ COMMANDS = {
     "iodef-hub-stix": "clients/python/iodef-hub-stix",
     "iodef-hub-taxii": "clients/python/iodef-hub-taxii",
     "iodef-hub-xml": "clients/python/iodef-hub-xml",
+    "iodef-redact-mail": "clients/python/iodef-redact-mail",
     "iodef-hub-version": "deploy/deb/iodef-hub-version",
     "iodef-hub-demo": "demo/iodef-hub-demo",
 }

@@ -35,7 +35,7 @@ def free_port() -> int:
 def _program(name: str) -> str:
     """The whole path of a program that can be started, which the launcher isn't, since it may build one."""
     path = pathlib.Path(name).resolve()
-    if path == TOP / "iodef-hub":
+    if path in (TOP / "iodef-hub", TOP / "iodef-redact"):
         raise argparse.ArgumentTypeError(f"{name} is the launcher, which may build: name the program that it built in out/")
     if not path.is_file() or not os.access(path, os.X_OK):
         raise argparse.ArgumentTypeError(f"{name} is no program")

@@ -14,13 +14,14 @@ from dataclasses import dataclass
 @dataclass(frozen=True)
 class Context:
     """`program` is the built iodef-hub; without one, the checks that need a running hub are left out. `next(ports)` is a port that
-    no other server of this run has."""
+    no other server of this run has. `redact` is the built iodef-redact, if there is one."""
 
     folder: pathlib.Path
     program: str | None
     ports: Iterator[int]
     count: int
     seed: int
+    redact: str | None = None
 
 
 def same(what: str, got: object, wanted: object = True) -> tuple[bool, str]:

@@ -43,6 +43,10 @@ OFFERED = {
     "iodef-hub-xml t": "table to-json to-xml",
     "iodef-hub-xml to-json --": "--help --schema",
     "iodef-hub-xml to-xml --schema rep": "report.json",
+    "iodef-redact-mail --to rep": "report.json",
+    "iodef-redact-mail --tls ": "implicit none starttls",
+    "iodef-redact-mail --s": "--send --state",
+    "iodef-redact-mail rep": "report.json",
     "iodef-hub-standby ": "check fetch give point status take-over",
     "iodef-hub-standby take-over payments --": "--newest --pointed",
     "iodef-hub-setup ": "health payments",
@@ -64,8 +68,9 @@ class Installed:
         self.dist, self.root = dist, room / "installed"
         for file in self.packages():
             subprocess.run(["dpkg-deb", "-x", file, self.root], check=True)
-        shared = self.root / "usr/share/iodef-hub"
-        self.given = {**os.environ, "PYTHONPATH": f"{shared}/client:{shared}/demo", "PYTHONDONTWRITEBYTECODE": "1", "DPKG_ROOT": str(self.root)}
+        shared = self.root / "usr/share"
+        folders = ":".join(str(shared / it) for it in ("iodef-hub/client", "iodef-hub/demo", "iodef-redact/client"))
+        self.given = {**os.environ, "PYTHONPATH": folders, "PYTHONDONTWRITEBYTECODE": "1", "DPKG_ROOT": str(self.root)}
 
     def packages(self) -> list[pathlib.Path]:
         return sorted(self.dist.glob("*.deb"))
