@@ -575,6 +575,11 @@ def of_command() -> Check:
     yield same("and has the same ids as the hub's answer", ids[0], ids[1])
     others, _ = objects_of(Excerpt.of_answer(value, "b"), NOW)
     yield same("another hub's are others", {each["id"] for each in made(value)} & {each["id"] for each in others}, set())
+    for text in (run("--help")[1], COMMAND.with_suffix(".1").read_text()):
+        told = " ".join(text.split())
+        yield same("help and page tell of markings and of iodef-hub-taxii", [each for each in (
+            "an object without a marking", "becomes TLP:RED", "GenerationTime", "feed both into one consumer") if each not in told.replace(
+            "An object without", "an object without")], [])
     rows = run("table")[1].splitlines()
     yield same("the table counts its rows from memory", rows[-1].startswith(f"{len(rows) - 2} rows: "))
 

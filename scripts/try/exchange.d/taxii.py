@@ -527,8 +527,12 @@ def of_away(trial: Trial) -> Check:
 
 def of_command(context: Context) -> Check:
     told = subprocess.run([sys.executable, "-B", COMMAND, "--help"], capture_output=True, text=True, timeout=60).stdout
-    ports = [re.findall(r"--?port (?:Ar )?([0-9]+)", each) for each in (told, COMMAND.with_suffix(".1").read_text())]
+    page = COMMAND.with_suffix(".1").read_text()
+    ports = [re.findall(r"--?port ([0-9]+)", each) for each in (told, page)]
     yield same("command: its help and its page name one port", ports, [["21012"], ["21012"]])
+    wanted = ("TLP:RED", "mutex", "withdrawn", "-again\nseconds behind the last read", "Back it up", "GenerationTime", "into one consumer")
+    yield same("command: they tell what consumers and operators must know", [
+        each for each in wanted for text in (told, page) if " ".join(each.split()) not in " ".join(text.split())], [])
     words = {"--hub": "http://127.0.0.1:1", "--name": NAME, "--state": str(context.folder / "other.db"), "--port": str(next(context.ports))}
     text = context.folder / "text.db"
     text.write_text("no database, but a text that is as long as one would be" * 100)
