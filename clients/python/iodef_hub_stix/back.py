@@ -8,13 +8,14 @@ import re
 from collections import Counter
 from collections.abc import Iterator, Sequence
 from dataclasses import dataclass, field
-from typing import Any
+from typing import Any, NamedTuple
 
 from iodef_hub_ask.limits import lines_of
 from iodef_hub_misp import HASHES, Unfit
 
+from .lost import CARRIED, members_lost
 from .marking import label_of_object, restriction_of, strictest
-from .reading import Object, counted, moment_in, objects_in, text_in, texts_in
+from .reading import Object, counted, moment_in, objects_in, text_in, texts_in, where
 from .table import BY_KIND, VALUES
 from .values import spelled
 
@@ -22,9 +23,11 @@ LONGEST_PATTERN = 8_192  # of which the values are looked for; a longer one is k
 QUOTED = r"'((?:[^'\\]|\\\\|\\')*)'"
 # The patterns that become values: comparisons for equality, joined by OR; all others are kept as texts.
 COMPARISON = re.compile(rf"\s*([a-z0-9-]+:[A-Za-z0-9_.'-]+)\s*(=|ISSUBSET)\s*(?:{QUOTED}|([0-9]{{1,10}}))\s*")
+OBSERVED = {row.type for row in VALUES}
 KIND_OF_PATH = {each.path: each.kind for each in VALUES if not each.kind.endswith("-net")}
 NETS = {"ipv4-addr": "ipv4-net", "ipv6-addr": "ipv6-net"}
 ADDRESSES = {"ipv4-addr", "ipv4-net", "ipv6-addr", "ipv6-net", "site-uri", "e-mail", "asn", "mac"}
+PATTERN_TYPE = re.compile(r"[A-Za-z0-9][A-Za-z0-9._-]{0,63}")
 # From memory, as the roles of a Contact and the categories of a System.
 RFC_ROLES = {
     "creator", "reporter", "admin", "tech", "provider", "user", "billing", "legal", "irt", "abuse", "cc", "cc-irt", "leo", "vendor",
@@ -43,6 +46,15 @@ class Made:
     data: list[Object] = field(default_factory=list)
     methods: list[Object] = field(default_factory=list)
     left_out: Counter[str] = field(default_factory=Counter)
+    as_texts: list[str] = field(default_factory=list)
+
+
+class Report(NamedTuple):
+    """A report, how much of its bundle isn't in it, and which patterns are in it as texts."""
+
+    document: Object
+    left_out: Counter[str]
+    as_texts: list[str]
 
 
 def extra(name: str, value: str) -> Object:
@@ -87,17 +99,18 @@ def _bulk(kind: str, value: str) -> Object:
 def indicator_of(value: Object, made: Made) -> Object:
     """The Indicator of an indicator."""
     label = label_of_object(value)
-    if text_in(value, "pattern_type") != "stix":
-        raise Unfit(f"object {value['id']}: pattern_type is not stix")
-    pattern = text_in(value, "pattern")
-    found = values_in(pattern)
+    language, pattern = text_in(value, "pattern_type"), text_in(value, "pattern")
+    if not PATTERN_TYPE.fullmatch(language):
+        raise Unfit(f"{where(value)}: pattern_type is not a name")
+    found = values_in(pattern) if language == "stix" else None
     if found is None:
-        observed: Object = {"Observable": {"AdditionalData": [extra("stix-pattern", pattern)]}}
+        made.as_texts.append(f"{where(value)}, of type {language}")
+        observed: Object = {"Observable": {"AdditionalData": [extra(f"{language}-pattern", pattern)]}}
     elif len(found) == 1:
         observed = {"Observable": _bulk(*found[0])}
     else:
         observed = {"IndicatorExpression": {"operator": "or", "Observable": [_bulk(*each) for each in found]}}
-    described = [text for text in (text_in(value, "description"),) if text]
+    described = [text for text in (text_in(value, "description") or text_in(value, "name"),) if text]
     times = {name: told for name, member in (("StartTime", "valid_from"), ("EndTime", "valid_until")) if (told := moment_in(value, member))}
     ident = {"id": value["id"], "name": made.name, "version": "1"}
     return {**restriction_of(label), "IndicatorID": ident, **({"Description": described} if described else {}), **times, **observed}
@@ -168,8 +181,8 @@ def _observations(objects: dict[str, Object], made: Made) -> None:
     observations = [each for each in objects.values() if each["type"] == "observed-data"]
     named = [(each, ref) for each in observations for ref in texts_in(each, "object_refs")]
     made.left_out["references to what the bundle lacks"] += sum(ref not in objects for _, ref in named)
-    types, refs = {row.type for row in VALUES}, {ref for _, ref in named}
-    alone = [(None, name) for name, value in objects.items() if value["type"] in types and name not in refs]
+    refs = {ref for _, ref in named}
+    alone = [(None, name) for name, value in objects.items() if value["type"] in OBSERVED and name not in refs]
     for value, ref in [*((each, ref) for each, ref in named if ref in objects), *alone]:
         observed(value, objects[ref], made)
 
@@ -177,6 +190,8 @@ def _observations(objects: dict[str, Object], made: Made) -> None:
 def _read(objects: dict[str, Object], author: str, made: Made) -> None:
     for name, value in objects.items():
         kind = value["type"]
+        if kind in CARRIED or kind in OBSERVED:
+            made.left_out.update(members_lost(value))
         if kind == "indicator":
             made.indicators.append(indicator_of(value, made))
         elif kind == "identity":
@@ -185,7 +200,7 @@ def _read(objects: dict[str, Object], author: str, made: Made) -> None:
             made.data.append({**restriction_of(label_of_object(value)), "Description": [text_in(value, "content")]})
         elif kind == "vulnerability":
             made.methods.append({"Reference": [{**restriction_of(label_of_object(value)), "Description": [text_in(value, "name")]}]})
-        elif kind not in ("report", "observed-data") and kind not in {row.type for row in VALUES}:
+        elif kind not in ("report", "observed-data") and kind not in OBSERVED:
             made.left_out[f"objects of type {kind}"] += 1
     _observations(objects, made)
 
@@ -216,8 +231,8 @@ def _chosen(objects: dict[str, Object], report: Object, made: Made) -> dict[str,
     return kept
 
 
-def report_of(text: bytes, name: str, now: str, wanted: str = "") -> tuple[Object, Counter[str]]:
-    """The report of a bundle, and how much of the bundle isn't in it. `name` is that of its IncidentID, and `now` is when it is made."""
+def report_of(text: bytes, name: str, now: str, wanted: str = "") -> Report:
+    """The report of a bundle. `name` is that of its IncidentID, and `now` is when it is made."""
     made = Made(name)
     objects = counted(objects_in(text), made.left_out)
     report = _report_of(objects, wanted)
@@ -237,7 +252,7 @@ def report_of(text: bytes, name: str, now: str, wanted: str = "") -> tuple[Objec
     }
     for member, classes in (("Method", made.methods), ("Indicator", made.indicators), ("EventData", made.data)):
         incident |= {member: classes} if classes else {}
-    return {"version": "2.0", "lang": "en", "Incident": [incident]}, made.left_out
+    return Report({"version": "2.0", "lang": "en", "Incident": [incident]}, made.left_out, made.as_texts)
 
 
 def beyond_of(document: Object, size: int, most_bytes: int, most_lines: int) -> Sequence[str]:

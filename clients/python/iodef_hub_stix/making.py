@@ -27,6 +27,7 @@ LANGUAGE = re.compile(r"[A-Za-z]{2,8}(-[A-Za-z0-9]{1,8})*")
 LONGEST_NAME = 200
 NOTED = ("EventData", "RecordData", "HistoryItem", "Method", "Discovery")  # whose descriptions become notes
 TIMES = ("StartTime", "DetectTime", "EndTime")
+UNTOLD = "1970-01-01T00:00:00.000Z"  # the moment of what tells none
 ROLES = {"person": "individual", "organization": "organization"}
 
 
@@ -53,10 +54,12 @@ def _canonical(value: list[str]) -> str:
 
 
 class Maker:
-    """The objects of one excerpt. `created` is the moment of all, `modified` that of the version."""
+    """The objects of one excerpt. `created` is the moment of all, if it isn't empty, and `modified` that of the version."""
 
-    def __init__(self, excerpt: Excerpt, created: str, modified: str) -> None:
+    def __init__(self, excerpt: Excerpt, modified: str, created: str) -> None:
         self.excerpt, self.created, self.modified = excerpt, created, modified
+        self.incident = next((each for each in places(excerpt.document) if each.name == "Incident" and each.above is None), None)
+        self.generated = moment(self.incident.members.get("GenerationTime")) if self.incident else None
         self.ids = Ids(excerpt.hub, excerpt.incident)
         self.drafts: dict[str, Draft] = {}
         self.observed: dict[tuple[str, str], Draft] = {}
@@ -77,9 +80,26 @@ class Maker:
         return self.drafts[name]
 
     def put_versioned(self, type_: str, kind: str, value: str, labels: Iterable[str], members: Object) -> Draft:
-        times = {"created": self.created, "modified": self.modified}
+        times = {"created": UNTOLD, "modified": self.modified}  # `mark` sets `created`
         author = {} if kind == "source" else {"created_by_ref": self.author}
         return self.put(type_, kind, value, labels, {**times, **author, **members})
+
+    def made_at(self, label: str) -> str:
+        """The moment at which an object of this label was made: that of the report, if the Incident isn't stricter. It is no clock's, so
+        that an object's `created` stays over runs."""
+        if self.created:
+            return self.created
+        is_told = self.incident is not None and _at_most(self.incident.label, label)
+        return self.generated if is_told and self.generated else UNTOLD
+
+    def mark(self) -> None:
+        """Writes the markings, and the moments that depend on them."""
+        for draft in self.drafts.values():
+            label = strictest(draft.labels)
+            if "created" in draft.object:
+                draft.object["created"] = self.made_at(label)
+                draft.object["modified"] = max(self.modified, draft.object["created"])
+            draft.object["object_marking_refs"] = [MARKING_IDS[label]]
 
     def wordings(self, place: Place) -> list[tuple[Wording, str]]:
         """The texts of a class's Description, each with its label."""
@@ -109,7 +129,8 @@ class Maker:
         self._note_part(place, made)
 
     def _times(self, place: Place) -> tuple[str, str]:
-        """When something was observed: by the EventData or else the Incident around it, if that isn't stricter; else when it was made."""
+        """When something was observed: by the EventData or else the Incident around it, if that isn't stricter; else when the report was
+        made."""
         for each in (place.nearest("EventData"), place.nearest("Incident")):
             if each is not None and _at_most(each.label, place.label):
                 told = {name: moment(each.members.get(name)) for name in TIMES}
@@ -117,7 +138,8 @@ class Maker:
                 if first is not None:
                     self.taken.all_of(each.members, *(name for name in TIMES if told[name]))
                     return first, max(first, told["EndTime"] or first)
-        return self.created, self.created
+        made = self.made_at(place.label)
+        return made, made
 
     def _note_part(self, place: Place, made: Draft) -> None:
         """The role of the System that a value is of, as labels of its observation."""
@@ -140,9 +162,9 @@ class Maker:
         for each in alternatives:
             self._take_parts(each)
             labels = [each.label]
-            members: Object = {"pattern": each.pattern, "pattern_type": "stix", "valid_from": self.created}
+            members: Object = {"pattern": each.pattern, "pattern_type": "stix", "valid_from": self.made_at(each.label)}
             if _at_most(indicator.label, each.label):
-                members |= self._valid(indicator, told)
+                members |= self._valid(indicator, told, members["valid_from"])
             if texts := [wording for wording, label in self.wordings(indicator) if _at_most(label, each.label)]:
                 members["description"] = "\n".join(self.take(wording) for wording in texts)
             members["name"] = _short(", ".join(value.text for value in each.values))
@@ -153,9 +175,9 @@ class Maker:
         for place, member in alternative.made_of:
             self.taken.all_of(place.members, member, "category", "type", "DigestMethod", "operator")
 
-    def _valid(self, indicator: Place, told: dict[str, str | None]) -> Object:
+    def _valid(self, indicator: Place, told: dict[str, str | None], made: str) -> Object:
         self.taken.all_of(indicator.members, *(name for name in told if told[name]))
-        first, last = told["StartTime"] or self.created, told["EndTime"]
+        first, last = told["StartTime"] or made, told["EndTime"]
         return {"valid_from": first, **({"valid_until": last} if last and last > first else {})}
 
     def relate(self) -> None:
@@ -228,6 +250,10 @@ class Maker:
 
     # The whole
 
+    def count_unfit(self, place: Place) -> None:
+        if count := unfit_in(place):
+            self.left_out[f"values that haven't the form of their kind at {place.path}"] += count
+
     def read(self) -> None:
         """Makes all objects but the report and the source."""
         for place in places(self.excerpt.document):
@@ -235,6 +261,8 @@ class Maker:
                 self.indicate(place)
             elif place.nearest("Indicator") is None:
                 self._read_outside(place)
+            elif place.name == "BulkObservable":  # whose other values have patterns
+                self.count_unfit(place)
             if place.name == "Reference":
                 self.refer(place)
         self.relate()
@@ -242,7 +270,7 @@ class Maker:
     def _read_outside(self, place: Place) -> None:
         for value in values_of(place):
             self.observe(place, value)
-        self.left_out["values that haven't the form of their kind"] += unfit_in(place)
+        self.count_unfit(place)
         if place.name == "Contact":
             self.introduce(place)
         elif place.name == "IncidentID":
@@ -252,10 +280,9 @@ class Maker:
 
     def conclude(self) -> None:
         """The report, which names all others, and the source."""
-        incident = next((each for each in places(self.excerpt.document) if each.name == "Incident" and each.above is None), None)
+        incident, published = self.incident, self.generated
         texts = self.wordings(incident) if incident else []
         told = [self.take(wording) for wording, _ in texts]
-        published = moment(incident.members.get("GenerationTime")) if incident else None
         if incident and published:
             self.taken.all_of(incident.members, "GenerationTime")
         labels = [*(label for _, label in texts), *(label for _, label in self.references)]
@@ -267,7 +294,7 @@ class Maker:
         # The hub tells the source beside whatever it serves, so to each who may have the widest of it.
         author.labels = [min([*held, *labels], key=ORDER.index, default="red")]
         members: Object = {"name": _short(told[0]) if told else f"Incident {self.excerpt.incident} at {self.excerpt.hub}",
-                           "published": published or self.created, "object_refs": [each.object["id"] for each in others]}
+                           "published": published or self.created or UNTOLD, "object_refs": [each.object["id"] for each in others]}
         members |= {"description": "\n".join(told)} if told else {}
         members |= {"external_references": [each for each, _ in self.references]} if self.references else {}
         language = self.excerpt.document.get("lang")
@@ -283,15 +310,15 @@ class Maker:
         self.left_out += self.taken.left_out(document, "document")[1]
 
 
-def objects_of(excerpt: Excerpt, created: str, modified: str = "") -> tuple[list[Object], Counter[str]]:
+def objects_of(excerpt: Excerpt, modified: str, created: str = "") -> tuple[list[Object], Counter[str]]:
     """The objects of an excerpt, without the marking definitions, and how much of the excerpt isn't in them, by name.
 
-    `created` is the moment at which its objects were made, and `modified` that of this version of them, each in the form of STIX."""
-    maker = Maker(excerpt, created, modified or created)
+    `modified` is the moment of this version of them, and `created` that at which they were made, each in the form of STIX. By default
+    that is the GenerationTime of the report; UNTOLD, if there is none or its Incident is stricter than the object."""
+    maker = Maker(excerpt, modified, created)
     maker.read()
     maker.conclude()
-    for draft in maker.drafts.values():
-        draft.object["object_marking_refs"] = [MARKING_IDS[strictest(draft.labels)]]
+    maker.mark()
     return [draft.object for draft in maker.drafts.values()], maker.left_out
 
 

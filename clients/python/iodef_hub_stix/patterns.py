@@ -44,7 +44,7 @@ def alternatives_of(indicator: Place, withheld: Sequence[str]) -> tuple[list[Alt
                     raise Unclear("expressions of which a part is withheld")
                 found += _expression(each, unclear) if each.name == "IndicatorExpression" else _observable(each)
             except Unclear as why:
-                unclear.append(str(why))
+                unclear.append(f"{why} at {each.path}")
     return found[:MOST_ALTERNATIVES], unclear
 
 
@@ -61,7 +61,7 @@ def _operands(place: Place, is_or: bool, unclear: list[str]) -> list[list[Altern
         except Unclear as why:
             if not is_or:
                 raise
-            unclear.append(str(why))
+            unclear.append(f"{why} at {each.path}")
     if not is_or and not all(found):
         raise Unclear("expressions of `and` with an operand that has no pattern")
     return found

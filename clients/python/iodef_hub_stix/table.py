@@ -123,7 +123,7 @@ CLASSES = (
     Made("Incident", "report", "docs/examples/phishing.json"),
     Made("Incident/Description", "report name, description", "docs/examples/phishing.json"),
     Made("Incident/IncidentID, AlternativeID", "report external_references", "docs/examples/botnet.json"),
-    Made("Incident/GenerationTime", "report published", "docs/examples/phishing.json"),
+    Made("Incident/GenerationTime", "report published; created of all", "docs/examples/phishing.json"),
     Made("Reference/URL", "report external_references", "docs/examples/botnet.json"),
     Made("Reference/Description, if it is a CVE's number", "vulnerability", MISP_MODULE),
     Made("the source", "identity, created_by_ref", "docs/HTTP.md"),

@@ -8,6 +8,7 @@ import os
 import pathlib
 import sys
 from collections import Counter
+from collections.abc import Sequence
 from typing import Any
 
 from iodef_hub_ask.characters import shown
@@ -20,6 +21,8 @@ from .making import Ids, objects_of
 from .marking import definitions_of
 from .table import CLASSES, MARKINGS, MEMBERS, VALUES, count_from_memory
 
+MOST_PLACES = 20  # of one kind on standard error
+
 HEAD = """What a hub served or iodef-redact let through, as a bundle of STIX 2.1, and back. It opens no connection.
 
     iodef-hub-ask --json show 1 | iodef-hub-stix to-stix --hub hub.example.org > bundle.json
@@ -27,7 +30,12 @@ HEAD = """What a hub served or iodef-redact let through, as a bundle of STIX 2.1
     iodef-hub-stix to-iodef --name csirt.example.com < bundle.json > report.json
 
 An object's marking is the strictest label of what it holds: `amber` is TLP:AMBER+STRICT, `default` and what isn't known are TLP:RED.
-Back, of several markings the strictest holds, and none is TLP:RED. Standard error says what was left out, by name and number.
+`created` is the report's GenerationTime; if there is none, or its Incident is stricter than the object, 1970-01-01. `modified` is --now,
+and never before. iodef-hub-taxii writes another `created`, its first sight of the report: don't feed both into one consumer.
+
+Back, of several markings the strictest holds, and an object without a marking becomes TLP:RED. A pattern that is no plain list of values,
+or of another type such as snort, is kept as a text, and its object is named. An indicator's `name` is its Description if it has none.
+Standard error says what was left out, by name and number.
 """
 
 
@@ -61,7 +69,8 @@ def words() -> argparse.ArgumentParser:
     back.add_argument("--name", required=True, type=_some_text, metavar="NAME", help="the name of the IncidentID: your team's")
     back.add_argument("--report", default="", metavar="ID", help="which report of the bundle, if it has several")
     for each, what in ((there, "EXCERPT"), (back, "BUNDLE")):
-        each.add_argument("--now", type=_moment, metavar="MOMENT", help="the moment of what is made (default: the clock's)")
+        each.add_argument("--now", type=_moment, metavar="MOMENT",
+                          help="`modified` of objects, or GenerationTime of a report whose bundle tells none (default: the clock's)")
         each.add_argument("file", nargs="?", default="-", metavar=what, help="a file, or standard input")
     ways.add_parser("table", help="which kind of IODEF becomes which object, and where each row was read")
     return parser
@@ -101,6 +110,13 @@ def table() -> str:
     return "\n".join([*lines, f"{every} rows: IODEF's names of {iodef} and STIX's of {stix} are from memory"])
 
 
+def _say_texts(places: Sequence[str]) -> None:
+    for each in places[:MOST_PLACES]:
+        say(f"a pattern is kept as a text: {each}")
+    if len(places) > MOST_PLACES:
+        say(f"and {len(places) - MOST_PLACES} further patterns")
+
+
 def _done(given: argparse.Namespace) -> str:
     """What is printed."""
     if given.way == "table":
@@ -111,8 +127,9 @@ def _done(given: argparse.Namespace) -> str:
         made, left_out = bundle_of(Excerpt.of_answer(value, given.hub, given.incident, names_in(given.names)), now)
         text = json.dumps(made, indent=1, ensure_ascii=False)
     else:
-        made, left_out = report_of(read_file(given.file), given.name, now, given.report)
+        made, left_out, as_texts = report_of(read_file(given.file), given.name, now, given.report)
         text = compact(made)
+        _say_texts(as_texts)
         for why in beyond_of(made, len(text.encode()), MOST_BYTES, MOST_LINES):
             say(f"hubs refuse the report: it has {why}")
     if any(left_out.values()):

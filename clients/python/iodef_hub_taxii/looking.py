@@ -153,7 +153,7 @@ class Reader:
             self._store.same(self.number, number, answer)
             return
         created = stamp(kept.created if kept else 0)
-        made, _ = objects_of(excerpt, created)
+        made, _ = objects_of(excerpt, created, created)
         # Moments that stand for one that the report doesn't tell are no content.
         content = self._digest([{name: it for name, it in each.items() if it != created} for each in made])
         if kept is not None and kept.content == content:
@@ -165,7 +165,7 @@ class Reader:
         kept = self._store.kept(self.number, number)
         if kept is None:
             return []
-        made, _ = objects_of(excerpt, stamp(kept.created), stamp(kept.modified))
+        made, _ = objects_of(excerpt, stamp(kept.modified), stamp(kept.created))
         return with_names(made, self._store.renamed(self.number, number))
 
     def _excerpt(self, number: int) -> Excerpt | None:

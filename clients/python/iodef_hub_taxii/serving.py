@@ -24,6 +24,7 @@ from .store import Store, Wanted
 TAXII = "application/taxii+json;version=2.1"
 ROOT = "/taxii2/hub/"
 LONGEST_QUERY, MOST_FILTERS = 2048, 64
+LONGEST_BODY = 1024  # what nginx accepts; TAXII wants a positive number, though no request for reading has a body
 ID = re.compile(r"[a-z0-9][a-z0-9-]{1,40}--[0-9a-f]{8}(-[0-9a-f]{4}){3}-[0-9a-f]{12}")
 TYPE = re.compile(r"[a-z0-9][a-z0-9-]{1,40}")
 MOMENT = re.compile(r"(\d{4}-\d\d-\d\dT\d\d:\d\d:\d\d)(?:\.(\d{1,12}))?Z")
@@ -219,7 +220,7 @@ class Service:
     def _in_root(self, request: Request, steps: list[str]) -> Answer:
         if not steps:
             reader = self._reader(request, set())
-            value = {"title": self.title, "versions": [TAXII], "max_content_length": 0}
+            value = {"title": self.title, "versions": [TAXII], "max_content_length": LONGEST_BODY}
             return answer_of(value, f"root reader={reader.number}")
         if steps[0] != "collections":
             raise Refusal(404, "NoRoute", "there is no such resource")

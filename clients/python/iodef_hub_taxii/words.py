@@ -22,24 +22,29 @@ from .store import Store, WrongFile
 
 HEAD = """Serves a hub's excerpts as a collection of TAXII 2.1, for reading, on loopback.
 
-    iodef-hub-taxii --hub http://127.0.0.1:21011 --name hub.example.org --state /var/lib/iodef-hub-taxii/state.db --port 21031
+    iodef-hub-taxii --hub http://127.0.0.1:21011 --name hub.example.org --state /var/lib/iodef-hub-taxii/state.db --port 21012
 
 The discovery is /taxii2/, the API root /taxii2/hub/; each key has one collection. The key is the hub's own: Bearer, or the password of
 Basic with any user's name. It is sent to the hub alone, is in memory for its request, and in no log and no file.
 
 Objects are those of iodef-hub-stix, made of what the hub serves the key as it answers. A version is of an excerpt: `modified` is when
 this key first saw this content. So a grant, a gate, a new address, or an end that passes makes a new version, though the revision stays.
-What is seen no more is served once more: `revoked`, with fixed words. Consumers keep what they have, and what they do with it then is
-theirs. If it is seen again it gets a new id, as no version follows a revocation.
+What is seen no more is served once more: `revoked`, marked TLP:RED, with fixed words. Where it must name another object it names a
+`mutex` "withdrawn", which each collection has. Consumers keep what they have, and what they do with it then is theirs. If it is seen again
+it gets a new id, as no version follows a revocation.
+
+`created` is when this key first saw the report; that of iodef-hub-stix is the report's GenerationTime, with the same ids. Don't feed both
+into one consumer.
 
 A poll lists what the hub shows, and reads all excerpts again: what is new or has another revision first, then what was read the longest
-ago. A request reads for --look seconds at most; then it answers with `more`, and the next page goes on. So a change is seen by the first
-poll behind it whose pages are all taken. Requests to the hub follow one another, each with a pause as long as it took, so half of the
-hub's time is left to others.
+ago. A request reads for --look seconds at most; then it answers with `more`, and the next page goes on. An excerpt
+that was read within --again seconds before the poll isn't read again, unless its revision is another. So a grant, a gate or an end is
+seen by the first poll that begins more than --again seconds behind the last read and whose pages are all taken. Requests to the hub
+follow one another, each with a pause as long as it took, so half of the hub's time is left to others.
 
 The file of state has ids, times, and HMACs by the keys; no content. But an id is made of a value, so whoever reads the file can try out
-values: it is for the service's user alone. It grows with the objects that keys ever saw. Without it all is new, with the first ids, also
-those that were revoked.
+values: it is for the service's user alone. It grows with the objects that keys ever saw. Back it up: without it
+all is new, with the first ids, also those that were revoked, and another `created`.
 
 /metrics has counts for this host; nginx doesn't pass it on.
 """

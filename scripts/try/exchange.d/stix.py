@@ -28,6 +28,8 @@ HERE = pathlib.Path(__file__).resolve().parent
 TOP = HERE.parents[2]
 COMMAND = TOP / "clients" / "python" / "iodef-hub-stix"
 NOW = "2026-06-02T00:00:00.000Z"
+LATER = "2026-06-03T00:00:00.000Z"
+UNTOLD = "1970-01-01T00:00:00.000Z"
 REPORTS = 1000
 READERS = tuple(reports.READERS)
 # From the specification of TLP 2.0's extension for STIX, written down by hand.
@@ -160,6 +162,32 @@ def by_hand() -> Check:
         yield same(f"with something withheld at {place}, patterns", len(patterns_of(both, (place,))), count)
     yield from markings_by_hand()
     yield from relationships_by_hand()
+    yield from moments_by_hand()
+
+
+CREATED: list[tuple[str, Object, str]] = [
+    ("UTC", {"GenerationTime": "2026-06-01T10:00:00Z"}, "2026-06-01T10:00:00.000Z"),
+    ("an offset", {"GenerationTime": "2026-06-01T01:30:00.5+02:00"}, "2026-05-31T23:30:00.500Z"),
+    ("no offset", {"GenerationTime": "2026-06-01T10:00:00"}, UNTOLD), ("a day", {"GenerationTime": "2026-06-01"}, UNTOLD),
+    ("no text", {"GenerationTime": 7}, UNTOLD), ("another text", {"GenerationTime": "yesterday"}, UNTOLD),
+    ("behind the run", {"GenerationTime": "2026-07-01T00:00:00Z"}, "2026-07-01T00:00:00.000Z"),
+    ("a stricter Incident", {"restriction": "amber"}, UNTOLD), ("a wider Incident", {"restriction": "white"}, "2026-06-01T10:00:00.000Z")]
+
+
+def moments_by_hand() -> Check:
+    """`created` is of the report alone, and `modified` of the run; no moment of a stricter class is beside an object."""
+    seen = {"restriction": "green", "Flow": [{"System": [{"Node": NODE}]}]}
+    found = {"restriction": "green", "IndicatorID": {"id": "1"}, "EndTime": "2026-06-20T00:00:00Z", "Observable": bulk("mutex", "a")}
+    for what, members, wanted in CREATED:
+        value = answer(incident(**{"EventData": [seen], "Indicator": [found], **members}))
+        objects, others = made(value), made(value, LATER)
+        told = one(objects, type="observed-data")
+        yield same(f"created: {what}", (told["created"], told["modified"]), (wanted, max(wanted, NOW)))
+        yield same(f"and so is what tells no moment: {what}", (told["first_observed"], one(objects, type="indicator")["valid_from"]),
+                   (wanted, wanted))
+        yield same(f"another run differs in modified alone: {what}", *([{**each, "modified": ""} if "modified" in each else each
+                                                                        for each in it] for it in (objects, others)))
+        yield same(f"and the rules hold: {what}", faults_of([*definitions_of(objects), *objects]), [])
 
 
 def relationships_by_hand() -> Check:
@@ -203,7 +231,7 @@ def markings_by_hand() -> Check:
     yield same("a role that is stricter isn't beside it", "labels" in one(objects, type="observed-data"), False)
     yield same("nor is a description", "description" in one(objects, type="indicator"), False)
     yield same("so the indicator keeps its label", label_of(one(objects, type="indicator")), "clear")
-    yield same("a moment that is stricter isn't either", one(objects, type="observed-data")["first_observed"], NOW)
+    yield same("a moment that is stricter isn't either", one(objects, type="observed-data")["first_observed"], UNTOLD)
     yield same("a report is as strict as what it names", label_of(one(objects, type="report")), "green")
     document["Incident"][0]["EventData"].append({"restriction": "red", "Description": ["x"]})
     yield same("also if that is red", label_of(one(made(answer(document)), type="report")), "red")
@@ -381,6 +409,48 @@ BACK_PATTERNS: list[tuple[str, Object]] = [
 ]
 
 
+SNORT = 'alert tcp any any -> 192.0.2.1 any (msg:"x"; sid:1;)'
+# Members that no class holds, each with what standard error says of it.
+LOST: list[tuple[Object, str]] = [
+    (indicator("[mutex:name = 'a']", description="d", name="n", confidence=0, indicator_types=["benign"], labels=["l"],
+               kill_chain_phases=[{"kill_chain_name": "k", "phase_name": "p"}], external_references=[{"source_name": "s", "url": "u"}]),
+     "1 confidence of objects of type indicator, 1 external_references of objects of type indicator, 1 indicator_types of objects of type "
+     "indicator, 1 kill_chain_phases of objects of type indicator, 1 labels of objects of type indicator, 1 name of objects of type "
+     "indicator"),
+    (indicator("[mutex:name = 'a']", name="n"), ""), (indicator("[mutex:name = 'a']", pattern_version="2.1"), ""),
+    ({"type": "report", "id": f"report--{ONE_ID}1", "name": "n", "description": "d", "report_types": ["campaign"], "labels": ["l"],
+      "object_refs": []},
+     "1 labels of objects of type report, 1 name of objects of type report, 1 report_types of objects of type report"),
+    ({"type": "report", "id": f"report--{ONE_ID}1", "name": "n"}, ""),
+    ({"type": "identity", "id": f"identity--{ONE_ID}1", "name": "n", "sectors": ["energy"]}, "1 sectors of objects of type identity"),
+    ({"type": "file", "id": f"file--{ONE_ID}1", "hashes": {"MD5": "a" * 32, "SHA-1": "b" * 40}, "size": 1},
+     "1 hashes of objects of type file, 1 size of objects of type file"),
+    ({"type": "file", "id": f"file--{ONE_ID}1", "hashes": {"MD5": "a" * 32}}, ""),
+    ({"type": "mutex", "id": f"mutex--{ONE_ID}1", "name": "n", "x\n": 1}, "1 other members of objects of type mutex"),
+]
+
+
+def of_back_told() -> Check:
+    """What standard error says of a bundle."""
+    for value, wanted in LOST:
+        told = run("to-iodef", "--name", "n", given=bundle(value))[2]
+        yield same(f"back: lost of {json.dumps(value)[:90]}", told, f"iodef-hub-stix: left out: {wanted}\n" if wanted else "")
+    for name, members, texts in (("its name", {"name": "n"}, ["n"]), ("its description", {"name": "n", "description": "d"}, ["d"]),
+                                 ("none", {}, None)):
+        yield same(f"back: an indicator's Description: {name}", back(indicator("[mutex:name = 'a']", **members))["Indicator"][0].get(
+            "Description"), texts)
+    for kind, pattern in (("snort", SNORT), ("yara", "rule a { condition: true }"), ("stix", "[mutex:name != 'a']")):
+        status, out, err = run("to-iodef", "--name", "n", given=bundle(indicator(pattern, pattern_type=kind)))
+        held = json.loads(out)["Incident"][0]["Indicator"][0]["Observable"] if status == 0 else None
+        yield same(f"back: a pattern of {kind} is a text", held, {"AdditionalData": [
+            {"dtype": "string", "name": f"{kind}-pattern", "value": pattern}]})
+        yield same(f"and is named: {kind}", err,
+                   f"iodef-hub-stix: a pattern is kept as a text: object indicator--{ONE_ID}1, of type {kind}\n")
+    many = [{**indicator(SNORT, pattern_type="snort"), "id": f"indicator--{ONE_ID[:-2]}{each:03d}"} for each in range(23)]
+    err = run("to-iodef", "--name", "n", given=bundle(*many))[2]
+    yield same("back: of many the number", (err.count("\n"), err.splitlines()[-1]), (21, "iodef-hub-stix: and 3 further patterns"))
+
+
 def of_back() -> Check:
     for what, members, wanted in BACK:
         made_of = back(indicator("[mutex:name = 'a']", **members))["Indicator"][0]
@@ -491,6 +561,12 @@ def of_command() -> Check:
     yield same("the command writes the bundle", (status, objects), (0, [*definitions_of(made(value)), *made(value)]))
     yield same("and says what it left out", err, "iodef-hub-stix: left out: 1 Assessment\n")
     yield same("the bundle keeps the rules", faults_of(objects), [])
+    unfit = answer(incident(Indicator=[{"IndicatorID": {"id": "1"}, "Observable": bulk("site-uri", "http://x/ y")}]))
+    some = answer(incident(Indicator=[{"IndicatorID": {"id": "1"}, "Observable": bulk("site-uri", "http://x/ y", "http://x/")}]))
+    yield same("and so is a part of a list", run(*words, given=json.dumps(some).encode())[2].count(
+        "1 values that haven't the form of their kind at /Incident/0/Indicator/0/Observable/BulkObservable\n"), 1)
+    yield same("what can't be a pattern is named", "without a value that is known at /Incident/0/Indicator/0/Observable" in run(
+        *words, given=json.dumps(unfit).encode())[2])
     redacted = {"classes": 1, "document": value["document"], "label": "TLP:GREEN", "readable": True, "withheld": []}
     yield same("what iodef-redact prints wants a number", run(*words, given=json.dumps(redacted).encode())[2],
                "iodef-hub-stix: refused: the input doesn't tell its incident's number (--incident NUMBER names it)\n")
@@ -499,6 +575,11 @@ def of_command() -> Check:
     yield same("and has the same ids as the hub's answer", ids[0], ids[1])
     others, _ = objects_of(Excerpt.of_answer(value, "b"), NOW)
     yield same("another hub's are others", {each["id"] for each in made(value)} & {each["id"] for each in others}, set())
+    for text in (run("--help")[1], COMMAND.with_suffix(".1").read_text()):
+        told = " ".join(text.split())
+        yield same("help and page tell of markings and of iodef-hub-taxii", [each for each in (
+            "an object without a marking", "becomes TLP:RED", "GenerationTime", "feed both into one consumer") if each not in told.replace(
+            "An object without", "an object without")], [])
     rows = run("table")[1].splitlines()
     yield same("the table counts its rows from memory", rows[-1].startswith(f"{len(rows) - 2} rows: "))
 
@@ -507,6 +588,7 @@ def checks(context: Context) -> Check:
     yield from by_hand()
     yield from of_command()
     yield from of_back()
+    yield from of_back_told()
     yield from of_hostile()
     yield from of_odd(context)
     if context.program is not None:

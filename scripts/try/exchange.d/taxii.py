@@ -32,6 +32,7 @@ SECTION = "taxii"
 TOP = pathlib.Path(__file__).resolve().parents[3]
 COMMAND = TOP / "clients" / "python" / "iodef-hub-taxii"
 NAME = "hub.example.org"
+LATER = "2026-06-01T00:00:00.000Z"
 REPORTS = 1000
 READERS = tuple(reports.READERS)
 Object = dict[str, Any]
@@ -84,7 +85,7 @@ def seen(hub: Any, reader: str, number: int) -> Seen:
     told = reports.view(hub, reader, number)
     if told is None:
         return Seen(set(), set(), "")
-    objects, _ = objects_of(Excerpt.of_answer(told, NAME), "2026-06-01T00:00:00.000Z")
+    objects, _ = objects_of(Excerpt.of_answer(told, NAME), LATER, LATER)
     return Seen(reports.needles_in(told["document"]), {each["id"] for each in objects}, json.dumps(objects))
 
 
@@ -525,6 +526,13 @@ def of_away(trial: Trial) -> Check:
 
 
 def of_command(context: Context) -> Check:
+    told = subprocess.run([sys.executable, "-B", COMMAND, "--help"], capture_output=True, text=True, timeout=60).stdout
+    page = COMMAND.with_suffix(".1").read_text()
+    ports = [re.findall(r"--?port ([0-9]+)", each) for each in (told, page)]
+    yield same("command: its help and its page name one port", ports, [["21012"], ["21012"]])
+    wanted = ("TLP:RED", "mutex", "withdrawn", "-again\nseconds behind the last read", "Back it up", "GenerationTime", "into one consumer")
+    yield same("command: they tell what consumers and operators must know", [
+        each for each in wanted for text in (told, page) if " ".join(each.split()) not in " ".join(text.split())], [])
     words = {"--hub": "http://127.0.0.1:1", "--name": NAME, "--state": str(context.folder / "other.db"), "--port": str(next(context.ports))}
     text = context.folder / "text.db"
     text.write_text("no database, but a text that is as long as one would be" * 100)

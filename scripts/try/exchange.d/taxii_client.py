@@ -84,7 +84,8 @@ class Client:
         about, _ = self.get(roots[0])
         want(isinstance(about.get("title"), str), "a root has a title")
         want(MEDIA in about.get("versions", []), "the root doesn't speak 2.1")
-        want(type(about.get("max_content_length")) is int, "a root tells its longest body")
+        longest = about.get("max_content_length")
+        want(type(longest) is int and longest > 0, "a root tells its longest body")
         return str(roots[0])
 
     def collections(self) -> list[str]:
