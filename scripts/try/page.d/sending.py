@@ -45,7 +45,11 @@ def nothing_kept(trial: Trial) -> None:
 
 
 def listed(trial: Trial) -> int:
-    return len(trial.circle.ask("bank", "GET", "/incidents", [("after", 0)])["incidents"])
+    """How many incidents the bank sees, page by page."""
+    count, last = 0, 0
+    while found := trial.circle.ask("bank", "GET", "/incidents", [("after", last)])["incidents"]:
+        count, last = count + len(found), found[-1]["number"]
+    return count
 
 
 def late_answer(trial: Trial) -> None:
