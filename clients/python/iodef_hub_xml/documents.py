@@ -36,6 +36,12 @@ def too_long(text: bytes) -> None:
         raise Unfit("TooLarge", f"the input has more than {LONGEST_INPUT} bytes")
 
 
+def refuse_refusal(value: Any) -> None:
+    """Raises Unfit if this is a hub's refusal."""
+    if isinstance(value, dict) and isinstance(value.get("code"), str) and isinstance(value.get("reason"), str):
+        raise Unfit("HubRefused", f"the hub refused: {value['code']} {value['reason']}")
+
+
 def document_of(text: bytes) -> tuple[dict[str, Any], int]:
     """The document in a text: the text itself, or the member `document` of a hub's answer, which withholds something at so many places."""
     too_long(text)
@@ -50,6 +56,7 @@ def document_of(text: bytes) -> tuple[dict[str, Any], int]:
     withheld: Any = []
     if isinstance(value, dict) and "Incident" not in value and isinstance(value.get("document"), dict):
         withheld, value = value.get("withheld"), value["document"]
+    refuse_refusal(value)
     if not isinstance(value, dict) or not set(value) & set(CLASSES[ROOT].rows):
         raise Unfit("NotDocument", f"the input is not a report, which is a JSON object with {', '.join(CLASSES[ROOT].rows)}")
     return value, len(withheld) if isinstance(withheld, list) else 0

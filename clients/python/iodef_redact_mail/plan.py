@@ -3,7 +3,7 @@ from __future__ import annotations
 
 import hashlib
 import json
-from collections.abc import Iterator, Sequence
+from collections.abc import Sequence
 from dataclasses import dataclass
 
 from . import keys
@@ -14,6 +14,8 @@ from .partners import LABELS, Partner, same_address
 
 WIDEST_PLAIN = LABELS.index("TLP:GREEN")  # stricter labels want a key, or the word of the partners' file
 OF_ONE = ("NotReadable", "IdMissing")  # faults of one recipient's excerpt; all others are the report's, or the words'
+# What the reason lacks, as the engine doesn't know this command's words.
+HELP = {"IdMissing": ": --id and --id-name give one, which a recipient needs who sees the frame of the report without its IncidentID"}
 OF_WORDS = ("BadMoment", "NotUtf8", "NoIncident")  # faults of words: --now, --id and --id-name, --incident
 HEAD = ("recipient", "clearance", "label", "shown", "withheld", "mail", "state")
 
@@ -76,12 +78,13 @@ class Due:
             return "nothing visible"
         return "again" if self.before is not None and self.before.what == SENDING else "to send"
 
-    def cells(self) -> tuple[str, ...]:
+    def cells(self, state: str) -> tuple[str, ...]:
+        """Its row of the table, with this state."""
         seen = self.excerpt.seen
         how = "-" if seen is None else "encrypted" if self.partner.key else "plain"
         how = "-" if self.fault is not None else how
         label, classes = (seen.label, seen.classes) if seen else ("-", 0)
-        return self.partner.party.address, self.partner.clearance, label, str(classes), str(self.withheld), how, self.state()
+        return self.partner.party.address, self.partner.clearance, label, str(classes), str(self.withheld), how, state
 
 
 def excerpt_of(engine: Engine, asked: Asked, clearance: str) -> Excerpt:
@@ -97,7 +100,7 @@ def excerpt_of(engine: Engine, asked: Asked, clearance: str) -> Excerpt:
         return Excerpt(view, seen, engine.whole(view, asked.identifier))
     except Refused as refusal:
         if refusal.name in OF_ONE:
-            return Excerpt(view, seen, fault=Failed(refusal.name, refusal.reason))
+            return Excerpt(view, seen, fault=Failed(refusal.name, refusal.reason + HELP.get(refusal.name, "")))
         raise
 
 
@@ -134,9 +137,12 @@ def due(partner: Partner, excerpt: Excerpt, classes: int, asked: Asked, journal:
     return Due(partner, excerpt, classes - (excerpt.seen.classes if excerpt.seen else 0), fault, before, again)
 
 
-def table(found: Sequence[Due]) -> Iterator[str]:
-    """The lines of a table, in columns."""
-    rows = [HEAD, *(each.cells() for each in found)]
-    widths = [max(len(row[at]) for row in rows) for at in range(len(HEAD))]
-    for row in rows:
-        yield "  ".join(cell.ljust(width) for cell, width in zip(row, widths)).rstrip()
+class Table:
+    """The lines of a table, in columns. The last column, the state, may be known only when its line is printed."""
+
+    def __init__(self, found: Sequence[Due]) -> None:
+        rows = [HEAD, *(each.cells("") for each in found)]
+        self.widths = [max(len(row[at]) for row in rows) for at in range(len(HEAD))]
+
+    def line(self, row: Sequence[str]) -> str:
+        return "  ".join(cell.ljust(width) for cell, width in zip(row, self.widths)).rstrip()

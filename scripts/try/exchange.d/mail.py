@@ -4,13 +4,25 @@ from __future__ import annotations
 import shutil
 from collections.abc import Iterator
 
+from common import TOP
+
 from . import mail_bad, mail_keys, mail_sent, mail_state
 from .context import Context, same
 
 SECTION = "mail"
 
 
+def installing() -> Iterator[tuple[bool, str]]:
+    """Each command has its line in the README's block that copies them, and pip is in another block."""
+    text = (TOP / "clients/README.md").read_text()
+    (block,) = [each for each in text.split("\n\n") if each.startswith("    cp -r clients/python ")]
+    linked = sorted(line.rpartition("/")[2] for line in block.splitlines() if line.startswith("    ln -s "))
+    commands = sorted(each.name for each in (TOP / "clients/python").glob("iodef-*") if not each.suffix)
+    yield same("clients/README.md copies and links each command, without pip", (linked, "pip" in block), (commands, False))
+
+
 def checks(context: Context) -> Iterator[tuple[bool, str]]:
+    yield from installing()
     missing = [name for name in ("gpg", "gpgconf", "openssl") if shutil.which(name) is None]
     yield same("this machine has gpg, gpgconf and openssl", missing, [])
     if missing:

@@ -3,10 +3,13 @@ from __future__ import annotations
 
 import json
 import pathlib
+import re
+import subprocess
+import sys
 from collections.abc import Iterator
 
 from .context import Context, same
-from .mail_command import Mailer
+from .mail_command import COMMAND, Mailer
 from .mail_server import running
 
 CASES = pathlib.Path(__file__).with_name("mail_bad.txt")
@@ -22,6 +25,19 @@ def cases() -> Iterator[tuple[str, str, bytes]]:
     yield "NotJson", "", DEEP
     yield "NotJson", "", b'{"recipients": "\xff"}'
     yield "OutOfRange", "/recipients", json.dumps({"recipients": [{}] * 1_001}).encode()
+
+
+def clearances(mailer: Mailer, file: pathlib.Path) -> Iterator[tuple[bool, str]]:
+    """The clearances of docs/REDACT.md are named by the fault, --help and the man page."""
+    names = ["CLEAR", "GREEN", "AMBER", "STRICT", "RED", "TLP:CLEAR", "TLP:WHITE", *(f"TLP:{name}" for name in ("GREEN", "AMBER"))]
+    names += ["TLP:AMBER+STRICT", "TLP:RED"]
+    file.write_text('{"recipients": [{"address": "a@x.example", "clearance": "AMBER+STRICT"}]}')
+    for where, text in (
+        ("the fault of another one", mailer.run().said[0]),
+        ("--help", subprocess.run([sys.executable, COMMAND, "--help"], capture_output=True, text=True).stdout),
+        ("the man page", COMMAND.with_name("iodef-redact-mail.1").read_text()),
+    ):
+        yield same(f"{where} names each clearance", sorted(set(names) - set(re.split(r"[ ,:\n]*[ ,\n]|\.\n", text))), [])
 
 
 def checks(context: Context) -> Iterator[tuple[bool, str]]:
@@ -40,6 +56,7 @@ def checks(context: Context) -> Iterator[tuple[bool, str]]:
             found = ran.status, is_named and line.isprintable() and line.isascii(), ran.table, (folder / "sent.jsonl").exists()
             yield same(f"partners: {name} at {place or 'the root'}: {text[:110]!r}: {line}", found, (1, True, [], False))
         yield same("the mail server was asked nothing", (server.taken(), server.lines), ([], []))
+        yield from clearances(mailer, file)
         file.write_text('{"from": {"address": "a@x.example"}, "recipients": %s}' % RECIPIENTS)
         for words, status in (
             (("--from", "a@x.example\nBcc: b@x.example"), 1),

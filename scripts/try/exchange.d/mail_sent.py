@@ -67,7 +67,8 @@ def example(mailer: Mailer, server: Server, ring: Ring) -> Iterator[tuple[bool, 
     yield same("and sends and keeps nothing", (server.taken(), (mailer.folder / "sent.jsonl").exists()), ([], False))
     ran = mailer.run("--send", *IDENTIFIER)
     found = ran.status, ran.table, ran.said[-1:]
-    yield same("a run that sends prints the table too, and RED isn't sent plain", found, wanted)
+    sent = 3, [rows[0], *([*row[:6], "sent"] for row in rows[1:5]), rows[5]], wanted[2]
+    yield same("a run that sends prints a table of what happened, and RED isn't sent plain", found, sent)
     yield from example_sent(mailer, server.taken(), ran.said, ring)
 
 
@@ -108,10 +109,11 @@ def wanted_keys(mailer: Mailer, server: Server, ring: Ring) -> Iterator[tuple[bo
     keys = {"a": unknown, "b": ring.keys["expired"], "c": ring.keys["revoked"], "d": ring.keys["signing"], "e": ring.part}
     keys |= {"f": ring.keys["old subkey"], "g": ring.keys["good"]}
     mailer.give(EXAMPLE, *({"address": f"{to}@x.example", "clearance": "RED", "key": key} for to, key in keys.items()))
-    wanted = ("KeyMissing", "KeyExpired", "KeyRevoked", "KeyUnusable", "KeyMissing", "KeyUnusable", "to send")
-    for words in ((), ("--send",)):
+    wanted = ("KeyMissing", "KeyExpired", "KeyRevoked", "KeyUnusable", "KeyMissing", "KeyUnusable")
+    for words, last in (((), "to send"), (("--send",), "sent")):
         ran = mailer.run(*words)
-        yield same(f"keys {words}", (ran.status, ran.states()), (3, {f"{to}@x.example": state for to, state in zip(keys, wanted)}))
+        states = {f"{to}@x.example": state for to, state in zip(keys, (*wanted, last))}
+        yield same(f"keys {words}", (ran.status, ran.states()), (3, states))
     yield same("only the last is sent", [each.to for each in server.taken()], ["g@x.example"])
     mailer.variables = {"PATH": "/nowhere"}
     mailer.give(EXAMPLE, {"address": "h@x.example", "clearance": "RED", "key": keys["g"]}, {"address": "i@x.example", "clearance": "GREEN"})
@@ -142,14 +144,15 @@ def odd_reports(mailer: Mailer, server: Server) -> Iterator[tuple[bool, str]]:
     red |= {"Contact": [{"role": "creator", "type": "person"}]}
     mailer.give(json.dumps({"version": "2.0", "Incident": [red]}).encode(), *both)
     ran = mailer.run("--send")
-    wanted = 0, {"g@x.example": "nothing visible", "r@x.example": "to send"}
+    wanted = 0, {"g@x.example": "nothing visible", "r@x.example": "sent"}
     yield same("who sees nothing gets nothing", (ran.status, ran.states()), wanted)
     yield same("and the other its message", [each.to for each in server.taken()], ["r@x.example"])
     hidden = {**incident, "IncidentID": {**incident["IncidentID"], "restriction": "red"}}
     mailer.give(json.dumps({"version": "2.0", "Incident": [hidden]}).encode(), *both)
     ran = mailer.run("--send")
-    wanted = 3, {"g@x.example": "IdMissing", "r@x.example": "to send"}
+    wanted = 3, {"g@x.example": "IdMissing", "r@x.example": "sent"}
     yield same("an IncidentID that is withheld wants --id", (ran.status, ran.states()), wanted)
+    yield same(f"and the fault says so: {ran.said[0]}", "--id and --id-name" in ran.said[0], True)
     server.taken()
     mailer.give(json.dumps({"version": "2.0", "Incident": [red, incident]}).encode(), *both)
     ran = mailer.run("--send")
@@ -161,6 +164,9 @@ def odd_reports(mailer: Mailer, server: Server) -> Iterator[tuple[bool, str]]:
     for name, text, words in (
         ("NotJson", b"{", ()),
         ("NotDocument", b"{}", ()),
+        ("IsExcerpt", b'{"classes": 23, "document": %s, "number": 1, "withheld": []}' % EXAMPLE, ()),
+        ("IsExcerpt", b'{"classes": 1, "document": {}, "label": "TLP:RED"}', ("--incident", "0")),
+        ("HubRefused", b'{"code":"N1","detail":"","reason":"no such incident for you"}', ()),
         ("BadMarking", EXAMPLE.replace(b'"green"', b'"grn"'), ()),
         ("NoIncident", EXAMPLE, ("--incident", "1")),
         ("BadMoment", EXAMPLE, ("--now", "soon")),

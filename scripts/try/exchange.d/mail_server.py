@@ -6,11 +6,14 @@ import re
 import socket
 import ssl
 import threading
+import time
 from collections.abc import Iterator
 from dataclasses import dataclass, field
 
 # What becomes of a message: a reply to RCPT, DATA or the message, or how the connection ends.
-TAKEN, REFUSED_TO, REFUSED_DATA, REFUSED_MESSAGE, CUT, KEPT_AND_CUT, NO_ANSWER = range(7)
+TAKEN, REFUSED_TO, REFUSED_DATA, REFUSED_MESSAGE, CUT, KEPT_AND_CUT, NO_ANSWER, SLOW = range(8)
+
+SECONDS_SLOW = 2  # before a slow answer
 
 
 @dataclass(frozen=True)
@@ -108,7 +111,9 @@ class Session:
             if not line:
                 return False
             lines.append(line[1:] if line.startswith(b".") else line)
-        if self.way() in (TAKEN, KEPT_AND_CUT):
+        if self.way() == SLOW:
+            time.sleep(SECONDS_SLOW)
+        if self.way() in (TAKEN, SLOW, KEPT_AND_CUT):
             self.server.kept.append(Kept(self.sender, self.to, b"".join(lines)))
         if self.way() == NO_ANSWER:
             self.server.began.set()

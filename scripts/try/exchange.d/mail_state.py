@@ -11,7 +11,7 @@ from .context import Context, same
 from .mail_command import Mailer, parsed
 from .mail_keys import Ring
 from .mail_sent import EXAMPLE, new
-from .mail_server import CUT, KEPT_AND_CUT, NO_ANSWER, REFUSED_DATA, REFUSED_MESSAGE, REFUSED_TO, Server, running
+from .mail_server import CUT, KEPT_AND_CUT, NO_ANSWER, REFUSED_DATA, REFUSED_MESSAGE, REFUSED_TO, SLOW, Server, running
 
 TO = ("a@x.example", "b@x.example", "c@x.example")
 ALL = [{"address": to, "clearance": "GREEN"} for to in TO]
@@ -67,9 +67,10 @@ def refusals(mailer: Mailer, server: Server, name: str, way: int) -> Iterator[tu
     # What the server says is told in printed characters.
     wanted = line + (r": nobody\u001b[2J" if way == REFUSED_TO else "")
     yield same(f"{name} refused: the others are sent to", (ran.status, ran.said[1], to_of(server)), (3, wanted, [TO[0], TO[2]]))
+    yield same("and the table says so", ran.states(), {TO[0]: "sent", TO[1]: "NotTaken", TO[2]: "sent"})
     server.ways = {}
     ran = mailer.run("--send")
-    yield same("and a later run sends it", (ran.status, ran.states()[TO[1]], to_of(server)), (0, "to send", [TO[1]]))
+    yield same("and a later run sends it", (ran.status, ran.states()[TO[1]], to_of(server)), (0, "sent", [TO[1]]))
     yield same("once", (mailer.run("--send").status, to_of(server)), (0, []))
 
 
@@ -86,6 +87,7 @@ def cuts(mailer: Mailer, server: Server, name: str, way: int, count: int) -> Ite
     ran = mailer.run("--send")
     found = ran.status, f"{TO[0]}: cut: " in ran.said[0], to_of(server)
     yield same(f"cut {name}: named, and the others are sent to", found, (3, True, [TO[0]] * count + [*TO[1:]]))
+    yield same("and the table says so", ran.states(), {TO[0]: "cut", TO[1]: "sent", TO[2]: "sent"})
     server.ways = {}
     for words in ((), ("--send",)):
         ran = mailer.run(*words)
@@ -94,14 +96,15 @@ def cuts(mailer: Mailer, server: Server, name: str, way: int, count: int) -> Ite
     number = number_of(mailer, TO[0])
     server.ways = {TO[0]: REFUSED_MESSAGE}
     ran = mailer.run("--send", "--again")
-    yield same("--again is refused", (ran.status, "NotTaken" in ran.said[0], to_of(server)), (3, True, []))
+    yield same("--again is refused", (ran.status, "NotTaken" in ran.said[0], ran.states()[TO[0]], to_of(server)), (3, True, "cut", []))
     server.ways = {}
     ran = mailer.run("--send")
     yield same("and the first message is still in doubt", (ran.status, ran.states()[TO[0]], to_of(server)), (3, "cut", []))
+    yield same("which a dry run says of it", mailer.run("--again").states()[TO[0]], "again")
     ran = mailer.run("--send", "--again")
     kept = server.taken()
     found = ran.status, ran.states()[TO[0]], [(each.to, parsed(each.text)["Message-ID"]) for each in kept]
-    yield same("--again sends it, with the same Message-ID", found, (0, "again", [(TO[0], number)]))
+    yield same("--again sends it, with the same Message-ID", found, (0, "sent", [(TO[0], number)]))
     yield same("and once", (mailer.run("--send", "--again").status, to_of(server)), (0, []))
 
 
@@ -116,7 +119,7 @@ def killed(mailer: Mailer, server: Server) -> Iterator[tuple[bool, str]]:
     yield same("a run is killed before an answer", (has_begun, to_of(server)), (True, [TO[0]]))
     server.ways = {}
     ran = mailer.run("--send")
-    wanted = 3, {TO[0]: "sent before", TO[1]: "cut", TO[2]: "to send"}, [TO[2]]
+    wanted = 3, {TO[0]: "sent before", TO[1]: "cut", TO[2]: "sent"}, [TO[2]]
     yield same("and a later one sends only what wasn't begun", (ran.status, ran.states(), to_of(server)), wanted)
 
 
@@ -158,5 +161,24 @@ def full(mailer: Mailer, server: Server) -> Iterator[tuple[bool, str]]:
     ran = mailer.run("--send", limit=small_files)
     found = ran.status, len(ran.said), "can't be written, and no further message is sent" in ran.said[0], to_of(server)
     yield same("nothing is sent that can't be kept", found, (3, 1, True, []))
+    yield same("and the table says so of all", ran.states(), dict.fromkeys(TO, "not sent"))
+    with open("/dev/full", "wb") as device:
+        ended = subprocess.run(mailer.words("--send"), stdout=device, stderr=subprocess.DEVNULL, env=mailer.environment(), timeout=200)
+    yield same("nothing is sent without its table", (ended.returncode, to_of(server)), (2, []))
+    yield from unread(mailer, server)
     ran = mailer.run("--send")
-    yield same("and a later run sends all", (ran.status, ran.states(), to_of(server)), (0, dict.fromkeys(TO, "to send"), [*TO]))
+    wanted = 0, {TO[0]: "sent before", TO[1]: "sent", TO[2]: "sent"}, [*TO[1:]]
+    yield same("and a later run sends all others", (ran.status, ran.states(), to_of(server)), wanted)
+
+
+def unread(mailer: Mailer, server: Server) -> Iterator[tuple[bool, str]]:
+    """Whoever reads the table reads its first line alone: what was sent is kept, and nothing else is sent."""
+    quiet = subprocess.DEVNULL
+    server.ways = {TO[0]: SLOW}
+    with subprocess.Popen(mailer.words("--send"), stdout=subprocess.PIPE, stderr=quiet, env=mailer.environment()) as begun:
+        assert begun.stdout is not None
+        head = begun.stdout.readline().split()[:1]
+        begun.stdout.close()
+        status = begun.wait(200)
+    server.ways = {}
+    yield same("a table that isn't read to its end ends the run", (head, status, to_of(server)), ([b"recipient"], 3, [TO[0]]))
