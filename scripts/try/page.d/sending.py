@@ -47,7 +47,7 @@ def nothing_kept(trial: Trial) -> None:
 def listed(trial: Trial) -> int:
     """How many incidents the bank sees, page by page."""
     count, last = 0, 0
-    while found := trial.circle.ask("bank", "GET", "/incidents", [("after", last)])["incidents"]:
+    while found := trial.circle.ask("bank", "GET", "/incidents", query=[("after", last)])["incidents"]:
         count, last = count + len(found), found[-1]["number"]
     return count
 
