@@ -250,8 +250,9 @@ class Changes:
         report = copy.deepcopy(self.trial.reports[number])
         for path, each in reports.objects_in(report.document):
             if path == self._path(number):
-                each.pop("ext-restriction", None)
-                each["restriction"] = label
+                extended = each.pop("ext-restriction", None)
+                # The hub refuses a revision that changes nothing; public is handled as white.
+                each["restriction"] = "public" if extended is None and each.get("restriction") == label == "white" else label
         report.classes = reports.classes_of(report.document)
         target = f"/incidents/{number}?{reports.query(report, revision=revision)}"
         self.hub.done(reports.KEYS["source"], "PUT", target, json.dumps(report.document).encode())
