@@ -244,3 +244,13 @@ pub fn agree_on_shelves<A: Shelf, B: Shelf, C: Shelf>(
     agree_on_reads(alloc, lists, tables)?;
     agree_on_excerpts(alloc, lists, kept)
 }
+
+/// Compares what the shelf in memory has with the one that keeps rows.
+pub fn agree_on_rows<A: Shelf, B: Shelf>(
+    alloc: Global,
+    lists: &mut A,
+    rows: &mut B,
+) -> Result<(), Fault> {
+    agree_on_reads(alloc, lists, rows)?;
+    agree_on_excerpts(alloc, lists, rows)
+}
