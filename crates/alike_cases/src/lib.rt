@@ -10,7 +10,7 @@
 //!
 //! For each request the body of the reply is printed if both worlds answer the same bytes, else both bodies. For the
 //! third block the second world is compared with itself. The last line of a world says whether the replies are the same
-//! if one of the worlds, or both, are in tables.
+//! if one of the worlds, or both, are in tables, and if their rows are kept in memory too.
 #![tactic(auto)]
 
 mod asking;

@@ -25,6 +25,8 @@
 //! - If a migration wasn't answered as done, the store may be of the older version (`WrongVersion`), never of a version
 //!   between. Then migrating it must succeed, with the same content. There are stores of versions 1, 2 and 3.
 //!
+//! All this is done over tables, and again over tables whose rows are kept in memory, as the program does.
+//!
 //! If nothing is lost that was answered as done, it prints how many steps are changes, which is known by hand.
 //! It also prints its own counts: calls of each file at which it was stopped, changes within which the database file
 //! was stopped, and unanswered changes that were found as made. It prints a fault in their place if

@@ -14,7 +14,7 @@ use std::alloc::{AllocError, Global};
 /// A hub over tables in memory, with their rows and a sketch of each document kept.
 #[derive(Drop)]
 pub struct Rows {
-    hub: Hub<KeptRows<SqlShelf<MemStore>>>,
+    pub(crate) hub: Hub<KeptRows<SqlShelf<MemStore>>>,
 }
 
 /// Draws the sketch of each document.
@@ -25,12 +25,15 @@ fn draw_all<Sh: Shelf>(kept: &mut KeptRows<Sh>) -> Result<(), ShelfFault> {
     Ok(())
 }
 
-/// Returns the shelf with its rows and a sketch of each document kept.
-fn kept_of<Sh: WholeRows + Drop>(alloc: Global, shelf: Sh) -> Result<KeptRows<Sh>, ShelfFault> {
+/// Returns the shelf with its rows and a sketch of each document kept, or the shelf with the fault if that fails.
+pub fn keep_rows<Sh: WholeRows + Drop>(
+    alloc: Global,
+    shelf: Sh,
+) -> Result<KeptRows<Sh>, (ShelfFault, Sh)> {
     match KeptRows::new(alloc, shelf) {
-        Err((fault, _)) => Err(fault),
+        Err(failed) => Err(failed),
         Ok(mut kept) => match draw_all(&mut kept) {
-            Err(fault) => Err(fault),
+            Err(fault) => Err((fault, kept.into_shelf())),
             Ok(()) => Ok(kept),
         },
     }
@@ -47,11 +50,11 @@ impl Rows {
 
     /// Makes a hub over these tables. Fails with the shelf's fault.
     fn over(alloc: Global, tables: Tables) -> Result<Rows, ShelfFault> {
-        match kept_of(alloc, tables.into_shelf()) {
+        match keep_rows(alloc, tables.into_shelf()) {
             Ok(shelf) => Ok(Rows {
                 hub: Hub::new(shelf),
             }),
-            Err(fault) => Err(fault),
+            Err((fault, _)) => Err(fault),
         }
     }
 
