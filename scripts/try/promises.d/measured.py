@@ -226,6 +226,8 @@ def memory() -> Checks:
                    (78, "", "the store needs N MiB of memory and N MiB are allowed: write"), (ran.returncode, ran.stdout, said.strip()))
         put(limit, "max\n")
         yield same("without a limit it sets none", "unlimited\n", run(*start, env=around).stdout)
+        write = [tool, store, "sh", "-c", f"ulimit -f 1; head -c 9000 /dev/zero >{store}.new; echo $?"]
+        yield same("a write beyond a limit of the system is refused, and ends nobody", "1\n", run(*write, env=around).stdout)
 
 
 def copies() -> Checks:
