@@ -51,7 +51,8 @@ def headers(promised: Row) -> Told:
 
 def handshakes(promised: Row) -> Told:
     for version, word in VERSIONS.items():
-        told = run("openssl", "s_client", "-connect", f"{NAME}:443", "-servername", NAME, word, given="Q\n")
+        # By its address: beside IPv6 addresses openssl looks no name up whose only address is of loopback.
+        told = run("openssl", "s_client", "-connect", "127.0.0.1:443", "-servername", NAME, word, given="Q\n")
         is_taken, is_promised = "Cipher is (NONE)" not in told and "Cipher is" in told, version in promised["tls"]["ssl_protocols"].split()
         yield f"{version} is {'taken' if is_promised else 'refused'}", "" if is_taken == is_promised else "it isn't"
 
