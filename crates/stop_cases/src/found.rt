@@ -5,7 +5,6 @@ use crate::files::{Kept, NEVER, Stopping};
 use crate::stores::{Over, Way, shelf_in};
 use hub::Hub;
 use hub_core::Shelf;
-use hub_state::WholeRows;
 use hub_store::{OpenFault, SqlShelf};
 use sqlite::Alter;
 use sqlite_disk::Files;
@@ -24,7 +23,7 @@ fn told_by<Sh: Shelf + Drop>(alloc: Global, shelf: Sh) -> Result<String, AllocEr
 }
 
 /// Returns the same with the rows of the shelf kept in memory.
-fn told_in_rows<Sh: WholeRows + Drop>(alloc: Global, shelf: Sh) -> Result<String, AllocError> {
+fn told_in_rows<S: Alter + Drop>(alloc: Global, shelf: SqlShelf<S>) -> Result<String, AllocError> {
     match keep_rows(alloc, shelf) {
         Ok(kept) => told_by(alloc, kept),
         Err(_) => String::from_str(alloc, "rows that aren't read"),

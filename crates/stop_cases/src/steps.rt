@@ -5,7 +5,6 @@ use crate::stores::{Over, Stored, Way, leave, shelf_in};
 use circle::refusal::Code;
 use hub::Hub;
 use hub_core::{Edit, Reply, Shelf};
-use hub_state::WholeRows;
 use hub_store::SqlShelf;
 use sqlite::Alter;
 use sqlite_disk::Files;
@@ -96,7 +95,11 @@ impl Steps<'_> {
     }
 
     /// Returns the same with the rows of the shelf kept in memory. If they aren't read, no step is begun.
-    fn go_in_rows<Sh: WholeRows + Drop>(&self, alloc: Global, shelf: Sh) -> (usize, bool, Sh) {
+    fn go_in_rows<S: Alter + Drop>(
+        &self,
+        alloc: Global,
+        shelf: SqlShelf<S>,
+    ) -> (usize, bool, SqlShelf<S>) {
         match keep_rows(alloc, shelf) {
             Ok(kept) => {
                 let (done, is_begun, kept) = self.go(alloc, kept);
