@@ -5,7 +5,8 @@
 //! `== NAME WORDS`, and the table follows. NAME is the crate that runs it. WORDS is how much a comparison compares, or
 //! which growths `growth_cases` refuses. Each heading is printed as it is, and then what its crate prints.
 //!
-//! With a HEADING, as in `test_suite 'hub_compare 1000'`, only the section of its NAME is run, with its WORDS.
+//! With a HEADING, as in `test_suite 'hub_compare 1000'`, only the section of its NAME is run, with its WORDS. With a NAME
+//! alone, the section's own words are taken.
 //!
 //! The status is 1 if a comparison finds something wrong, or a heading names nothing.
 #![tactic(auto)]

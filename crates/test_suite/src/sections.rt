@@ -67,11 +67,12 @@ fn run(rt: &HostRuntime, heading: &str, table: &str) -> io::Result<bool> {
     Ok(true)
 }
 
-/// Returns the heading to run a section with: its own if none is asked for, or else the one asked for, if that names the
-/// same crate.
+/// Returns the heading to run a section with: its own if none is asked for, or its name alone. Else the one asked for, if
+/// that names the same crate.
 fn heading_for<'a>(asked: Option<&'a str>, own: &'a str) -> Option<&'a str> {
     match asked {
         None => Some(own),
+        Some(asked) if asked == parts_of(own).0 => Some(own),
         Some(asked) if parts_of(asked).0 == parts_of(own).0 => Some(asked),
         Some(_) => None,
     }
