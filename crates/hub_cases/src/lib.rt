@@ -1,4 +1,4 @@
-//! Runs the hub over both shelves for the cases of a table, and prints the answer to each request.
+//! Runs the hub over each shelf for the cases of a table, and prints the answer to each request.
 //!
 //! A case is a block of lines, one request a line, with an empty line behind it; each case is one list that is run. The
 //! first block sets up the organisations, persons and groups, and its requests come before those of every later block.
@@ -13,7 +13,7 @@
 //! so often; in it `<n>` is the number of the time, and `<a,b>` is a and b in turn.
 //!
 //! After the answers of a block it prints whether tables in memory, opened again after each request, answer
-//! the same. After all blocks it prints
+//! the same, and tables whose rows are kept too. After all blocks it prints
 //!
 //! - the outcomes of stores that are made, opened and refused;
 //! - the lines of a report as rows;

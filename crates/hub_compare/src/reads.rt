@@ -218,7 +218,7 @@ fn agree_on_entries<A: Shelf, B: Shelf>(lists: &mut A, tables: &mut B) -> Result
     agree(entries.as_slice() == others.as_slice(), "the incidents")
 }
 
-/// Compares the contents of both shelves.
+/// Compares the contents of two shelves.
 fn agree_on_reads<A: Shelf, B: Shelf>(
     alloc: Global,
     lists: &mut A,
