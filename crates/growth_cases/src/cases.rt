@@ -202,11 +202,7 @@ fn run_list(
     }
 }
 
-fn run_over_each(
-    alloc: Global,
-    sweep: &mut Sweep,
-    list: &List<'_>,
-) -> Result<String, AllocError> {
+fn run_over_each(alloc: Global, sweep: &mut Sweep, list: &List<'_>) -> Result<String, AllocError> {
     let in_lists = sweep.report(alloc, &InLists { list })?;
     let in_tables = sweep.report(alloc, &InTables { list })?;
     let in_rows = sweep.report(alloc, &InRows { list })?;

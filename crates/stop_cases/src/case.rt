@@ -103,11 +103,6 @@ fn stop_all(
 }
 
 /// Returns what is printed for steps over one shelf.
-fn told_of(
-    alloc: Global,
-    kept: &Kept,
-    steps: Steps<'_>,
-    due: &Due,
-) -> Result<String, AllocError> {
+fn told_of(alloc: Global, kept: &Kept, steps: Steps<'_>, due: &Due) -> Result<String, AllocError> {
     Case { kept, steps, due }.describe(alloc)
 }

@@ -55,12 +55,7 @@ fn look_into(
 }
 
 /// Returns the same for a store that is taken in another way, behind words that say so.
-fn looked_again(
-    alloc: Global,
-    kept: &Kept,
-    way: Way,
-    over: Over,
-) -> Result<String, AllocError> {
+fn looked_again(alloc: Global, kept: &Kept, way: Way, over: Over) -> Result<String, AllocError> {
     let words = way.words(alloc)?;
     match look_into(alloc, kept.files(alloc, NEVER)?, way, over)? {
         Look::Told(told) => format!(in alloc; "{words}{told}"),
