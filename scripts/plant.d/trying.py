@@ -1,0 +1,183 @@
+"""A fault in a copy of the tree, and what tells it: the first check that fails, of those that are asked one after another."""
+from __future__ import annotations
+
+import contextlib
+import fnmatch
+import json
+import os
+import pathlib
+import re
+import selectors
+import shutil
+import signal
+import subprocess
+import tempfile
+import time
+import tomllib
+from collections.abc import Iterator
+from dataclasses import dataclass
+
+from fault import Fault, changed
+
+HERE = pathlib.Path(__file__).resolve().parent
+TOP = HERE.parent.parent
+ROOM = TOP / "out" / "plant"
+# So many seconds the checks of a fault take together.
+SECONDS = 180
+FAILURE = re.compile(r"FAIL(?:ED)?:? +(.*)")
+# Failed checks that say nothing of behaviour: that a part broke off, or that a text is another.
+NO_BEHAVIOUR = re.compile(r"is asked to its end|comes to its end|came to its end|ended early|can be tried here|mypy|has its lines|in deploy/promises.toml")
+# What says that the changed file is refused by what reads it, when that is started.
+REFUSED = re.compile(r"skip \w+: a proxy that starts here")
+# A run has its own processes, its own loopback and nothing else of the network.
+ALONE = ["unshare", "--net", "--pid", "--fork", "--kill-child", "--mount-proc", "sh", "-c", 'ip link set lo up && exec "$@"', "sh"]
+GIT = ["git", "-c", "user.name=plant", "-c", "user.email=plant@example.com", "-c", "commit.gpgsign=false", "-c", "gc.auto=0"]
+
+
+@dataclass(frozen=True)
+class Check:
+    """A command that may tell faults of some files."""
+
+    words: str
+    paths: tuple[str, ...]
+    without_hands: bool
+
+    def command(self, programs: dict[str, str]) -> list[str] | None:
+        """The command, or None if a program that it wants isn't given."""
+        wanted = re.findall(r"\{(\w+)\}", self.words)
+        return self.words.format(**programs).split() if all(it in programs for it in wanted) else None
+
+
+def all_checks() -> list[Check]:
+    said = tomllib.loads((HERE / "checks.toml").read_text())["check"]
+    return [Check(it["words"], tuple(it["paths"]), it.get("without_hands", False)) for it in said]
+
+
+def checks_of(path: str) -> list[Check]:
+    """Those that may tell a fault of this file: first those that run without hands."""
+    found = [it for it in all_checks() if any(fnmatch.fnmatch(path, pattern) for pattern in it.paths)]
+    return sorted(found, key=lambda it: not it.without_hands)
+
+
+@dataclass(frozen=True)
+class Answer:
+    """What a check said: `told` with the failed check's line, `kept`, `broke off`, `late`, or `refused`."""
+
+    kind: str
+    line: str = ""
+
+
+def judged(line: str, known: frozenset[str]) -> Answer | None:
+    if REFUSED.match(line):
+        return Answer("refused", line)
+    found = FAILURE.match(line)
+    if found and not NO_BEHAVIOUR.search(found[1]) and promise_of(found[1]) not in known:
+        return Answer("told", found[1][:300])
+    return None
+
+
+def promise_of(line: str) -> str:
+    """The name of a check, without what it found."""
+    return line.partition(": ")[0]
+
+
+def lines_of(process: subprocess.Popen[bytes], end: float) -> Iterator[str]:
+    """What a process prints, until it ends or its time is over."""
+    output, rest = process.stdout, b""
+    assert output is not None
+    with selectors.DefaultSelector() as ready:
+        ready.register(output, selectors.EVENT_READ)
+        while (left := end - time.monotonic()) > 0:
+            if not ready.select(left) or not (piece := os.read(output.fileno(), 65_536)):
+                break
+            *lines, rest = (rest + piece).split(b"\n")
+            yield from (line.decode(errors="replace") for line in lines)
+
+
+def ended(process: subprocess.Popen[bytes]) -> None:
+    """Ends a process and all that it started, which go with its namespace."""
+    with contextlib.suppress(ProcessLookupError):
+        os.killpg(process.pid, signal.SIGKILL)
+    process.wait()
+
+
+class Tree:
+    """A clone of the repository, in which one fault after another is planted and committed."""
+
+    def __init__(self, number: int, commit: str) -> None:
+        self.folder, self.commit = ROOM / f"tree-{number}", commit
+        if not (self.folder / ".git").exists():
+            subprocess.run(["git", "clone", "-q", "--shared", str(TOP), str(self.folder)], check=True)
+        self.git("fetch", "-q", str(TOP), commit)
+        self.back()
+
+    def git(self, *words: str) -> None:
+        subprocess.run([*GIT, "-C", str(self.folder), *words], check=True, stdout=subprocess.DEVNULL)
+
+    def back(self) -> None:
+        self.git("checkout", "-q", "--force", "--detach", self.commit)
+        self.git("clean", "-q", "-ffdx")
+
+    @contextlib.contextmanager
+    def planted(self, fault: Fault | None) -> Iterator[None]:
+        try:
+            if fault:
+                file = self.folder / fault.path
+                file.write_bytes(changed(file.read_bytes(), fault.change))
+                self.git("commit", "-q", "-a", "-m", "a change")
+            yield
+        finally:
+            self.back()
+
+    def lines(self, command: list[str], end: float) -> Iterator[str]:
+        """What a script of scripts/try prints, until its time is over or nobody asks for more."""
+        room = tempfile.mkdtemp(prefix="plant-")
+        around = {**os.environ, "TMPDIR": room, "RECORDED": "1", "PYTHONDONTWRITEBYTECODE": "1"}
+        script = self.folder / "scripts" / "try" / command[0]
+        process = subprocess.Popen(
+            [*ALONE, str(script), *command[1:]], stdin=subprocess.DEVNULL, stdout=subprocess.PIPE, stderr=subprocess.STDOUT,
+            cwd=self.folder, env=around, start_new_session=True,
+        )  # fmt: skip
+        try:
+            yield from lines_of(process, end)
+        finally:
+            ended(process)
+            shutil.rmtree(room, ignore_errors=True)
+
+    def failing(self, command: list[str], seconds: float) -> list[str]:
+        """The names of all checks that fail within so many seconds."""
+        end, found = time.monotonic() + seconds, set[str]()
+        for line in self.lines(command, end):
+            if (answer := judged(line, frozenset())) and answer.kind == "told":
+                found.add(promise_of(answer.line))
+        return sorted(found)
+
+    def ask(self, command: list[str], known: frozenset[str], seconds: float) -> Answer:
+        """Runs a script until a check fails that isn't known to fail."""
+        end, last = time.monotonic() + seconds, ""
+        with contextlib.closing(self.lines(command, end)) as lines:
+            for line in lines:
+                if found := judged(line, known):
+                    return found
+                last = line.strip() or last
+        if time.monotonic() >= end:
+            return Answer("late", last[:300])
+        return Answer("kept" if re.fullmatch(r"\d+ passed, \d+ failed", last) else "broke off", last[:300])
+
+
+class Known:
+    """The checks that fail also without a fault, by commands; they tell nothing. A command is asked once of each commit."""
+
+    def __init__(self, commit: str) -> None:
+        self.file, self.commit = ROOM / "known.json", commit
+        self.said: dict[str, list[str]] = json.loads(self.file.read_text()) if self.file.exists() else {}
+
+    def has(self, words: str) -> bool:
+        return f"{self.commit} {words}" in self.said
+
+    def of(self, words: str) -> frozenset[str]:
+        return frozenset(self.said.get(f"{self.commit} {words}", ()))
+
+    def put(self, words: str, names: list[str]) -> None:
+        self.said[f"{self.commit} {words}"] = names
+        self.file.write_text(json.dumps(self.said, indent=1))
