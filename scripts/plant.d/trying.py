@@ -132,6 +132,7 @@ class Tree:
     def lines(self, command: list[str], end: float) -> Iterator[str]:
         """What a script of scripts/try prints, until its time is over or nobody asks for more."""
         room = tempfile.mkdtemp(prefix="plant-")
+        os.chmod(room, 0o755)
         around = {**os.environ, "TMPDIR": room, "RECORDED": "1", "PYTHONDONTWRITEBYTECODE": "1"}
         script = self.folder / "scripts" / "try" / command[0]
         process = subprocess.Popen(
