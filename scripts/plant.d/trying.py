@@ -22,15 +22,15 @@ from fault import Fault, changed
 HERE = pathlib.Path(__file__).resolve().parent
 TOP = HERE.parent.parent
 ROOM = TOP / "out" / "plant"
-# So many seconds the checks of a fault take together.
-SECONDS = 180
 FAILURE = re.compile(r"FAIL(?:ED)?:? +(.*)")
 # Failed checks that say nothing of behaviour: that a part broke off, or that a text is another.
 NO_BEHAVIOUR = re.compile(r"is asked to its end|comes to its end|came to its end|ended early|can be tried here|mypy|has its lines|in deploy/promises.toml")
 # What says that the changed file is refused by what reads it, when that is started.
 REFUSED = re.compile(r"skip \w+: a proxy that starts here")
-# A run has its own processes, its own loopback and nothing else of the network.
-ALONE = ["unshare", "--net", "--pid", "--fork", "--kill-child", "--mount-proc", "sh", "-c", 'ip link set lo up && exec "$@"', "sh"]
+# A run has its own processes, its own loopback and nothing else of the network. Its session has the priority of the one that began it.
+ALONE = ["unshare", "--net", "--pid", "--fork", "--kill-child", "--mount-proc", "sh", "-c"]
+BEGIN = 'ip link set lo up; [ -z "$0" ] || echo "$0" >/proc/self/autogroup; exec "$@"'
+PRIORITY = pathlib.Path("/proc/self/autogroup")
 GIT = ["git", "-c", "user.name=plant", "-c", "user.email=plant@example.com", "-c", "commit.gpgsign=false", "-c", "gc.auto=0"]
 
 
@@ -94,6 +94,11 @@ def lines_of(process: subprocess.Popen[bytes], end: float) -> Iterator[str]:
             yield from (line.decode(errors="replace") for line in lines)
 
 
+def priority() -> str:
+    """That of this session, if the kernel has groups for sessions."""
+    return PRIORITY.read_text().split()[-1] if PRIORITY.exists() else ""
+
+
 def ended(process: subprocess.Popen[bytes]) -> None:
     """Ends a process and all that it started, which go with its namespace."""
     with contextlib.suppress(ProcessLookupError):
@@ -119,15 +124,20 @@ class Tree:
         self.git("clean", "-q", "-ffdx")
 
     @contextlib.contextmanager
-    def planted(self, fault: Fault | None) -> Iterator[None]:
+    def planted(self, fault: Fault) -> Iterator[None]:
+        """The tree with a fault, which is in its last commit, too, as a release is made of that."""
+        file = self.folder / fault.path
+        text = file.read_bytes()
+        file.write_bytes(changed(text, fault.change))
         try:
-            if fault:
-                file = self.folder / fault.path
-                file.write_bytes(changed(file.read_bytes(), fault.change))
+            if "release" in fault.path or fault.path.startswith("deploy/deb/"):
                 self.git("commit", "-q", "-a", "-m", "a change")
-            yield
+                yield
+                self.back()
+            else:
+                yield
         finally:
-            self.back()
+            file.write_bytes(text)
 
     def lines(self, command: list[str], end: float) -> Iterator[str]:
         """What a script of scripts/try prints, until its time is over or nobody asks for more."""
@@ -136,7 +146,7 @@ class Tree:
         around = {**os.environ, "TMPDIR": room, "RECORDED": "1", "PYTHONDONTWRITEBYTECODE": "1"}
         script = self.folder / "scripts" / "try" / command[0]
         process = subprocess.Popen(
-            [*ALONE, str(script), *command[1:]], stdin=subprocess.DEVNULL, stdout=subprocess.PIPE, stderr=subprocess.STDOUT,
+            [*ALONE, BEGIN, priority(), str(script), *command[1:]], stdin=subprocess.DEVNULL, stdout=subprocess.PIPE, stderr=subprocess.STDOUT,
             cwd=self.folder, env=around, start_new_session=True,
         )  # fmt: skip
         try:
@@ -167,18 +177,19 @@ class Tree:
 
 
 class Known:
-    """The checks that fail also without a fault, by commands; they tell nothing. A command is asked once of each commit."""
+    """The checks that fail also without a fault, by commands; they tell nothing. A command is asked once, until something changes that
+    it tries."""
 
-    def __init__(self, commit: str) -> None:
-        self.file, self.commit = ROOM / "known.json", commit
+    def __init__(self, state: str) -> None:
+        self.file, self.state = ROOM / "known.json", state
         self.said: dict[str, list[str]] = json.loads(self.file.read_text()) if self.file.exists() else {}
 
     def has(self, words: str) -> bool:
-        return f"{self.commit} {words}" in self.said
+        return f"{self.state} {words}" in self.said
 
     def of(self, words: str) -> frozenset[str]:
-        return frozenset(self.said.get(f"{self.commit} {words}", ()))
+        return frozenset(self.said.get(f"{self.state} {words}", ()))
 
     def put(self, words: str, names: list[str]) -> None:
-        self.said[f"{self.commit} {words}"] = names
+        self.said[f"{self.state} {words}"] = names
         self.file.write_text(json.dumps(self.said, indent=1))
