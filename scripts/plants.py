@@ -13,11 +13,11 @@ RESULTS, EQUIVALENT = TOP / "bench" / "plants.jsonl", TOP / "scripts" / "plant.d
 WITHOUT_HANDS, BY_HAND, NOTHING, NOT_DRAWN = "without hands", "by hand", "nothing", "not drawn"
 SAME = "equivalent"
 KINDS = {
-    "programs": "both programs",
-    "clients": "clients in Python",
-    "page": "the page",
-    "edge": "`deploy/`, the launcher, the demonstration",
-    "release": "release and package",
+    "programs": "programs",
+    "clients": "clients",
+    "page": "page",
+    "edge": "edge",
+    "release": "release",
 }
 
 Line = dict[str, Any]
@@ -43,18 +43,19 @@ def counts(lines: list[Line]) -> collections.Counter[str]:
     return collections.Counter(it for it in found if it != NOT_DRAWN)
 
 
-def row(kind: str, lines: list[Line]) -> str:
+def row(kind: str, lines: list[Line]) -> list[str]:
     """Of the last seed of a kind."""
     seeds = [str(it["seed"]) for it in lines if it["kind"] == kind]
     if not seeds:
-        return f"| {KINDS[kind]} | none yet | | | | |"
+        return [KINDS[kind], "none yet", "", "", "", ""]
     told = counts(of_seed(lines, kind, seeds[-1]))
     drawn = sum(told.values()) - told[SAME]
-    share = f"{told[NOTHING]} ({round(100 * told[NOTHING] / drawn) if drawn else 0} %)"
-    return f"| {KINDS[kind]} | {drawn} by `{seeds[-1][:8]}` | {told[WITHOUT_HANDS]} | {told[BY_HAND]} | {share} | {told[SAME]} |"
+    share = round(100 * told[NOTHING] / drawn) if drawn else 0
+    numbers = [told[WITHOUT_HANDS], told[BY_HAND], f"{told[NOTHING]}: {share} %", told[SAME]]
+    return [KINDS[kind], f"{drawn} by `{seeds[-1][:8]}`", *map(str, numbers)]
 
 
 def table() -> str:
-    head = ["| Of | Faults | Without hands | By hand | By nothing | Equivalent |", "|---|---|---|---|---|---|"]
     lines = results()
-    return "\n".join([*head, *(row(kind, lines) for kind in KINDS)]) + "\n"
+    rows = [["Faults in", "Drawn", "Told without hands", "By hand", "By nothing", "Equivalent"], ["---"] * 6, *(row(kind, lines) for kind in KINDS)]
+    return "".join(f"|{'|'.join(cells)}|\n" for cells in rows)
