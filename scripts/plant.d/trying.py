@@ -107,10 +107,10 @@ def ended(process: subprocess.Popen[bytes]) -> None:
 
 
 class Tree:
-    """A clone of the repository, in which one fault after another is planted and committed."""
+    """A clone of the repository, in which one fault after another is planted."""
 
-    def __init__(self, number: int, commit: str) -> None:
-        self.folder, self.commit = ROOM / f"tree-{number}", commit
+    def __init__(self, name: str, commit: str) -> None:
+        self.folder, self.commit = ROOM / name, commit
         if not (self.folder / ".git").exists():
             subprocess.run(["git", "clone", "-q", "--shared", str(TOP), str(self.folder)], check=True)
         self.git("fetch", "-q", str(TOP), commit)
