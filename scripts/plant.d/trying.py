@@ -3,6 +3,7 @@ from __future__ import annotations
 
 import contextlib
 import fnmatch
+import functools
 import json
 import os
 import pathlib
@@ -48,6 +49,7 @@ class Check:
         return self.words.format(**programs).split() if all(it in programs for it in wanted) else None
 
 
+@functools.cache
 def all_checks() -> list[Check]:
     said = tomllib.loads((HERE / "checks.toml").read_text())["check"]
     return [Check(it["words"], tuple(it["paths"]), it.get("without_hands", False)) for it in said]
