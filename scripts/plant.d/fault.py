@@ -3,7 +3,6 @@ from __future__ import annotations
 
 import difflib
 import hashlib
-from collections.abc import Iterator
 from dataclasses import dataclass
 
 # Comparisons, each with the one that it turns into.
@@ -47,8 +46,8 @@ def changed(text: bytes, change: Change) -> bytes:
 def fault_of(path: str, text: bytes, change: Change) -> Fault:
     """The fault, with its diff without heads and without lines around it."""
     line = text.count(b"\n", 0, change.start) + 1
-    pair = [it.decode(errors="replace").splitlines() for it in (text, changed(text, change))]
-    diff = "\n".join(list(difflib.unified_diff(*pair, lineterm="", n=0))[3:])
+    before, after = (it.decode(errors="replace").splitlines() for it in (text, changed(text, change)))
+    diff = "\n".join(list(difflib.unified_diff(before, after, lineterm="", n=0))[3:])
     return Fault(path, line, change, diff)
 
 
@@ -56,8 +55,3 @@ def other_number(text: str) -> str:
     """A number that is a little more, if the number is a small one; and otherwise ten times the number."""
     value = int(text)
     return str(value + 1) if value < 10 else str(value * 10)
-
-
-def without(text: bytes, start: int, end: int) -> Iterator[Change]:
-    """The line or lines are left out."""
-    yield Change("line", start, end, "")

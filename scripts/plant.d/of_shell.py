@@ -40,8 +40,8 @@ def of_line(line: str, is_alone: bool) -> Iterator[Change]:
     said = WORDS.search(line)
     for found in NUMBER.finditer(line, 0, said.start() if said else len(line)):
         yield Change("number", found.start(), found.end(), other_number(found[0]))
-    if found := BRANCH.search(line):
-        yield Change("branch", found.start(), found.end(), "false")
+    if branch := BRANCH.search(line):
+        yield Change("branch", branch.start(), branch.end(), "false")
     if is_alone and COMMAND.fullmatch(line):
         begin = len(line) - len(line.lstrip())
         yield Change("effect", begin, len(line), ":")

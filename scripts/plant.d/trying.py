@@ -15,7 +15,7 @@ import subprocess
 import tempfile
 import time
 import tomllib
-from collections.abc import Iterator
+from collections.abc import Generator, Iterator
 from dataclasses import dataclass
 
 from fault import Fault, changed
@@ -26,8 +26,8 @@ ROOM = TOP / "out" / "plant"
 FAILURE = re.compile(r"FAIL(?:ED)?:? +(.*)")
 # Failed checks that say nothing of behaviour: that a part broke off, or that a text is another.
 NO_BEHAVIOUR = re.compile(r"is asked to its end|comes to its end|came to its end|ended early|can be tried here|mypy|has its lines|in deploy/promises.toml")
-# What says that the changed file is refused by what reads it, when that is started.
-REFUSED = re.compile(r"skip \w+: a proxy that starts here")
+# What says that a part can't be asked. With a fault alone it means that what reads the file refuses it at once.
+SKIPPED = re.compile(r"skip [\w-]+(?=: )")
 # A run has its own processes, its own loopback and nothing else of the network. Its session has the priority of the one that began it.
 ALONE = ["unshare", "--net", "--pid", "--fork", "--kill-child", "--mount-proc", "sh", "-c"]
 BEGIN = 'ip link set lo up; [ -z "$0" ] || echo "$0" >/proc/self/autogroup; exec "$@"'
@@ -70,8 +70,9 @@ class Answer:
 
 
 def judged(line: str, known: frozenset[str]) -> Answer | None:
-    if REFUSED.match(line):
-        return Answer("refused", line)
+    skipped = SKIPPED.match(line)
+    if skipped and skipped[0] not in known:
+        return Answer("refused", line[:300])
     found = FAILURE.match(line)
     if found and not NO_BEHAVIOUR.search(found[1]) and promise_of(found[1]) not in known:
         return Answer("told", found[1][:300])
@@ -141,7 +142,7 @@ class Tree:
         finally:
             file.write_bytes(text)
 
-    def lines(self, command: list[str], end: float) -> Iterator[str]:
+    def lines(self, command: list[str], end: float) -> Generator[str, None, None]:
         """What a script of scripts/try prints, until its time is over or nobody asks for more."""
         room = tempfile.mkdtemp(prefix="plant-")
         os.chmod(room, 0o755)
@@ -158,12 +159,10 @@ class Tree:
             shutil.rmtree(room, ignore_errors=True)
 
     def failing(self, command: list[str], seconds: float) -> list[str]:
-        """The names of all checks that fail within so many seconds."""
-        end, found = time.monotonic() + seconds, set[str]()
-        for line in self.lines(command, end):
-            if (answer := judged(line, frozenset())) and answer.kind == "told":
-                found.add(promise_of(answer.line))
-        return sorted(found)
+        """The names of all checks that fail, and of parts that are skipped, within so many seconds."""
+        end = time.monotonic() + seconds
+        answers = (judged(line, frozenset()) for line in self.lines(command, end))
+        return sorted({promise_of(it.line) for it in answers if it})
 
     def ask(self, command: list[str], known: frozenset[str], seconds: float) -> Answer:
         """Runs a script until a check fails that isn't known to fail."""
