@@ -469,16 +469,17 @@ def by_output(tool: Tool, place: Place) -> str | None:
         )
 
 
-def cases(place: Place) -> Iterator[tuple[bool, str]]:
-    """Each tool on each of its disks with each fault."""
+def cases(place: Place, only: str | None) -> Iterator[tuple[bool, str]]:
+    """Each tool, or only one, on each of its disks with each fault."""
+    asked = [tool for tool in TOOLS if only in (None, tool.name)]
     faults = (("a full disk", by_space), ("a read-only disk", by_protection), ("a lost disk", by_loss))
-    for tool in TOOLS:
+    for tool in asked:
         for what, by_fault in faults:
             fault = by_fault(tool, place)
             yield fault is None, f"{tool.name} {tool.words[0] if tool.name == 'iodef-hub-standby' else ''}, {what} of {tool.disk}" + (
                 f": {fault}" if fault else ""
             )
-    for tool in TOOLS:
+    for tool in asked:
         if tool.name in ("iodef-hub-check", "iodef-hub-directory", "iodef-hub-receipts") and tool.disk == "store":
             fault = by_output(tool, place)
             yield fault is None, f"{tool.name}, what it prints fills the disk" + (f": {fault}" if fault else "")

@@ -86,6 +86,37 @@ def of_nginx(edge: Edge) -> Checks:
         yield answer(f"{kind} is refused by nginx", told, status, ANSWER, refused(code))
 
 
+def second(edge: Edge) -> Checks:
+    """Two hubs of a circle, each with its page and its names."""
+    def ask(path: str) -> Answer:
+        return edge.ask(path, circle="health")
+
+    leads = {path: ask(path).fields.get("location", "").partition(f":{edge.port}")[2] for path in ("/", "/ui", "/2", "/2/ui")}
+    yield same("paths without a page lead to the second hub's, or the first's", {"/": "/2/ui/", "/ui": "/ui/", "/2": "/2/ui/", "/2/ui": "/2/ui/"}, leads)
+    page = PAGE | {"content-type": "text/html; charset=utf-8", "content-security-policy": POLICY}
+    for path, names in (("/ui/", "health"), ("/2/ui/", "health2")):
+        yield answer(f"{path} is a page", ask(path), 200, page)
+        yield answer(f"with the names of {names}", ask(f"{path}names.json"), 200, PAGE | {"content-type": "application/json"}, f'{{"of":"{names}"}}')
+    ask("/2/me"), ask("/2/ui/none")
+    whose = re.findall(r" (\S+) \S+ GET (/2/\S*) ", (edge.folder / "iodef-hub.log").read_text())
+    yield same("the log has the second hub's requests as its own, but not those for its page", {("health2", "/2/me"), ("health", "/2/ui/none")},
+               {it for it in whose if it[1] in ("/2/me", "/2/ui/none")})
+
+
+def taxii(edge: Edge) -> Checks:
+    """What reaches iodef-hub-taxii, for which the hub stands here, and what nginx refuses before."""
+    fields = {name: value for name, value in ANSWER.items() if name != "cache-control"}
+    more = ("-H", "Accept: application/taxii+json", "-H", "Cookie: a=b", "-H", "X-Forwarded-For: 192.0.2.99")
+    yield answer("an answer of TAXII", edge.ask("/taxii2/?x=1", *GOOD, *more), 200, fields, '{"number":1}')
+    heads = [sorted(head.lower().split("\r\n")) for head in edge.hub.heads if head.startswith("GET /taxii2/")]
+    yield same("no field of a caller reaches it but its key and what it accepts",
+               [["accept: application/taxii+json", "authorization: bearer good", "connection: close", "get /taxii2/?x=1 http/1.1", "host: hub"]], heads)
+    yield same("a body above 1 KB is refused", 413, edge.ask("/taxii2/", "--data-binary", "@-").status)
+    edge.ask("/taxii2/small", "-X", "POST", "-d", "x" * 900)
+    yield same("a smaller one isn't passed on", [], [head for head in edge.hub.heads if head.startswith("POST /taxii2/") and "ontent-" in head])
+    yield same("a byte in its path that is none of a path", 400, edge.raw(b"GET /taxii2/\x80 HTTP/1.1\r\nHost: payments.hub.example\r\n\r\n").status)
+
+
 def health(edge: Edge) -> Checks:
     alive = '{"alive":true}'
     yield answer("/healthz tells a caller of this machine that the hub lives", edge.ask("/healthz", address=LOCAL), 200, ANSWER, alive)
@@ -190,7 +221,7 @@ def away(edge: Edge) -> Checks:
 
 
 def quick(edge: Edge) -> Iterator[Check]:
-    for part in (pages, of_hub, of_nginx, health, handshakes, log):
+    for part in (pages, of_hub, of_nginx, second, taxii, health, handshakes, log):
         yield from part(edge)
 
 

@@ -119,8 +119,20 @@ class Edge(load.Proxies):
         main.write_text(main.read_text().replace("http {", IN_HTTP))
         for each in self.folder.glob("iodef-hub-*.conf"):
             each.write_text(each.read_text().replace("/var/lib/iodef-hub-names", str(self.folder)))
-        (self.folder / "payments.json").write_text('{"orgs":{}}')
+        for name in ("payments", "health", "health2"):
+            (self.folder / f"{name}.json").write_text('{"orgs":{}}' if name == "payments" else f'{{"of":"{name}"}}')
+        self.add_locations()
         self.folder.chmod(0o755)
+
+    def add_locations(self) -> None:
+        """A second hub below /2/ of the circle `health`, and TAXII of the circle `payments`, which the hub here answers."""
+        file = self.folder / "site.conf"
+        first, mark, second = file.read_text().partition("server_name health.hub.example;")
+        taxii = f"    location /taxii2/ {{ include {self.folder}/iodef-hub-taxii.conf; proxy_pass http://127.0.0.1:{self.port + 2}; }}\n"
+        first = first.replace("    location = /healthz", f"{taxii}    location = /healthz", 1)
+        second = second.replace("iodef-hub-page.conf", "iodef-hub-second.conf", 1)
+        second = second.replace("    location = /healthz", "    location /2/ { return 200 $iodef_hub_circle; }\n    location = /healthz", 1)
+        file.write_text(first + mark + second)
 
     def address(self) -> str:
         """One that no request had."""

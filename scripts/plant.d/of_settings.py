@@ -1,0 +1,41 @@
+"""The faults of a file of settings: a line that is left out, a number, a switch, and a comparison of an alert."""
+from __future__ import annotations
+
+import re
+from collections.abc import Iterator
+
+from fault import SWITCHES, TURNED, Change, other_number
+
+NUMBER = re.compile(r"(?<![\w.:$/{-])\d+(?=[smhkKMG%]?\b)(?![.:\w]*\d*[./:])")
+SWITCH = re.compile(r"(?<=[ =])(?:yes|no|on|off|true|false)(?=;?$|\s)")
+COMPARISON = re.compile(r"(?<= )(?:>|<|==|!=|>=|<=)(?= )")
+# A line of its own: a setting, and not one that begins or ends a block, a section or a list.
+ALONE = re.compile(r"^\s*[^\s#\[\]{}()][^{}]*(?:\{[^{}]*\}[^{}]*)*$")
+# What is said for people.
+SAID = re.compile(r"^\s*(?:Description=|Documentation=|annotations:|summary:|# HELP|- alert:|groups:|rules:|- name:)")
+
+
+def of_line(line: str) -> Iterator[Change]:
+    for found in NUMBER.finditer(line):
+        yield Change("number", found.start(), found.end(), other_number(found[0]))
+    for found in SWITCH.finditer(line):
+        yield Change("constant", found.start(), found.end(), SWITCHES[found[0]])
+    for found in COMPARISON.finditer(line):
+        yield Change("comparison", found.start(), found.end(), TURNED[found[0]])
+    if ALONE.fullmatch(line):
+        yield Change("line", 0, len(line) + 1, "")
+
+
+def changes(text: bytes) -> Iterator[Change]:
+    at = 0
+    for whole in text.decode("latin-1").splitlines(keepends=True):
+        line = whole.rstrip("\n")
+        if line.strip() and not line.lstrip().startswith("#") and not SAID.match(line):
+            for it in of_line(line):
+                yield Change(it.operator, at + it.start, at + it.end, it.new)
+        at += len(whole)
+
+
+def refusal(text: bytes, path: str) -> str:
+    """What reads them refuses wrong ones when it starts; `readers.py` asks it."""
+    return ""

@@ -1,0 +1,230 @@
+"""The queue that HAProxy keeps before a hub: who may have how much in hand or post in a day, what no report may have, who goes first, and
+what a caller is told of it. The requests come as nginx passes them on, and the hub answers when it is let."""
+
+from __future__ import annotations
+
+import contextlib
+import http.client
+import json
+import pathlib
+import re
+import socket
+import subprocess
+import tempfile
+import threading
+import time
+import typing
+from collections.abc import Iterator
+
+from asking import DEPLOY, Checks, program, same
+
+
+NONE = "192.0.2.1"
+# An answer, as far as it is compared: status, the cause for nginx's log, the time after which to ask again, and the body's reason.
+Told = tuple[int, str | None, str | None, str | None]
+TURNS: Told = (429, "turns", "2", "too many requests at once")
+ROOM: Told = (429, "room", "60", "no room for reports")
+LONG_NAME: Told = (422, None, None, "bad argument")
+DONE: Told = (200, None, None, None)
+
+
+class Hub(threading.Thread):
+    """Takes one request after another, and answers each when the gate is open, `/fails` with F2 and what has `/none` with 404."""
+
+    def __init__(self) -> None:
+        super().__init__(daemon=True)
+        self.listener = socket.create_server(("127.0.0.1", 0))
+        self.port, self.heads, self.gate = self.listener.getsockname()[1], list[str](), threading.Event()
+        self.gate.set()
+        self.start()
+
+    def run(self) -> None:
+        with contextlib.suppress(OSError):
+            while True:
+                with self.listener.accept()[0] as caller:
+                    self.answer(caller)
+
+    def answer(self, caller: socket.socket) -> None:
+        with contextlib.suppress(OSError), caller.makefile("rb") as given:
+            head = given.readline().decode()
+            fields = http.client.parse_headers(given)
+            given.read(int(fields["Content-Length"] or 0))
+            self.heads.append(" ".join([*head.split()[:2], *(f"{name}={value}" for name, value in fields.items() if name.lower() == "x-forwarded-for")]))
+            self.gate.wait(30)
+            code = "F2" if "/fails" in head else "N1" if "/none" in head else ""
+            status = {"F2": "503 Service Unavailable", "N1": "404 Not Found", "": "200 OK"}[code]
+            body = json.dumps({"code": code}) if code else "{}"
+            caller.sendall(f"HTTP/1.1 {status}\r\nContent-Type: application/json\r\nContent-Length: {len(body)}\r\nConnection: close\r\n\r\n{body}".encode())
+
+
+class Queue:
+    """HAProxy with the shipped file, before a hub of its own."""
+
+    def __init__(self, folder: pathlib.Path) -> None:
+        self.hub, self.port, self.admin, self.people = Hub(), free(), folder / "admin", 0
+        text = re.sub(r"^ *(?:log|user|group) .*\n", "", (DEPLOY / "haproxy" / "haproxy.cfg").read_text(), flags=re.M)
+        text = text.replace("/run/haproxy/admin.sock mode 660 level user", f"{self.admin} level admin")
+        for shipped, at in (("21011", self.port), ("21010", self.hub.port), ("21021", free()), ("21020", free())):
+            text = text.replace(f"127.0.0.1:{shipped}", f"127.0.0.1:{at}")
+        (folder / "haproxy.cfg").write_text(text)
+        self.process = subprocess.Popen([program("haproxy", "haproxy"), "-db", "-f", folder / "haproxy.cfg"], stdout=subprocess.DEVNULL, stderr=subprocess.DEVNULL)
+        for _ in range(300):
+            with contextlib.suppress(OSError), socket.create_connection(("127.0.0.1", self.port)):
+                return
+            time.sleep(0.1)
+        raise ValueError("HAProxy doesn't start")
+
+    def person(self) -> str:
+        """A key that nobody had."""
+        self.people += 1
+        return f"key-{self.people}"
+
+    def begin(self, key: str, method: str, target: str, body: bytes = b"", address: str = "") -> http.client.HTTPConnection:
+        """A request whose answer isn't awaited; of an address that nobody else has."""
+        self.people += not address
+        it = http.client.HTTPConnection("127.0.0.1", self.port, timeout=60)
+        it.request(method, target, body, {"Authorization": f"Bearer {key}", "X-Forwarded-For": address or f"198.51.100.{self.people % 250}"})
+        return it
+
+    def ask(self, key: str, method: str, target: str, body: bytes = b"", address: str = "") -> Told:
+        with contextlib.closing(self.begin(key, method, target, body, address)) as it:
+            return told(it)
+
+    @contextlib.contextmanager
+    def held(self) -> Iterator[contextlib.ExitStack]:
+        """The hub answers nobody; those that are in the stack are given up at its end."""
+        self.hub.gate.clear()
+        try:
+            with contextlib.ExitStack() as stack:
+                yield stack
+        finally:
+            self.hub.gate.set()
+            time.sleep(0.3)
+
+    def hold(self, stack: contextlib.ExitStack, *words: typing.Any, **more: str) -> http.client.HTTPConnection:
+        it = stack.enter_context(contextlib.closing(self.begin(*words, **more)))
+        time.sleep(0.15)
+        return it
+
+    def say(self, words: str) -> None:
+        with socket.socket(socket.AF_UNIX) as it:
+            it.connect(str(self.admin))
+            it.sendall(f"{words}\n".encode())
+            it.recv(1000)
+
+    def close(self) -> None:
+        self.process.terminate()
+        self.process.wait()
+        self.hub.listener.close()
+
+
+def free() -> int:
+    with socket.create_server(("127.0.0.1", 0)) as it:
+        return int(it.getsockname()[1])
+
+
+def told(it: http.client.HTTPConnection) -> Told:
+    found = it.getresponse()
+    body = json.loads(found.read() or b"{}")
+    return found.status, found.headers["X-Hub-Code"], found.headers["Retry-After"], body.get("reason")
+
+
+def in_hand(queue: Queue) -> Checks:
+    """Two lists and two reports of a person, two lists of an address; beside them each other request waits for its turn."""
+    for what, method, target in (("lists", "GET", "/search?needle=x"), ("lists of what is addressed", "GET", "/me/addressed"), ("reports", "POST", "/incidents")):
+        who, other = queue.person(), queue.person()
+        with queue.held() as stack:
+            queue.hold(stack, who, method, target)
+            second = queue.hold(stack, who, method, target)
+            yield same(f"a person with two {what} in hand gets no third", TURNS, queue.ask(who, method, target))
+            third = queue.hold(stack, other, method, target)
+            view = queue.hold(stack, who, "GET", "/incidents/1")
+            queue.hub.gate.set()
+            yield same(f"the second of the {what}, another person's and a View are answered", [DONE] * 3, [told(it) for it in (second, third, view)])
+    with queue.held() as stack:
+        for _ in range(2):
+            queue.hold(stack, queue.person(), "GET", "/incidents", address=NONE)
+        yield same("an address with two lists in hand gets no third", TURNS, queue.ask(queue.person(), "GET", "/incidents", address=NONE))
+
+
+def large(queue: Queue) -> Checks:
+    """A report with 1,024 commas or brackets, of which a circle has four in hand."""
+    for what, body in (("commas", b"," * 1024), ("brackets", b"[" * 1024)):
+        with queue.held() as stack:
+            for _ in range(4):
+                queue.hold(stack, queue.person(), "POST", "/incidents", body)
+            yield same(f"a circle has four reports of 1,024 {what} in hand", TURNS, queue.ask(queue.person(), "POST", "/incidents", body))
+            small = queue.hold(stack, queue.person(), "POST", "/incidents", body[1:])
+            queue.hub.gate.set()
+            yield same("one that has one less isn't counted", DONE, told(small))
+
+
+def in_a_day(queue: Queue) -> Checks:
+    """Only what was done counts, by person."""
+    for what, target, most, reason in (("groups", "/groups", 20, "too many groups in a day"), ("reports", "/incidents", 500, "too many reports in a day")):
+        who = queue.person()
+        ends = [queue.ask(who, "POST", target) for _ in range(most)]
+        yield same(f"{most} {what} of a person are taken in a day", [DONE] * most, ends)
+        yield same("one more isn't", (429, "posts", "3600", reason), queue.ask(who, "POST", target))
+        yield same("another person's is", DONE, queue.ask(queue.person(), "POST", target))
+    yield same("a new revision is a report, too", (429, "posts", "3600", "too many reports in a day"), queue.ask(who, "PUT", "/incidents/1"))
+    who = queue.person()
+    refused = [queue.ask(who, "POST", "/groups?/none")[0] for _ in range(20)]
+    yield same("what the hub refused doesn't count", ([404] * 20, DONE), (refused, queue.ask(who, "POST", "/groups")))
+
+
+def names(queue: Queue) -> Checks:
+    """A member's name has at most 256 bytes; a text has any number."""
+    who = queue.person()
+    for what, body, wanted in (
+        ("a name of 256 bytes passes", b'{"%s":1}' % (b"n" * 256), DONE),
+        ("a name of 257 is refused", b'{"%s":1}' % (b"n" * 257), LONG_NAME),
+        ("so is one of 257 escapes, with a blank behind it", b'{"a":"b","%s" :1}' % (b"\\n" * 257), LONG_NAME),
+        ("a text of 257 passes, also with a quote in it", b'{"a":"%s\\"","b":1}' % (b"n" * 257), DONE),
+    ):
+        yield same(what, wanted, queue.ask(who, "PUT", "/incidents/1", body))
+        who = queue.person()
+    yield same("in what is no report a name may be longer", DONE, queue.ask(who, "POST", "/groups", b'{"%s":1}' % (b"n" * 257)))
+
+
+def turns(queue: Queue) -> Checks:
+    """While one is in hand the others come in another order: any request before a list, and who has least in hand first."""
+    busy = queue.person()
+    with queue.held() as stack:
+        queue.hold(stack, queue.person(), "GET", "/first")
+        for key, target in ((queue.person(), "/incidents?list"), (busy, "/busy-1"), (busy, "/busy-2"), (queue.person(), "/other")):
+            queue.hold(stack, key, "GET", target)
+        del queue.hub.heads[:]
+        queue.hub.gate.set()
+        time.sleep(1)
+    yield same("a person's second request and a list wait for others", ["/busy-1", "/other", "/busy-2", "/incidents?list"], [it.split()[1] for it in queue.hub.heads[-4:]])
+
+
+def room(queue: Queue) -> Checks:
+    """A circle that iodef-hub-room has put on the list takes nothing that makes its store larger."""
+    who = queue.person()
+    queue.say("add acl #21 payments")
+    for what, method, target, body, wanted in (
+        ("no report", "POST", "/incidents", b"{}", ROOM),
+        ("no share", "POST", "/incidents/1/grant", b"{}", ROOM),
+        ("no revision above 512 bytes", "PUT", "/incidents/1", b" " * 513, ROOM),
+        ("a smaller one", "PUT", "/incidents/1", b" " * 512, DONE),
+        ("a View", "GET", "/incidents/1", b"", DONE),
+    ):
+        yield same(f"a circle without room takes {what}", wanted, queue.ask(who, method, target, body))
+    queue.say("del acl #21 payments")
+
+
+def passed_on(queue: Queue) -> Checks:
+    yield same("the hub isn't told the address", [], [it for it in queue.hub.heads if "x-forwarded-for" in it.lower()])
+    yield same("nginx is told the code of a hub that fails", (503, "F2"), queue.ask(queue.person(), "GET", "/fails")[:2])
+
+
+def queued() -> Checks:
+    with tempfile.TemporaryDirectory() as name:
+        queue = Queue(pathlib.Path(name))
+        try:
+            for part in (in_hand, large, in_a_day, names, turns, room, passed_on):
+                yield from part(queue)
+        finally:
+            queue.close()
