@@ -68,9 +68,3 @@ def waited() -> Checks:
         yield same("a hub that works for twelve seconds before it listens has two more minutes, and then no status",
                    (0, [status, status], ["STATUS="]), (ends[0], of_busy[:2], of_busy[-1:]))
         yield same("one that rests has one more minute", (0, [status, "STATUS="]), (ends[1], notified(idle)))
-        with opening("rests", 60) as (ending, port):
-            waits_in_vain = waiting(idle, ending.pid, port)
-            ending.kill()
-            ending.wait()
-            said = waits_in_vain.communicate()[1]
-        yield same("one that ends is no start", (1, f"the hub ended before it listened on port {port}\n"), (waits_in_vain.returncode, said))
