@@ -1,0 +1,402 @@
+#!/usr/bin/env python3
+"""What requests cost over many reports, most of all lists and searches that pass over reports: of a program before a change, of the one
+after it, and of the plain peer.
+
+usage: bench/passing.py --after FILE [--before FILE] [--peer FILE] [--reports N,N,..] [--figures FILE] [--longest SECONDS]
+                        [--dearest SECONDS] [--instructions N] [--only WORDS ..] [--unproved] [--folder FOLDER]
+       bench/passing.py --table FILE
+
+bench/mixed.py describes the store. For each number of reports each program serves a copy of the same store, and answers the same
+requests: a list's page and a look for news by the reader; lists of four callers who see nothing; searches by the reader for needles of
+2 to 12 bytes that some report holds, that none holds, and that are woven of two pieces of the documents; Views, an explanation, and
+changes. A needle is drawn from a seed. It also measures the opening and the memory behind it.
+
+A figure is the median of several requests, in seconds of a processor and by the clock. A row ends after --longest seconds of a
+processor. A row of which one request would take more than --dearest seconds, by the sizes before, is computed from these, and is marked
+by `~`. The peer doesn't explain. With --instructions each row is asked once of a program under callgrind, over N reports.
+
+A search reads the documents that it can't pass over. The table has their share, by the processor's time: a search for two bytes that
+no report holds reads each document, and one for twelve reads none.
+
+Each figure is appended to --figures as a line of JSON. --table prints the tables of such a file, and bench/draw.py draws a picture of
+it. The script checks that all programs answer the same, and ends with `N passed, M failed`. Needs: Python 3.11, for --instructions
+valgrind. 1,000 and 10,000 reports take some minutes; disk: three times the largest store.
+"""
+
+import argparse
+import collections
+import dataclasses
+import json
+import pathlib
+import random
+import re
+import shutil
+import sys
+import tempfile
+import urllib.parse
+from collections.abc import Callable, Iterator
+
+import dearest
+import many
+import mixed
+import sizes
+
+sys.path.insert(0, str(many.TOP / "scripts"))
+import progress  # noqa: E402
+import record  # noqa: E402
+
+BEFORE, AFTER, PEER = "before", "after", "peer"
+TURNS, SEARCHES = 20, 5
+NEEDLES = (2, 3, 4, 8, 12)
+HOLDER, MISSING = "Incident", "Telephone"
+NOTHING = b'{"incidents":[]}'
+OPENED, DATA, PEAK = "opening", "data behind the opening (VmData)", "most memory until there (VmHWM)"
+
+
+@dataclasses.dataclass(frozen=True)
+class Request:
+    key: str
+    method: str
+    target: str
+    body: bytes = b""
+
+
+@dataclasses.dataclass(frozen=True)
+class Row:
+    """Requests that are measured over so many reports, and those that are asked before. `shows` says whether an answer has a
+    report, if that is known."""
+
+    name: str
+    asks: Callable[[int], list[Request]]
+    before: Callable[[int], list[Request]] = lambda size: []
+    shows: bool | None = None
+    is_known_to_peer: bool = True
+
+
+# ---- the rows
+
+
+def get(key: str, target: str, turns: int = TURNS) -> Callable[[int], list[Request]]:
+    """The same request again and again; `{size}` and `{middle}` in the target stand for numbers of reports."""
+    return lambda size: [Request(key, "GET", target.format(size=size, middle=size // 2))] * turns
+
+
+def each(form: Callable[[int], Request]) -> Callable[[int], list[Request]]:
+    """A request to each of some reports that are far from each other."""
+    return lambda size: [form(size * at // (TURNS + 1) + 1) for at in range(1, TURNS + 1)]
+
+
+def view(number: int) -> Request:
+    return Request(mixed.READER, "GET", f"/incidents/{number}")
+
+
+def explain(number: int) -> Request:
+    person = mixed.PERSONS[mixed.PERMITTED][0]
+    return Request(mixed.ADMIN, "GET", f"/explain?person={person}&incident={number}&path={mixed.PERMITTED_CLASS}")
+
+
+def address(number: int) -> Request:
+    return Request(mixed.POSTER, "POST", f"/incidents/{number}/address", b"org=5")
+
+
+def grant(number: int) -> Request:
+    return Request(mixed.COORDINATOR, "POST", f"/incidents/{number}/grant", f"revision=1&path={mixed.PERMITTED_CLASS}&org=5".encode())
+
+
+def posts(size: int) -> list[Request]:
+    bodies = [mixed.body_of(f"posted-{at}", mixed.text_of(2 * (size + at) + 1)) for at in range(TURNS)]
+    return [Request(mixed.POSTER, "POST", f"/incidents?level=4&group=1&gate=4:2:{mixed.GATED_CLASS}", body) for body in bodies]
+
+
+def search(draw: Callable[[random.Random, int, int], str], length: int, holder: str = "") -> Callable[[int], list[Request]]:
+    """Searches for needles of so many bytes, in classes of this name."""
+
+    def asks(size: int) -> list[Request]:
+        drawn = random.Random(f"{length} {size}")
+        words = [{"needle": draw(drawn, length, size)} for _ in range(SEARCHES)]
+        queries = [urllib.parse.urlencode({**it, **({"class": holder} if holder else {})}, quote_via=urllib.parse.quote) for it in words]
+        return [Request(mixed.READER, "GET", f"/search?{it}") for it in queries]
+
+    return asks
+
+
+def nowhere(drawn: random.Random, length: int, size: int) -> str:
+    return mixed.nowhere(drawn, length)
+
+
+def woven(drawn: random.Random, length: int, size: int) -> str:
+    return mixed.woven(drawn, length)
+
+
+def listing_rows() -> Iterator[Row]:
+    yield Row("a list's page of 100", get(mixed.READER, "/incidents?after={middle}"), shows=True)
+    yield Row("news", get(mixed.READER, "/incidents?after={size}"), shows=False)
+    yield Row("addressed", get(mixed.READER, "/me/addressed", SEARCHES), shows=True)
+    yield Row("a View, the first time", each(view))
+    yield Row("a View again", each(view), before=each(view))
+    yield Row("an explanation", each(explain), is_known_to_peer=False)
+    yield Row("a list of nothing, by the root's gate", get(mixed.SHUT, "/incidents", SEARCHES), shows=False)
+    yield Row("a list of nothing, by the labels", get(mixed.UNCLEARED, "/incidents", SEARCHES), shows=False)
+    yield Row("a list of nothing, by an inner gate", get(mixed.GATED, "/incidents", SEARCHES), shows=False)
+    yield Row("a list of nothing, where a permission holds", get(mixed.PERMITTED, "/incidents", SEARCHES), shows=False)
+
+
+def search_rows() -> Iterator[Row]:
+    for holder in ("", HOLDER):
+        where = f" in class {holder}" if holder else ""
+        yield from (Row(f"nowhere, {it} bytes{where}", search(nowhere, it, holder), shows=False) for it in NEEDLES)
+        yield from (Row(f"found, {it} bytes{where}", search(mixed.there, it, holder), shows=True) for it in NEEDLES)
+    yield from (Row(f"woven, {it} bytes", search(woven, it), shows=False) for it in NEEDLES[-2:])
+    yield Row(f"elsewhere, 8 bytes in class {MISSING}", search(mixed.there, 8, MISSING), shows=False)
+
+
+def change_rows() -> Iterator[Row]:
+    yield Row("a post", posts)
+    yield Row("an address", each(address))
+    yield Row("a grant", each(grant))
+
+
+ROWS = (*listing_rows(), *search_rows(), *change_rows())
+
+
+# ---- figures
+
+
+@dataclasses.dataclass(frozen=True)
+class Figure:
+    """One figure: of a program over so many reports, in seconds, megabytes or instructions."""
+
+    reports: int
+    program: str
+    work: str
+    seconds: float = 0.0
+    clock: float = 0.0
+    megabytes: float = 0.0
+    instructions: int = 0
+    times: int = 1
+    is_reckoned: bool = False
+
+
+def read(file: pathlib.Path) -> list[Figure]:
+    return [Figure(**it) for it in map(json.loads, file.read_text().splitlines()) if "work" in it]
+
+
+class Figures:
+    """The figures of a run, which are appended to a file."""
+
+    def __init__(self, file: pathlib.Path | None) -> None:
+        self.file = file
+        self.found: list[Figure] = read(file) if file and file.exists() else []
+
+    def write(self, line: dict[str, object]) -> None:
+        print(json.dumps(line), file=sys.stderr, flush=True)
+        if self.file:
+            with self.file.open("a") as file:
+                file.write(json.dumps(line) + "\n")
+
+    def add(self, figure: Figure) -> None:
+        self.found.append(figure)
+        self.write(dataclasses.asdict(figure))
+
+    def reckoned(self, program: str, work: str, size: int) -> float | None:
+        """The seconds of one request over so many reports, by the sizes before; None if there is no such size."""
+        row = {it.reports: sizes.Figure(it.seconds, it.is_reckoned) for it in self.found if (it.program, it.work) == (program, work)}
+        found = sizes.reckoned(work, row, size)
+        return found.value if found else None
+
+
+# ---- a run
+
+
+@dataclasses.dataclass
+class Stand:
+    """What the programs are measured with."""
+
+    said: argparse.Namespace
+    folder: pathlib.Path
+    figures: Figures
+    checks: many.Checks
+    answers: dict[tuple[int, str, int], object] = dataclasses.field(default_factory=dict)
+    done: int = 0
+
+    @property
+    def base(self) -> pathlib.Path:
+        """The store that grows from size to size."""
+        return self.folder / "base.db"
+
+    def programs(self) -> dict[str, str]:
+        named = {BEFORE: self.said.before, AFTER: self.said.after, PEER: self.said.peer}
+        return {name: file for name, file in named.items() if file}
+
+    def rows(self) -> list[Row]:
+        return [it for it in ROWS if not self.said.only or any(words in it.name for words in self.said.only)]
+
+
+def store_for(stand: Stand, name: str, size: int) -> pathlib.Path:
+    """A store for a program, with the content of the base."""
+    store = stand.folder / f"{name}.db"
+    if name == PEER:
+        mixed.make_peer_store(stand.said.peer, store, stand.base, size)
+    else:
+        shutil.copyfile(stand.base, store)
+    return store
+
+
+def peak_megabytes(pid: int) -> float:
+    found = re.search(r"^VmHWM:\s+(\d+) kB$", pathlib.Path(f"/proc/{pid}/status").read_text(), re.M)
+    return int(found[1]) / 1024 if found else 0.0
+
+
+def check_answer(stand: Stand, row: Row, size: int, turn: int, name: str, told: bytes) -> None:
+    """The answer shows what it should, and the other programs gave the same."""
+    what = f"{size:,} reports, {row.name}, request {turn}, {name}"
+    if row.shows is not None:
+        stand.checks.same(f"{what}: shows a report", told != NOTHING, row.shows)
+    answer = json.loads(told)
+    stand.checks.same(what, answer, stand.answers.setdefault((size, row.name, turn), answer))
+
+
+def measure_row(stand: Stand, row: Row, name: str, size: int, hub: many.Hub) -> None:
+    for request in row.before(size):
+        hub.done(*dataclasses.astuple(request))
+    costs: list[many.Cost] = []
+    for turn, request in enumerate(row.asks(size)):
+        cost, told = hub.answer(*dataclasses.astuple(request))
+        costs.append(cost)
+        check_answer(stand, row, size, turn, name, told)
+        if sum(it.processor for it in costs) > stand.said.longest:
+            break
+    middle = many.middle(costs)
+    stand.figures.add(Figure(size, name, row.name, middle.processor, middle.clock, times=len(costs)))
+
+
+def measure_program(stand: Stand, name: str, size: int) -> None:
+    store = store_for(stand, name, size)
+    hub = many.Hub(stand.programs()[name], store, stand.said.port)
+    stand.figures.add(Figure(size, name, OPENED, hub.opened.processor, hub.opened.clock))
+    stand.figures.add(Figure(size, name, DATA, megabytes=hub.memory()))
+    stand.figures.add(Figure(size, name, PEAK, megabytes=peak_megabytes(hub.process.pid)))
+    for row in stand.rows():
+        stand.done += 1
+        expected = stand.figures.reckoned(name, row.name, size)
+        if name == PEER and not row.is_known_to_peer:
+            continue
+        if expected is not None and expected > stand.said.dearest:
+            stand.figures.add(Figure(size, name, row.name, expected, times=0, is_reckoned=True))
+        else:
+            measure_row(stand, row, name, size, hub)
+    hub.close()
+    sizes.remove(store)
+
+
+def count_program(stand: Stand, name: str, size: int) -> None:
+    """The instructions of one request of each row."""
+    store = store_for(stand, name, size)
+    hub = dearest.Hub(stand.programs()[name], str(store), counts=True)
+    for row in stand.rows():
+        stand.done += 1
+        if name != PEER or row.is_known_to_peer:
+            request = dataclasses.astuple(row.asks(size)[0])
+            count = hub.counted(lambda: hub.done(*request))
+            stand.figures.add(Figure(size, name, row.name, instructions=count))
+    hub.close()
+    sizes.remove(store)
+
+
+def run(stand: Stand) -> None:
+    said = stand.said
+    measures = count_program if said.instructions else measure_program
+    reports = [said.instructions] if said.instructions else said.reports
+    stand.figures.write({"provenance": {name: many.provenance(file) for name, file in stand.programs().items()}, "unproved": said.unproved})
+    progress.say(sum(reports) / 4_000, lambda: stand.done, len(stand.rows()) * len(stand.programs()) * len(reports), "rows")
+    mixed.begin(said.after, stand.base, said.port)
+    for size in reports:
+        mixed.grow(stand.base, size)
+        for name in stand.programs():
+            measures(stand, name, size)
+
+
+# ---- the tables
+
+
+def shown(figure: Figure | None) -> str:
+    if figure is None:
+        return "–"
+    if figure.megabytes or figure.work in (DATA, PEAK):
+        return f"{figure.megabytes:,.0f} MB"
+    if figure.instructions:
+        return f"{figure.instructions / 1e6:,.2f}"
+    if figure.is_reckoned:
+        return f"~ {time_of(figure.seconds)}"
+    return f"{time_of(figure.seconds)} ({time_of(figure.clock)})"
+
+
+def time_of(seconds: float) -> str:
+    value, unit = (seconds * 1e3, "ms") if seconds < 1 else (seconds, "s")
+    return f"{value:,.0f} {unit}" if value >= 100 else f"{value:.1f} {unit}" if value >= 10 else f"{value:.2f} {unit}"
+
+
+def share_read(found: dict[str, Figure], work: str) -> str:
+    """Which share of the documents a search for what is nowhere has read."""
+    each, none = found.get("nowhere, 2 bytes"), found.get("nowhere, 12 bytes")
+    is_such = work.startswith(("nowhere", "woven", "elsewhere"))
+    if not is_such or each is None or none is None or work not in found or each.seconds <= none.seconds:
+        return ""
+    share = (found[work].seconds - none.seconds) / (each.seconds - none.seconds)
+    return f"{max(share, 0):.1%}"
+
+
+def print_table(title: str, figures: list[Figure], with_shares: bool) -> None:
+    """The figures of one number of reports, a column for each program."""
+    names = [it for it in (BEFORE, AFTER, PEER) if any(figure.program == it for figure in figures)]
+    found: dict[str, dict[str, Figure]] = collections.defaultdict(dict)
+    for figure in figures:
+        found[figure.work][figure.program] = figure
+    after = {work: cells[AFTER] for work, cells in found.items() if AFTER in cells}
+    print(f"\n| {title} | {' | '.join(names)} |{' documents read by `after` |' if with_shares else ''}")
+    print(f"|---|{'---|' * (len(names) + with_shares)}")
+    for work, cells in found.items():
+        last = f" {share_read(after, work)} |" if with_shares else ""
+        print(f"| {work} | {' | '.join(shown(cells.get(it)) for it in names)} |{last}")
+
+
+def print_tables(file: pathlib.Path) -> None:
+    figures = read(file)
+    counted = [it for it in figures if it.instructions]
+    timed = [it for it in figures if not it.instructions]
+    for size in sorted({it.reports for it in timed}):
+        print_table(f"{size:,} reports", [it for it in timed if it.reports == size], with_shares=True)
+    for size in sorted({it.reports for it in counted}):
+        print_table(f"{size:,} reports, million instructions", [it for it in counted if it.reports == size], with_shares=False)
+
+
+def main() -> None:
+    words = argparse.ArgumentParser(description=__doc__, formatter_class=argparse.RawDescriptionHelpFormatter, allow_abbrev=False)
+    words.add_argument("--after", metavar="FILE")
+    words.add_argument("--before", metavar="FILE")
+    words.add_argument("--peer", metavar="FILE")
+    words.add_argument("--reports", type=sizes.numbers, default=sizes.numbers("1000,10000,100000"))
+    words.add_argument("--figures", type=pathlib.Path, metavar="FILE", help="where the figures are appended")
+    words.add_argument("--longest", type=float, default=10, help="seconds of a processor after which a row ends; by default %(default)s")
+    words.add_argument("--dearest", type=float, default=300, help="seconds of the dearest request that is measured; by default %(default)s")
+    words.add_argument("--instructions", type=int, default=0, metavar="N", help="counts instructions over N reports")
+    words.add_argument("--only", nargs="*", metavar="WORDS", help="only rows whose names have some of these words")
+    words.add_argument("--unproved", action="store_true", help="the programs were compiled without proof")
+    words.add_argument("--port", type=int, default=many.free_port())
+    words.add_argument("--folder", help="the folder in which the stores are made and removed")
+    words.add_argument("--table", type=pathlib.Path, metavar="FILE", help="prints the tables of a file of figures")
+    said = words.parse_args()
+    if said.table:
+        print_tables(said.table)
+        return
+    if not said.after or any(file and not many.is_program(file) for file in (said.after, said.before, said.peer)):
+        words.error("--after is missing, or a file is no program")
+    many.end_in_order()
+    with tempfile.TemporaryDirectory(dir=said.folder) as folder:
+        stand = Stand(said, pathlib.Path(folder), Figures(said.figures), many.Checks())
+        run(stand)
+    stand.checks.end()
+
+
+if __name__ == "__main__":
+    record.run(main)
