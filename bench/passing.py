@@ -11,12 +11,12 @@ requests: a list's page and a look for news by the reader; lists of four callers
 2 to 12 bytes that some report holds, that none holds, and that are woven of two pieces of the documents; Views, an explanation, and
 changes. A needle is drawn from a seed. It also measures the opening and the memory behind it.
 
-A figure is the median of several requests, in seconds of a processor and by the clock. A row ends after --longest seconds of a
-processor. A row of which one request would take more than --dearest seconds, by the sizes before, is computed from these, and is marked
-by `~`. The peer doesn't explain. With --instructions each row is asked once of a program under callgrind, over N reports.
+A figure is the median of several requests, or of searches the mean, in seconds of a processor and by the clock. A row ends after
+--longest seconds of a processor. A row of which one request would take more than --dearest seconds, by the sizes before, is computed
+from these, and is marked by `~`. The peer doesn't explain. With --instructions callgrind counts them, over N reports.
 
-A search reads the documents that it can't pass over. The table has their share, by the processor's time: a search for two bytes that
-no report holds reads each document, and one for twelve reads none.
+A search reads the documents that it can't pass over. The table has their share, by the time or the instructions: a search for two bytes
+that no report holds reads each document, and one for twelve reads none.
 
 Each figure is appended to --figures as a line of JSON. --table prints the tables of such a file, and bench/draw.py draws a picture of
 it. The script checks that all programs answer the same, and ends with `N passed, M failed`. Needs: Python 3.11, for --instructions
@@ -31,6 +31,7 @@ import pathlib
 import random
 import re
 import shutil
+import statistics
 import sys
 import tempfile
 import urllib.parse
@@ -46,7 +47,7 @@ import progress  # noqa: E402
 import record  # noqa: E402
 
 BEFORE, AFTER, PEER = "before", "after", "peer"
-TURNS, SEARCHES = 20, 5
+TURNS, LISTS, SEARCHES, COUNTED = 20, 5, 10, 4
 NEEDLES = (2, 3, 4, 8, 12)
 HOLDER, MISSING = "Incident", "Telephone"
 NOTHING = b'{"incidents":[]}'
@@ -64,12 +65,13 @@ class Request:
 @dataclasses.dataclass(frozen=True)
 class Row:
     """Requests that are measured over so many reports, and those that are asked before. `shows` says whether an answer has a
-    report, if that is known."""
+    report, if that is known. Requests `differ` if each may cost another time; their figure is the mean."""
 
     name: str
     asks: Callable[[int], list[Request]]
     before: Callable[[int], list[Request]] = lambda size: []
     shows: bool | None = None
+    differ: bool = False
     is_known_to_peer: bool = True
 
 
@@ -131,23 +133,27 @@ def woven(drawn: random.Random, length: int, size: int) -> str:
 def listing_rows() -> Iterator[Row]:
     yield Row("a list's page of 100", get(mixed.READER, "/incidents?after={middle}"), shows=True)
     yield Row("news", get(mixed.READER, "/incidents?after={size}"), shows=False)
-    yield Row("addressed", get(mixed.READER, "/me/addressed", SEARCHES), shows=True)
+    yield Row("addressed", get(mixed.READER, "/me/addressed", LISTS), shows=True)
     yield Row("a View, the first time", each(view))
     yield Row("a View again", each(view), before=each(view))
     yield Row("an explanation", each(explain), is_known_to_peer=False)
-    yield Row("a list of nothing, by the root's gate", get(mixed.SHUT, "/incidents", SEARCHES), shows=False)
-    yield Row("a list of nothing, by the labels", get(mixed.UNCLEARED, "/incidents", SEARCHES), shows=False)
-    yield Row("a list of nothing, by an inner gate", get(mixed.GATED, "/incidents", SEARCHES), shows=False)
-    yield Row("a list of nothing, where a permission holds", get(mixed.PERMITTED, "/incidents", SEARCHES), shows=False)
+    yield Row("a list of nothing, by the root's gate", get(mixed.SHUT, "/incidents", LISTS), shows=False)
+    yield Row("a list of nothing, by the labels", get(mixed.UNCLEARED, "/incidents", LISTS), shows=False)
+    yield Row("a list of nothing, by an inner gate", get(mixed.GATED, "/incidents", LISTS), shows=False)
+    yield Row("a list of nothing, where a permission holds", get(mixed.PERMITTED, "/incidents", LISTS), shows=False)
+
+
+def search_row(name: str, draw: Callable[[random.Random, int, int], str], length: int, holder: str = "") -> Row:
+    words = f"{name}, {length} bytes{f' in class {holder}' if holder else ''}"
+    return Row(words, search(draw, length, holder), shows=name == "found", differ=True)
 
 
 def search_rows() -> Iterator[Row]:
     for holder in ("", HOLDER):
-        where = f" in class {holder}" if holder else ""
-        yield from (Row(f"nowhere, {it} bytes{where}", search(nowhere, it, holder), shows=False) for it in NEEDLES)
-        yield from (Row(f"found, {it} bytes{where}", search(mixed.there, it, holder), shows=True) for it in NEEDLES)
-    yield from (Row(f"woven, {it} bytes", search(woven, it), shows=False) for it in NEEDLES[-2:])
-    yield Row(f"elsewhere, 8 bytes in class {MISSING}", search(mixed.there, 8, MISSING), shows=False)
+        yield from (search_row("nowhere", nowhere, it, holder) for it in NEEDLES)
+        yield from (search_row("found", mixed.there, it, holder) for it in NEEDLES)
+    yield from (search_row("woven", woven, it) for it in NEEDLES[-2:])
+    yield search_row("elsewhere", mixed.there, 8, MISSING)
 
 
 def change_rows() -> Iterator[Row]:
@@ -200,7 +206,8 @@ class Figures:
 
     def reckoned(self, program: str, work: str, size: int) -> float | None:
         """The seconds of one request over so many reports, by the sizes before; None if there is no such size."""
-        row = {it.reports: sizes.Figure(it.seconds, it.is_reckoned) for it in self.found if (it.program, it.work) == (program, work)}
+        known = [it for it in self.found if (it.program, it.work) == (program, work) and it.seconds]
+        row = {it.reports: sizes.Figure(it.seconds, it.is_reckoned) for it in known}
         found = sizes.reckoned(work, row, size)
         return found.value if found else None
 
@@ -216,7 +223,7 @@ class Stand:
     folder: pathlib.Path
     figures: Figures
     checks: many.Checks
-    answers: dict[tuple[int, str, int], object] = dataclasses.field(default_factory=dict)
+    answers: dict[tuple[int, str, int], bytes] = dataclasses.field(default_factory=dict)
     done: int = 0
 
     @property
@@ -252,13 +259,15 @@ def check_answer(stand: Stand, row: Row, size: int, turn: int, name: str, told: 
     what = f"{size:,} reports, {row.name}, request {turn}, {name}"
     if row.shows is not None:
         stand.checks.same(f"{what}: shows a report", told != NOTHING, row.shows)
-    answer = json.loads(told)
-    stand.checks.same(what, answer, stand.answers.setdefault((size, row.name, turn), answer))
+    stand.checks.same(what, told, stand.answers.setdefault((size, row.name, turn), told))
+
+
+def mean(costs: list[many.Cost]) -> many.Cost:
+    return many.Cost(statistics.mean(it.processor for it in costs), statistics.mean(it.clock for it in costs))
 
 
 def measure_row(stand: Stand, row: Row, name: str, size: int, hub: many.Hub) -> None:
-    for request in row.before(size):
-        hub.done(*dataclasses.astuple(request))
+    ask_all(hub, row.before(size))
     costs: list[many.Cost] = []
     for turn, request in enumerate(row.asks(size)):
         cost, told = hub.answer(*dataclasses.astuple(request))
@@ -266,8 +275,8 @@ def measure_row(stand: Stand, row: Row, name: str, size: int, hub: many.Hub) -> 
         check_answer(stand, row, size, turn, name, told)
         if sum(it.processor for it in costs) > stand.said.longest:
             break
-    middle = many.middle(costs)
-    stand.figures.add(Figure(size, name, row.name, middle.processor, middle.clock, times=len(costs)))
+    usual = mean(costs) if row.differ else many.middle(costs)
+    stand.figures.add(Figure(size, name, row.name, usual.processor, usual.clock, times=len(costs)))
 
 
 def measure_program(stand: Stand, name: str, size: int) -> None:
@@ -289,16 +298,22 @@ def measure_program(stand: Stand, name: str, size: int) -> None:
     sizes.remove(store)
 
 
+def ask_all(hub: many.Hub | dearest.Hub, requests: list[Request]) -> None:
+    for request in requests:
+        hub.done(*dataclasses.astuple(request))
+
+
 def count_program(stand: Stand, name: str, size: int) -> None:
-    """The instructions of one request of each row."""
+    """The instructions of a request of each row, by several requests."""
     store = store_for(stand, name, size)
     hub = dearest.Hub(stand.programs()[name], str(store), counts=True)
     for row in stand.rows():
         stand.done += 1
         if name != PEER or row.is_known_to_peer:
-            request = dataclasses.astuple(row.asks(size)[0])
-            count = hub.counted(lambda: hub.done(*request))
-            stand.figures.add(Figure(size, name, row.name, instructions=count))
+            ask_all(hub, row.before(size))
+            asked = row.asks(size)[: COUNTED if row.differ else 1]
+            count = hub.counted(lambda: ask_all(hub, asked))
+            stand.figures.add(Figure(size, name, row.name, instructions=count // len(asked), times=len(asked)))
     hub.close()
     sizes.remove(store)
 
@@ -337,37 +352,37 @@ def time_of(seconds: float) -> str:
 
 
 def share_read(found: dict[str, Figure], work: str) -> str:
-    """Which share of the documents a search for what is nowhere has read."""
-    each, none = found.get("nowhere, 2 bytes"), found.get("nowhere, 12 bytes")
-    is_such = work.startswith(("nowhere", "woven", "elsewhere"))
-    if not is_such or each is None or none is None or work not in found or each.seconds <= none.seconds:
+    """Which share of the documents a search for what no report holds has read."""
+    where = work.partition(" bytes")[2]
+    each, none, here = (found.get(it) for it in (f"nowhere, 2 bytes{where}", f"nowhere, 12 bytes{where}", work))
+    if each is None or none is None or here is None or not work.startswith(("nowhere", "woven")):
         return ""
-    share = (found[work].seconds - none.seconds) / (each.seconds - none.seconds)
-    return f"{max(share, 0):.1%}"
+    return f"{max(taken(here) - taken(none), 0) / max(taken(each) - taken(none), 1e-9):.1%}"
 
 
-def print_table(title: str, figures: list[Figure], with_shares: bool) -> None:
+def taken(figure: Figure) -> float:
+    return figure.instructions or figure.seconds
+
+
+def print_table(title: str, figures: list[Figure]) -> None:
     """The figures of one number of reports, a column for each program."""
     names = [it for it in (BEFORE, AFTER, PEER) if any(figure.program == it for figure in figures)]
     found: dict[str, dict[str, Figure]] = collections.defaultdict(dict)
     for figure in figures:
         found[figure.work][figure.program] = figure
     after = {work: cells[AFTER] for work, cells in found.items() if AFTER in cells}
-    print(f"\n| {title} | {' | '.join(names)} |{' documents read by `after` |' if with_shares else ''}")
-    print(f"|---|{'---|' * (len(names) + with_shares)}")
+    print(f"\n| {title} | {' | '.join(names)} | documents read by `after` |\n|---|{'---|' * len(names)}---|")
     for work, cells in found.items():
-        last = f" {share_read(after, work)} |" if with_shares else ""
-        print(f"| {work} | {' | '.join(shown(cells.get(it)) for it in names)} |{last}")
+        print(f"| {work} | {' | '.join(shown(cells.get(it)) for it in names)} | {share_read(after, work)} |")
 
 
 def print_tables(file: pathlib.Path) -> None:
-    figures = read(file)
-    counted = [it for it in figures if it.instructions]
-    timed = [it for it in figures if not it.instructions]
-    for size in sorted({it.reports for it in timed}):
-        print_table(f"{size:,} reports", [it for it in timed if it.reports == size], with_shares=True)
-    for size in sorted({it.reports for it in counted}):
-        print_table(f"{size:,} reports, million instructions", [it for it in counted if it.reports == size], with_shares=False)
+    """A table of the times for each number of reports, and one of the instructions."""
+    tables: dict[str, list[Figure]] = collections.defaultdict(list)
+    for figure in read(file):
+        tables[f"{figure.reports:,} reports{', million instructions' if figure.instructions else ''}"].append(figure)
+    for title, figures in tables.items():
+        print_table(title, figures)
 
 
 def main() -> None:
