@@ -40,6 +40,7 @@ from collections.abc import Callable, Iterator
 import dearest
 import many
 import mixed
+import requests
 import sizes
 
 sys.path.insert(0, str(many.TOP / "scripts"))
@@ -235,8 +236,11 @@ class Stand:
         named = {BEFORE: self.said.before, AFTER: self.said.after, PEER: self.said.peer}
         return {name: file for name, file in named.items() if file}
 
+    def is_wanted(self, work: str) -> bool:
+        return not self.said.only or any(words in work for words in self.said.only)
+
     def rows(self) -> list[Row]:
-        return [it for it in ROWS if not self.said.only or any(words in it.name for words in self.said.only)]
+        return [it for it in ROWS if self.is_wanted(it.name)]
 
 
 def store_for(stand: Stand, name: str, size: int) -> pathlib.Path:
@@ -304,9 +308,12 @@ def ask_all(hub: many.Hub | dearest.Hub, requests: list[Request]) -> None:
 
 
 def count_program(stand: Stand, name: str, size: int) -> None:
-    """The instructions of a request of each row, by several requests."""
-    store = store_for(stand, name, size)
-    hub = dearest.Hub(stand.programs()[name], str(store), counts=True)
+    """The instructions of the opening, and of a request of each row by several requests."""
+    store, program = store_for(stand, name, size), stand.programs()[name]
+    if stand.is_wanted(OPENED):
+        count = requests.instructions(program, str(store), 1, lambda port: requests.ask(port, mixed.ADMIN, "GET", "/me"))
+        stand.figures.add(Figure(size, name, OPENED, instructions=count))
+    hub = dearest.Hub(program, str(store), counts=True)
     for row in stand.rows():
         stand.done += 1
         if name != PEER or row.is_known_to_peer:
