@@ -233,7 +233,7 @@ class Stand:
         return self.folder / "base.db"
 
     def programs(self) -> dict[str, str]:
-        named = {BEFORE: self.said.before, AFTER: self.said.after, PEER: self.said.peer}
+        named = {AFTER: self.said.after, BEFORE: self.said.before, PEER: self.said.peer}
         return {name: file for name, file in named.items() if file}
 
     def is_wanted(self, work: str) -> bool:
