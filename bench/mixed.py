@@ -1,6 +1,6 @@
 """Stores for passing.py: N reports, half of which hold a text of their own, and callers who see each report or none of them.
 
-Each report is of 4 KB and 210 lines. The text of each second one is 2,500 bytes of this repository's documents. The root's gate is for
+Each report is of 4 KB and 210 lines, if it has 20 `EventData`. The text of each second one is 2,500 bytes of this repository's documents. The root's gate is for
 a sharing group, and the gate at the Incident for a smaller one; one organisation is permitted to see a class. So the reader sees a part
 of each report, and of the others nobody sees anything, each for a reason of its own. The peer's store has the same content.
 """
@@ -73,8 +73,8 @@ def text_of(number: int) -> str:
     return " ".join(pages()[it : it + PIECE] for it in starts)[:TEXT]
 
 
-def body_of(ident: str, text: str) -> bytes:
-    whole = document({"id": ident, "name": many.ISSUER}, EVENTS, LABELS)
+def body_of(ident: str, text: str, events: int = EVENTS) -> bytes:
+    whole = document({"id": ident, "name": many.ISSUER}, events, LABELS)
     incidents = whole["Incident"]
     assert isinstance(incidents, list)
     if text:
@@ -87,13 +87,13 @@ def report(number: int) -> many.Report:
     return many.Report(2 - number % 2, 2, 4, 1, text_of(number))
 
 
-def begin(program: str, store: pathlib.Path, port: int) -> None:
-    """A store with the circle and the first two reports."""
+def begin(program: str, store: pathlib.Path, port: int, events: int = EVENTS) -> None:
+    """A store with the circle and the first two reports, of so many `EventData`."""
     subprocess.run([program, "init", str(store), "Hub", many.digest(ADMIN)], check=True, stdout=subprocess.DEVNULL)
     hub = many.Hub(program, store, port)
     add_circle(hub)
     for number in (1, 2):
-        body = body_of(many.identity(number), text_of(number))
+        body = body_of(many.identity(number), text_of(number), events)
         hub.done(POSTER, "POST", f"/incidents?level=4&group=1&gate=4:2:{GATED_CLASS}", body)
         hub.done(COORDINATOR, "POST", f"/incidents/{number}/grant", f"revision=1&path={PERMITTED_CLASS}&org=7".encode())
     hub.close()
@@ -127,7 +127,7 @@ def grow(store: pathlib.Path, last: int) -> None:
     rows.close()
 
 
-def make_peer_store(program: str, store: pathlib.Path, hub_store: pathlib.Path, reports: int) -> None:
+def make_peer_store(program: str, store: pathlib.Path, hub_store: pathlib.Path, reports: int, events: int = EVENTS) -> None:
     """The content of a hub's store of so many reports for the peer."""
     subprocess.run([program, "init", str(store), "Hub", many.digest(ADMIN)], check=True, stdout=subprocess.DEVNULL)
     rows = sqlite3.connect(store, isolation_level=None)
@@ -136,7 +136,7 @@ def make_peer_store(program: str, store: pathlib.Path, hub_store: pathlib.Path, 
     rows.executescript(f"BEGIN; {PEER} COMMIT;")
     rows.execute("DETACH hub")
     rows.execute("BEGIN")
-    many.fill_peer(rows, range(1, reports + 1), report, lambda number: body_of(many.identity(number), text_of(number)))
+    many.fill_peer(rows, range(1, reports + 1), report, lambda number: body_of(many.identity(number), text_of(number), events))
     rows.execute("COMMIT")
     rows.execute("PRAGMA wal_checkpoint(TRUNCATE)")
     rows.close()

@@ -3,7 +3,7 @@
 after it, and of the plain peer.
 
 usage: bench/passing.py --after FILE [--before FILE] [--peer FILE] [--reports N,N,..] [--figures FILE] [--longest SECONDS]
-                        [--dearest SECONDS] [--instructions N] [--only WORDS ..] [--unproved] [--folder FOLDER]
+                        [--dearest SECONDS] [--instructions N] [--events N] [--only WORDS ..] [--unproved] [--folder FOLDER]
        bench/passing.py --table FILE
 
 bench/mixed.py describes the store. For each number of reports each program serves a copy of the same store, and answers the same
@@ -247,7 +247,7 @@ def store_for(stand: Stand, name: str, size: int) -> pathlib.Path:
     """A store for a program, with the content of the base."""
     store = stand.folder / f"{name}.db"
     if name == PEER:
-        mixed.make_peer_store(stand.said.peer, store, stand.base, size)
+        mixed.make_peer_store(stand.said.peer, store, stand.base, size, stand.said.events)
     else:
         shutil.copyfile(stand.base, store)
     return store
@@ -329,9 +329,10 @@ def run(stand: Stand) -> None:
     said = stand.said
     measures = count_program if said.instructions else measure_program
     reports = [said.instructions] if said.instructions else said.reports
-    stand.figures.write({"provenance": {name: many.provenance(file) for name, file in stand.programs().items()}, "unproved": said.unproved})
+    provenance = {name: many.provenance(file) for name, file in stand.programs().items()}
+    stand.figures.write({"provenance": provenance, "unproved": said.unproved, "events": said.events})
     progress.say(sum(reports) / 4_000, lambda: stand.done, len(stand.rows()) * len(stand.programs()) * len(reports), "rows")
-    mixed.begin(said.after, stand.base, said.port)
+    mixed.begin(said.after, stand.base, said.port, said.events)
     for size in reports:
         mixed.grow(stand.base, size)
         for name in stand.programs():
@@ -402,6 +403,7 @@ def main() -> None:
     words.add_argument("--longest", type=float, default=10, help="seconds of a processor after which a row ends; by default %(default)s")
     words.add_argument("--dearest", type=float, default=300, help="seconds of the dearest request that is measured; by default %(default)s")
     words.add_argument("--instructions", type=int, default=0, metavar="N", help="counts instructions over N reports")
+    words.add_argument("--events", type=int, default=mixed.EVENTS, help="`EventData` of each report of the store, 2 or more; by default %(default)s")
     words.add_argument("--only", nargs="*", metavar="WORDS", help="only rows whose names have some of these words")
     words.add_argument("--unproved", action="store_true", help="the programs were compiled without proof")
     words.add_argument("--port", type=int, default=many.free_port())
