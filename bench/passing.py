@@ -25,6 +25,7 @@ valgrind. 1,000 and 10,000 reports take some minutes; disk: three times the larg
 
 import argparse
 import collections
+import contextlib
 import dataclasses
 import json
 import pathlib
@@ -285,21 +286,23 @@ def measure_row(stand: Stand, row: Row, name: str, size: int, hub: many.Hub) -> 
 
 def measure_program(stand: Stand, name: str, size: int) -> None:
     store = store_for(stand, name, size)
-    hub = many.Hub(stand.programs()[name], store, stand.said.port)
-    stand.figures.add(Figure(size, name, OPENED, hub.opened.processor, hub.opened.clock))
-    stand.figures.add(Figure(size, name, DATA, megabytes=hub.memory()))
-    stand.figures.add(Figure(size, name, PEAK, megabytes=peak_megabytes(hub.process.pid)))
-    for row in stand.rows():
-        stand.done += 1
-        expected = stand.figures.reckoned(name, row.name, size)
-        if name == PEER and not row.is_known_to_peer:
-            continue
-        if expected is not None and expected > stand.said.dearest:
-            stand.figures.add(Figure(size, name, row.name, expected, times=0, is_reckoned=True))
-        else:
-            measure_row(stand, row, name, size, hub)
-    hub.close()
+    with contextlib.closing(many.Hub(stand.programs()[name], store, stand.said.port)) as hub:
+        stand.figures.add(Figure(size, name, OPENED, hub.opened.processor, hub.opened.clock))
+        stand.figures.add(Figure(size, name, DATA, megabytes=hub.memory()))
+        stand.figures.add(Figure(size, name, PEAK, megabytes=peak_megabytes(hub.process.pid)))
+        for row in stand.rows():
+            stand.done += 1
+            if name != PEER or row.is_known_to_peer:
+                measure_or_reckon(stand, row, name, size, hub)
     sizes.remove(store)
+
+
+def measure_or_reckon(stand: Stand, row: Row, name: str, size: int, hub: many.Hub) -> None:
+    expected = stand.figures.reckoned(name, row.name, size)
+    if expected is not None and expected > stand.said.dearest:
+        stand.figures.add(Figure(size, name, row.name, expected, times=0, is_reckoned=True))
+    else:
+        measure_row(stand, row, name, size, hub)
 
 
 def ask_all(hub: many.Hub | dearest.Hub, requests: list[Request]) -> None:
@@ -313,15 +316,14 @@ def count_program(stand: Stand, name: str, size: int) -> None:
     if stand.is_wanted(OPENED):
         count = requests.instructions(program, str(store), 1, lambda port: requests.ask(port, mixed.ADMIN, "GET", "/me"))
         stand.figures.add(Figure(size, name, OPENED, instructions=count))
-    hub = dearest.Hub(program, str(store), counts=True)
-    for row in stand.rows():
-        stand.done += 1
-        if name != PEER or row.is_known_to_peer:
-            ask_all(hub, row.before(size))
-            asked = row.asks(size)[: COUNTED if row.differ else 1]
-            count = hub.counted(lambda: ask_all(hub, asked))
-            stand.figures.add(Figure(size, name, row.name, instructions=count // len(asked), times=len(asked)))
-    hub.close()
+    with contextlib.closing(dearest.Hub(program, str(store), counts=True)) as hub:
+        for row in stand.rows():
+            stand.done += 1
+            if name != PEER or row.is_known_to_peer:
+                ask_all(hub, row.before(size))
+                asked = row.asks(size)[: COUNTED if row.differ else 1]
+                count = hub.counted(lambda: ask_all(hub, asked))
+                stand.figures.add(Figure(size, name, row.name, instructions=count // len(asked), times=len(asked)))
     sizes.remove(store)
 
 
