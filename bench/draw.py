@@ -1,16 +1,17 @@
 #!/usr/bin/env python3
 """Draws how the time of a search that finds nothing grows with the number of reports, from the figures of bench/passing.py.
 
-usage: bench/draw.py FIGURES PICTURE
+usage: bench/draw.py FIGURES PICTURE [--events N]
 
-Both axes are logarithmic. There is a line for each program. A hollow point was computed from smaller sizes. The picture is an SVG for
-light and for dark pages. Needs: Python 3.11.
+Both axes are logarithmic. There is a line for each program, over the reports of so many `EventData` each. A hollow point was computed
+from smaller sizes. The picture is an SVG for light and for dark pages. Needs: Python 3.11.
 """
 
 import argparse
 import math
 import pathlib
 
+import mixed
 import passing
 
 WORK = "nowhere, 8 bytes"
@@ -28,11 +29,11 @@ Point = tuple[int, float, bool]
 Line = list[Point]
 
 
-def lines_of(figures: list[passing.Figure]) -> dict[str, Line]:
+def lines_of(figures: list[passing.Figure], events: int) -> dict[str, Line]:
     """Reports, seconds, and whether these are computed, of each program."""
     found: dict[str, Line] = {name: [] for name in NAMES}
     for it in figures:
-        if it.work == WORK and it.seconds:
+        if (it.work, it.events) == (WORK, events) and it.seconds:
             found[it.program].append((it.reports, it.seconds, it.is_reckoned))
     return {name: sorted(line) for name, line in found.items() if line}
 
@@ -111,8 +112,9 @@ def main() -> None:
     words = argparse.ArgumentParser(description=__doc__, formatter_class=argparse.RawDescriptionHelpFormatter)
     words.add_argument("figures", type=pathlib.Path)
     words.add_argument("picture", type=pathlib.Path)
+    words.add_argument("--events", type=int, default=mixed.EVENTS)
     said = words.parse_args()
-    lines = lines_of(passing.read(said.figures))
+    lines = lines_of(passing.read(said.figures), said.events)
     if not lines:
         words.error(f"{said.figures} has no figure of `{WORK}`")
     said.picture.write_text(picture(lines))

@@ -172,7 +172,7 @@ ROWS = (*listing_rows(), *search_rows(), *change_rows())
 
 @dataclasses.dataclass(frozen=True)
 class Figure:
-    """One figure: of a program over so many reports, in seconds, megabytes or instructions."""
+    """One figure: of a program over so many reports, of so many `EventData` each, in seconds, megabytes or instructions."""
 
     reports: int
     program: str
@@ -183,6 +183,7 @@ class Figure:
     instructions: int = 0
     times: int = 1
     is_reckoned: bool = False
+    events: int = mixed.EVENTS
 
 
 def read(file: pathlib.Path) -> list[Figure]:
@@ -192,8 +193,8 @@ def read(file: pathlib.Path) -> list[Figure]:
 class Figures:
     """The figures of a run, which are appended to a file."""
 
-    def __init__(self, file: pathlib.Path | None) -> None:
-        self.file = file
+    def __init__(self, file: pathlib.Path | None, events: int) -> None:
+        self.file, self.events = file, events
         self.found: list[Figure] = read(file) if file and file.exists() else []
 
     def write(self, line: dict[str, object]) -> None:
@@ -202,13 +203,14 @@ class Figures:
             with self.file.open("a") as file:
                 file.write(json.dumps(line) + "\n")
 
-    def add(self, figure: Figure) -> None:
+    def add(self, found: Figure) -> None:
+        figure = dataclasses.replace(found, events=self.events)
         self.found.append(figure)
         self.write(dataclasses.asdict(figure))
 
     def reckoned(self, program: str, work: str, size: int) -> float | None:
         """The seconds of one request over so many reports, by the sizes before; None if there is no such size."""
-        known = [it for it in self.found if (it.program, it.work) == (program, work) and it.seconds]
+        known = [it for it in self.found if (it.program, it.work, it.events) == (program, work, self.events) and it.seconds]
         row = {it.reports: sizes.Figure(it.seconds, it.is_reckoned) for it in known}
         found = sizes.reckoned(work, row, size)
         return found.value if found else None
@@ -387,10 +389,11 @@ def print_table(title: str, figures: list[Figure]) -> None:
 
 
 def print_tables(file: pathlib.Path) -> None:
-    """A table of the times for each number of reports, and one of the instructions."""
+    """A table of the times for each number and length of reports, and one of the instructions."""
     tables: dict[str, list[Figure]] = collections.defaultdict(list)
     for figure in read(file):
-        tables[f"{figure.reports:,} reports{', million instructions' if figure.instructions else ''}"].append(figure)
+        unit = ", million instructions" if figure.instructions else ""
+        tables[f"{figure.reports:,} reports of {figure.events} `EventData`{unit}"].append(figure)
     for title, figures in tables.items():
         print_table(title, figures)
 
@@ -419,7 +422,7 @@ def main() -> None:
         words.error("--after is missing, or a file is no program")
     many.end_in_order()
     with tempfile.TemporaryDirectory(dir=said.folder) as folder:
-        stand = Stand(said, pathlib.Path(folder), Figures(said.figures), many.Checks())
+        stand = Stand(said, pathlib.Path(folder), Figures(said.figures, said.events), many.Checks())
         run(stand)
     stand.checks.end()
 
