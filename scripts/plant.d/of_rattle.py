@@ -12,14 +12,15 @@ FUNCTION = re.compile(r"^( *)(?:pub(?:\(crate\))? )?fn (\w+).*?^\1\}", re.M | re
 CONTRACT = re.compile(r"^ *ensures\b", re.M)
 OPERAND = r"[\w.:]+(?:\([^()\n]*\))*"
 COMPARISON = re.compile(rf"(?<![\w.])({OPERAND}) (==|!=|<=|>=|<|>) ({OPERAND})(?=[ ;,)]|$)", re.M)
-BOTH = re.compile(rf"(?<![\w.])({OPERAND}) (&&|\|\|) ({OPERAND})(?=[ ;,)]|$)", re.M)
+BOTH = re.compile(rf"(?<![\w.])(?<![=<>!] )({OPERAND}) (&&|\|\|) ({OPERAND})(?=[ ;,)]|$)", re.M)
 NUMBER = re.compile(r"(?<![\w.\[])(?:0o\d+|\d[\d_]*)(?![\w.\]])")
 SWITCH = re.compile(r"(?<=[ (])(?:true|false)(?=[,;)\n])")
 BRANCH = re.compile(r"(?<=\bif )(?!let\b)([^{}\n]+)(?= \{$)", re.M)
-EFFECT = re.compile(r"^( +)(?!let |return |use |const |match |if |for |\})([\w:.]+[!.(][^\n{}]*;)$", re.M)
-EXCHANGED = re.compile(r"(?<=\w\()(?:&?(?:mut )?[\w.]+, )*?([\w.]+), ([\w.]+)(?=[,)])")
+EFFECT = re.compile(r"^( +)(?!let |return |use |const |match |if |for |\})([a-z_][\w:.]*[!.(][^\n{}]*;)$", re.M)
 ARMS = re.compile(r"^ +[^\n]* => ([\w:]+(?:\([\w:]+\))?),\n +[^\n]* => ([\w:]+(?:\([\w:]+\))?),$", re.M)
 TEXT = re.compile(r'"((?:\\.|[^"\\{}])+)"(?=[,)])')
+# Texts for people, and those that a macro reads.
+SAID = re.compile(r"\.(?:help|about|long_about|value_name)\(|!\(|fn ")
 
 
 def functions(text: str) -> Iterator[tuple[int, int]]:
@@ -34,6 +35,13 @@ def masked(text: str) -> str:
     return MASKED.sub(lambda it: re.sub(r"[^\n]", "_", it[0]), text)
 
 
+def is_pattern(code: str, at: int) -> bool:
+    """Whether the place is in the pattern of an arm of a `match`, where no expression may be."""
+    line = code[code.rfind("\n", 0, at) + 1 :].partition("\n")[0]
+    place = at - code.rfind("\n", 0, at) - 1
+    return "=>" in line[place:] and " if " not in line[:place]
+
+
 def simple(code: str, text: str) -> Iterator[Change]:
     """Faults of a word or two."""
     for found in NUMBER.finditer(code):
@@ -41,21 +49,23 @@ def simple(code: str, text: str) -> Iterator[Change]:
         yield Change("number", found.start(), found.end(), new)
     yield from (Change("constant", it.start(), it.end(), SWITCHES[it[0]]) for it in SWITCH.finditer(code))
     for found in TEXT.finditer(text):
-        if code[found.start()] == "_" and "fn " not in text[text.rfind("\n", 0, found.start()) : found.start()]:
-            yield Change("constant", found.start(), found.end(), f'"{found[1][:-1] if found[1][-2:-1] != chr(92) else "x"}"')
+        line = text[text.rfind("\n", 0, found.start()) + 1 : found.start()]
+        if code[found.start()] == "_" and not SAID.search(line):
+            yield Change("constant", found.start(), found.end(), f'"{found[1]}x"')
 
 
 def of_code(code: str, text: str) -> Iterator[Change]:
-    for found in COMPARISON.finditer(code):
-        yield Change("comparison", found.start(), found.end(), f"{text[found.start(1) : found.end(1)]} {TURNED[found[2]]} {text[found.start(3) : found.end(3)]}")
-    for found in BOTH.finditer(code):
-        other = "||" if found[2] == "&&" else "&&"
-        yield Change("condition", found.start(), found.end(), f"{text[found.start(1) : found.end(1)]} {other} {text[found.start(3) : found.end(3)]}")
+    for operator, pattern, turned in (("comparison", COMPARISON, TURNED), ("condition", BOTH, {"&&": "||", "||": "&&"})):
+        for found in pattern.finditer(code):
+            sides = [text[found.start(side) : found.end(side)] for side in (1, 3)]
+            yield Change(operator, found.start(), found.end(), f" {turned[found[2]]} ".join(sides))
     yield from (Change("branch", it.start(), it.end(), "false") for it in BRANCH.finditer(code))
     yield from (Change("effect", it.start(2), it.end(2), "") for it in EFFECT.finditer(code))
-    yield from (Change("arguments", it.start(1), it.end(2), f"{it[2]}, {it[1]}") for it in EXCHANGED.finditer(code) if it[1] != it[2])
-    yield from (Change("arguments", it.start(1), it.end(1), it[2]) for it in ARMS.finditer(code) if it[1] != it[2])
-    yield from simple(code, text)
+    for found in ARMS.finditer(code):
+        one, other = (text[found.start(arm) : found.end(arm)] for arm in (1, 2))
+        if one != other:
+            yield Change("arguments", found.start(1), found.end(1), other)
+    yield from (it for it in simple(code, text) if not is_pattern(code, it.start))
 
 
 def changes(text: bytes) -> Iterator[Change]:

@@ -127,8 +127,11 @@ class Tree:
         self.git("clean", "-q", "-ffdx")
 
     @contextlib.contextmanager
-    def planted(self, fault: Fault) -> Iterator[None]:
-        """The tree with a fault, which is in its last commit, too, as a release is made of that."""
+    def planted(self, fault: Fault | None) -> Iterator[None]:
+        """The tree with a fault, which is in its last commit, too, as a release is made of that. A program has its fault by itself."""
+        if fault is None:
+            yield
+            return
         file = self.folder / fault.path
         text = file.read_bytes()
         file.write_bytes(changed(text, fault.change))
