@@ -91,15 +91,16 @@ def write(tree: pathlib.Path, faults: list[Fault]) -> None:
     for path in {it.path for it in faults}:
         of_file = [(number, it) for number, it in enumerate(faults, 1) if it.path == path]
         (tree / path).write_bytes(switched((tree / path).read_bytes(), of_file))
-    for name, file, text in (("plant_switch", "lib.rt", SWITCH), ("planted", "main.rt", MAIN)):
-        source = tree / "crates" / name / "src" / file
-        source.parent.mkdir(parents=True, exist_ok=True)
-        source.write_text(text)
-    crates = (tree / "crates.txt").read_text()
-    for name in CHANGED:
-        crates = re.sub(rf"^{name}:", f"{name}: plant_switch", crates, flags=re.M)
+    write_crate(tree / "crates" / "plant_switch" / "src", "lib.rt", SWITCH)
+    write_crate(tree / "crates" / "planted" / "src", "main.rt", MAIN)
+    crates = re.sub(rf"^({'|'.join(CHANGED)}):", r"\1: plant_switch", (tree / "crates.txt").read_text(), flags=re.M)
     above = f"planted: program_cases {CHANGED[1]} {CHANGED[2]} plant_switch"
     (tree / "crates.txt").write_text(f"plant_switch:\n{crates}{above}\n")
+
+
+def write_crate(folder: pathlib.Path, name: str, text: str) -> None:
+    folder.mkdir(parents=True, exist_ok=True)
+    (folder / name).write_text(text)
 
 
 def refused_lines(told: str) -> set[tuple[str, int]]:
