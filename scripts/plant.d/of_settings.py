@@ -18,8 +18,12 @@ SAID = re.compile(r"^\s*(?:Description=|Documentation=|annotations:|summary:|# H
 RULES: list[Rule] = [("number", NUMBER, other_of), ("constant", SWITCH, switched), ("comparison", COMPARISON, turned)]
 
 
+# What a line says behind its setting.
+COMMENT = re.compile(r"\s#.*$")
+
+
 def of_line(line: str) -> Iterator[Change]:
-    yield from by_rules(RULES, line)
+    yield from by_rules(RULES, COMMENT.sub("", line))
     if ALONE.fullmatch(line):
         yield Change("line", 0, len(line) + 1, "")
 

@@ -7,7 +7,7 @@ from collections.abc import Iterator
 
 from fault import Change, Rule, by_rules, other_of, shifted, turned
 
-TEST = re.compile(r"(?<=\s)(-lt|-le|-gt|-ge|-eq|-ne|-n|-z|=|==|!=|=~)(?=\s)")
+TEST = re.compile(r"(?<=\s)(?:-lt|-le|-gt|-ge|-eq|-ne|=|==|!=|=~)(?=\s)|(?<=\[ )-[nz](?=\s)|(?<=\[ ! )-[nz](?=\s)")
 BOTH = re.compile(r"(?<=\s)(&&|\|\|)(?=\s)")
 NUMBER = re.compile(r"(?<![\w$.{&>-])\d+(?![\w.]*[>=\w])")
 BRANCH = re.compile(r"(?<=\bif )(.+)(?=; then)")
