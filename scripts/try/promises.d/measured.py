@@ -198,8 +198,10 @@ INSERT INTO incident VALUES (1, '0123456789'), (2, 'é');
 INSERT INTO recipient VALUES (1), (2), (2);
 INSERT INTO pair VALUES ('m');
 """
-# 144 MiB, 220 for each of 14 rows, the texts of lines (19 bytes), and twice the paths (8) and the identities (12). docs/OPERATIONS.md, Sizes.
-NEEDED = 144 * MIB + 14 * 220 + 19 + 2 * 8 + 2 * 12
+# 144 MiB, and 220 for each of 14 rows. Of the lines the names and one and a half times the texts, each without a fraction: 10, 1, 6, 5, 2.
+# Of each gate and permission 200, four times its path, and 56 for each part of it; of each incident 700 and four times its identity.
+TEXTS, PATHS, IDENTS = 10 + 1 + 6 + 5 + 2, 3 * 200 + 4 * (3 + 0 + 5) + 56 * 2, 2 * 700 + 4 * (10 + 2)
+NEEDED = 144 * MIB + 14 * 220 + TEXTS + PATHS + IDENTS
 
 
 def memory() -> Checks:
@@ -210,7 +212,7 @@ def memory() -> Checks:
         with contextlib.closing(sqlite3.connect(store)) as rows:
             rows.executescript(TABLES)
         tool = DEPLOY / "lib" / "limit-memory"
-        yield same("a start needs 144 MiB, 220 bytes a row, and the texts", f"{NEEDED} 7\n", run(tool, "--needs", store).stdout)
+        yield same("a start needs 144 MiB, 220 bytes a row, the texts, and what is kept beside them", f"{NEEDED} 7\n", run(tool, "--needs", store).stdout)
         put(store.with_name("hub.db-wal"), "x" * 1000)
         yield same("and six times the log", f"{NEEDED + 6000} 7\n", run(tool, "--needs", store).stdout)
         own = pathlib.Path("/proc/self/cgroup").read_text()
