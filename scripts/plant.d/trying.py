@@ -13,6 +13,7 @@ import shutil
 import signal
 import subprocess
 import tempfile
+import threading
 import time
 import tomllib
 from collections.abc import Generator, Iterator
@@ -190,7 +191,7 @@ class Known:
     it tries."""
 
     def __init__(self, state: str) -> None:
-        self.file, self.state = ROOM / "known.json", state
+        self.file, self.state, self.writing = ROOM / "known.json", state, threading.Lock()
         self.said: dict[str, list[str]] = json.loads(self.file.read_text()) if self.file.exists() else {}
 
     def has(self, words: str) -> bool:
@@ -200,5 +201,6 @@ class Known:
         return frozenset(self.said.get(f"{self.state} {words}", ()))
 
     def put(self, words: str, names: list[str]) -> None:
-        self.said[f"{self.state} {words}"] = names
-        self.file.write_text(json.dumps(self.said, indent=1))
+        with self.writing:
+            self.said[f"{self.state} {words}"] = names
+            self.file.write_text(json.dumps(self.said, indent=1))
