@@ -57,5 +57,5 @@ def row(kind: str, lines: list[Line]) -> list[str]:
 
 def table() -> str:
     lines = results()
-    rows = [["Faults in", "Drawn", "Told without hands", "By hand", "By nothing", "Equivalent"], ["---"] * 6, *(row(kind, lines) for kind in KINDS)]
+    rows = [["Faults in", "Drawn", "Without hands", "By hand", "By nothing", "Equivalent"], ["---"] * 6, *(row(kind, lines) for kind in KINDS)]
     return "".join(f"|{'|'.join(cells)}|\n" for cells in rows)

@@ -3,6 +3,8 @@ from __future__ import annotations
 
 import difflib
 import hashlib
+import re
+from collections.abc import Callable, Iterable, Iterator
 from dataclasses import dataclass
 
 # Comparisons, each with the one that it turns into.
@@ -22,6 +24,10 @@ class Change:
     start: int
     end: int
     new: str
+
+
+# An operator, what it finds, and what comes in its place.
+Rule = tuple[str, re.Pattern[str], Callable[[re.Match[str]], str]]
 
 
 @dataclass(frozen=True)
@@ -51,7 +57,30 @@ def fault_of(path: str, text: bytes, change: Change) -> Fault:
     return Fault(path, line, change, diff)
 
 
+def turned(found: re.Match[str]) -> str:
+    return TURNED[found[0]]
+
+
+def switched(found: re.Match[str]) -> str:
+    return SWITCHES[found[0]]
+
+
+def other_of(found: re.Match[str]) -> str:
+    return other_number(found[0])
+
+
 def other_number(text: str) -> str:
     """A number that is a little more, if the number is a small one; and otherwise ten times the number."""
     value = int(text)
     return str(value + 1) if value < 10 else str(value * 10)
+
+
+def by_rules(rules: Iterable[Rule], text: str) -> Iterator[Change]:
+    """Of each rule a change of each place that its pattern finds."""
+    for operator, pattern, new in rules:
+        yield from (Change(operator, it.start(), it.end(), new(it)) for it in pattern.finditer(text))
+
+
+def shifted(changes: Iterable[Change], by: int) -> Iterator[Change]:
+    """The changes of a part that begins there."""
+    return (Change(it.operator, by + it.start, by + it.end, it.new) for it in changes)

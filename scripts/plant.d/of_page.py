@@ -4,11 +4,12 @@ from __future__ import annotations
 import re
 from collections.abc import Iterator
 
-from fault import SWITCHES, TURNED, Change, other_number
+from fault import Change, Rule, by_rules, other_of, shifted, switched, turned
 
 # What isn't code: comments, texts, and patterns behind a bracket, a comma or an operator.
 MASKED = re.compile(
-    r"//[^\n]*|/\*.*?\*/|'(?:\\.|[^'\\\n])*'|\"(?:\\.|[^\"\\\n])*\"|`(?:\\.|[^`\\])*`|(?<=[(,=:&|!?] )/(?![/*])(?:\\.|\[(?:\\.|[^\]\\\n])*\]|[^/\\\n\[])+/[a-z]*"
+    r"//[^\n]*|/\*.*?\*/|'(?:\\.|[^'\\\n])*'|\"(?:\\.|[^\"\\\n])*\"|`(?:\\.|[^`\\])*`"
+    r"|(?<=[(,=:&|!?] )/(?![/*])(?:\\.|\[(?:\\.|[^\]\\\n])*\]|[^/\\\n\[])+/[a-z]*"
     r"|(?<=[(,=:&|!?])/(?![/*])(?:\\.|\[(?:\\.|[^\]\\\n])*\]|[^/\\\n\[])+/[a-z]*",
     re.S,
 )
@@ -18,7 +19,7 @@ NUMBER = re.compile(r"(?<![\w.$#])\d+(?![\w.])")
 NOT = re.compile(r"(?<![\w!=])!(?=[\w(])")
 SWITCH = re.compile(r"\b(?:true|false)\b")
 EXCHANGED = re.compile(r"(?<!function )(?<=\w)\(([\w.$]+), ([\w.$]+)(?=[,)])(?![^()\n]*\)\s*(?:=>|\{))")
-EFFECT = re.compile(r"^[ \t]+(?:await )?[\w.$]+\([^\n]*\);$|^[ \t]+[\w.$]+(?:\[[^\]\n]*\])? [+-]?= [^\n]*;$", re.M)
+EFFECT = re.compile(r"^[ \t]+((?:await )?[\w.$]+\([^\n]*\);|[\w.$]+(?:\[[^\]\n]*\])? [+-]?= [^\n]*;)$", re.M)
 TEXT = re.compile(r"(?<=[!=]== )'([^'\\\n]{1,30})'")
 SCRIPT = re.compile(r"<script[^>]*>(.*?)</script>", re.S)
 TAG = re.compile(r"<[a-z][a-z0-9]*(?: [^<>]*)?>")
@@ -40,6 +41,15 @@ def closing(code: str, start: int) -> int:
     return start
 
 
+RULES: list[Rule] = [
+    ("comparison", COMPARISON, turned),
+    ("condition", BOTH, lambda it: "||" if it[0] == "&&" else "&&"),
+    ("number", NUMBER, other_of),
+    ("condition", NOT, lambda _: ""),
+    ("constant", SWITCH, switched),
+]
+
+
 def of_branches(script: str, code: str) -> Iterator[Change]:
     for found in re.finditer(r"\bif \(", code):
         end = closing(code, found.end() - 1)
@@ -48,37 +58,27 @@ def of_branches(script: str, code: str) -> Iterator[Change]:
 
 def of_code(script: str) -> Iterator[Change]:
     code = masked(script)
-    for found in COMPARISON.finditer(code):
-        yield Change("comparison", found.start(), found.end(), TURNED[found[0]])
-    for found in BOTH.finditer(code):
-        yield Change("condition", found.start(), found.end(), "||" if found[0] == "&&" else "&&")
-    for found in NUMBER.finditer(code):
-        yield Change("number", found.start(), found.end(), other_number(found[0]))
-    yield from (Change("condition", found.start(), found.end(), "") for found in NOT.finditer(code))
-    yield from (Change("constant", found.start(), found.end(), SWITCHES[found[0]]) for found in SWITCH.finditer(code))
+    yield from by_rules(RULES, code)
     yield from (Change("arguments", it.start(1), it.end(2), f"{it[2]}, {it[1]}") for it in EXCHANGED.finditer(code) if it[1] != it[2])
-    for found in EFFECT.finditer(code):
-        begin = found.start() + len(found[0]) - len(found[0].lstrip())
-        yield Change("effect", begin, found.end(), ";")
+    yield from (Change("effect", it.start(1), it.end(), ";") for it in EFFECT.finditer(code))
     yield from of_branches(script, code)
-    for found in TEXT.finditer(script):
-        if code[found.start()] == "'":
-            yield Change("constant", found.end() - 1, found.end() - 1, "_")
+    yield from (Change("constant", it.end() - 1, it.end() - 1, "_") for it in TEXT.finditer(script) if code[it.start()] == "'")
 
 
-def shifted(changes: Iterator[Change], at: int) -> Iterator[Change]:
-    return (Change(it.operator, at + it.start, at + it.end, it.new) for it in changes)
+def of_tags(said: str) -> Iterator[Change]:
+    """Attributes that are left out."""
+    bare = re.sub(r"<(script|style)[^>]*>.*?</\1>", lambda it: " " * len(it[0]), said, flags=re.S)
+    for tag in TAG.finditer(bare):
+        yield from shifted(by_rules([("line", ATTRIBUTE, lambda _: "")], tag[0]), tag.start())
 
 
 def changes(text: bytes) -> Iterator[Change]:
     """Places are in bytes: the page is read as one byte a character."""
     said = text.decode("latin-1")
     for script in SCRIPT.finditer(said):
-        for it in shifted(of_code(script[1]), script.start(1)):
-            yield Change(it.operator, it.start, it.end, it.new.encode("latin-1").decode())
-    bare = re.sub(r"<(script|style)[^>]*>.*?</\1>", lambda it: " " * len(it[0]), said, flags=re.S)
-    for tag in TAG.finditer(bare):
-        yield from shifted((Change("line", it.start(), it.end(), "") for it in ATTRIBUTE.finditer(tag[0])), tag.start())
+        found = shifted(of_code(script[1]), script.start(1))
+        yield from (Change(it.operator, it.start, it.end, it.new.encode("latin-1").decode()) for it in found)
+    yield from of_tags(said)
 
 
 def refusal(text: bytes, path: str) -> str:

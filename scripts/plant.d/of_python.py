@@ -105,7 +105,10 @@ FINDERS: dict[type, Callable[..., Iterator[Change]]] = {
 
 
 def parts(node: ast.AST) -> Iterator[ast.AST]:
-    """All below a node, but what does nothing: what is said of types, and texts in which Python 3.11 gives no places."""
+    """All below a node, but what does nothing: what is said of types, whether Python keeps what it compiled, and texts in which Python 3.11
+    gives no places."""
+    if isinstance(node, ast.Assign) and isinstance(node.targets[0], ast.Attribute) and node.targets[0].attr == "dont_write_bytecode":
+        return
     yield node
     for name, value in ast.iter_fields(node):
         if name in ("annotation", "returns") or isinstance(value, ast.JoinedStr):

@@ -4,7 +4,7 @@ from __future__ import annotations
 import re
 from collections.abc import Iterator
 
-from fault import SWITCHES, TURNED, Change, other_number
+from fault import Change, Rule, by_rules, other_of, shifted, switched, turned
 
 NUMBER = re.compile(r"(?<![\w.:$/{-])\d+(?=[smhkKMG%]?\b)(?![.:\w]*\d*[./:])")
 SWITCH = re.compile(r"(?<=[ =])(?:yes|no|on|off|true|false)(?=;?$|\s)")
@@ -15,13 +15,15 @@ ALONE = re.compile(r"^\s*[^\s#\[\]{}()][^{}]*(?:\{[^{}]*\}[^{}]*)*$")
 SAID = re.compile(r"^\s*(?:Description=|Documentation=|annotations:|summary:|# HELP|- alert:|groups:|rules:|- name:)")
 
 
+RULES: list[Rule] = [("number", NUMBER, other_of), ("constant", SWITCH, switched), ("comparison", COMPARISON, turned)]
+
+
+# What a line says behind its setting.
+COMMENT = re.compile(r"\s#.*$")
+
+
 def of_line(line: str) -> Iterator[Change]:
-    for found in NUMBER.finditer(line):
-        yield Change("number", found.start(), found.end(), other_number(found[0]))
-    for found in SWITCH.finditer(line):
-        yield Change("constant", found.start(), found.end(), SWITCHES[found[0]])
-    for found in COMPARISON.finditer(line):
-        yield Change("comparison", found.start(), found.end(), TURNED[found[0]])
+    yield from by_rules(RULES, COMMENT.sub("", line))
     if ALONE.fullmatch(line):
         yield Change("line", 0, len(line) + 1, "")
 
@@ -31,11 +33,10 @@ def changes(text: bytes) -> Iterator[Change]:
     for whole in text.decode("latin-1").splitlines(keepends=True):
         line = whole.rstrip("\n")
         if line.strip() and not line.lstrip().startswith("#") and not SAID.match(line):
-            for it in of_line(line):
-                yield Change(it.operator, at + it.start, at + it.end, it.new)
+            yield from shifted(of_line(line), at)
         at += len(whole)
 
 
 def refusal(text: bytes, path: str) -> str:
-    """What reads them refuses wrong ones when it starts; `readers.py` asks it."""
+    """What reads them refuses wrong ones when it starts, which a check says (trying.py)."""
     return ""

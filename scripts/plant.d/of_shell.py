@@ -5,14 +5,17 @@ import re
 import subprocess
 from collections.abc import Iterator
 
-from fault import TURNED, Change, other_number
+from fault import Change, Rule, by_rules, other_of, shifted, turned
 
-TEST = re.compile(r"(?<=\s)(-lt|-le|-gt|-ge|-eq|-ne|-n|-z|=|==|!=|=~)(?=\s)")
+TEST = re.compile(r"(?<=\s)(?:-lt|-le|-gt|-ge|-eq|-ne|=|==|!=|=~)(?=\s)|(?<=\[ )-[nz](?=\s)|(?<=\[ ! )-[nz](?=\s)")
 BOTH = re.compile(r"(?<=\s)(&&|\|\|)(?=\s)")
 NUMBER = re.compile(r"(?<![\w$.{&>-])\d+(?![\w.]*[>=\w])")
 BRANCH = re.compile(r"(?<=\bif )(.+)(?=; then)")
 # A line that is one command, and neither begins nor ends something.
-COMMAND = re.compile(r"^\s+(?!(?:if|then|else|elif|fi|for|while|until|do|done|case|esac|local|return|shift|exit|break|continue|trap)\b)[\w./$\"{}:-]+(?: .*)?[^\\|&{(]$")
+COMMAND = re.compile(
+    r"^\s+(?!(?:if|then|else|elif|fi|for|while|until|do|done|case|esac|local|return|shift|exit|break|continue|trap)\b)"
+    r"[\w./$\"{}:-]+(?: .*)?[^\\|&{(]$"
+)
 WORDS = re.compile(r"(?:usage|echo|say|fail|printf)\b.*$")
 
 
@@ -30,21 +33,23 @@ def spans(text: str) -> Iterator[tuple[int, str]]:
         at += len(line)
 
 
+RULES: list[Rule] = [("comparison", TEST, turned), ("condition", BOTH, lambda it: "||" if it[0] == "&&" else "&&"), ("number", NUMBER, other_of),
+                     ("branch", BRANCH, lambda _: "false")]  # fmt: skip
+
+
+def is_code(line: str, change: Change) -> bool:
+    """Whether the place is neither in what is said to people, nor an assignment."""
+    said = WORDS.search(line)
+    if change.operator == "number":
+        return not said or change.end <= said.start()
+    return change.operator != "comparison" or line[change.start : change.end] != "=" or "[" in line[: change.start]
+
+
 def of_line(line: str, is_alone: bool) -> Iterator[Change]:
     """The faults of a line, with places in it."""
-    for found in TEST.finditer(line):
-        if found[0] != "=" or "[" in line[: found.start()]:
-            yield Change("comparison", found.start(), found.end(), TURNED[found[0]])
-    for found in BOTH.finditer(line):
-        yield Change("condition", found.start(), found.end(), "||" if found[0] == "&&" else "&&")
-    said = WORDS.search(line)
-    for found in NUMBER.finditer(line, 0, said.start() if said else len(line)):
-        yield Change("number", found.start(), found.end(), other_number(found[0]))
-    if branch := BRANCH.search(line):
-        yield Change("branch", branch.start(), branch.end(), "false")
+    yield from (it for it in by_rules(RULES, line) if is_code(line, it))
     if is_alone and COMMAND.fullmatch(line):
-        begin = len(line) - len(line.lstrip())
-        yield Change("effect", begin, len(line), ":")
+        yield Change("effect", len(line) - len(line.lstrip()), len(line), ":")
 
 
 def changes(text: bytes) -> Iterator[Change]:
@@ -52,8 +57,7 @@ def changes(text: bytes) -> Iterator[Change]:
     said, before = text.decode("latin-1"), ""
     for at, line in spans(said):
         is_alone = not before.endswith(("\\", "|", "&&", "||", "(", "'"))
-        for it in of_line(line, is_alone):
-            yield Change(it.operator, at + it.start, at + it.end, it.new)
+        yield from shifted(of_line(line, is_alone), at)
         before = line
 
 

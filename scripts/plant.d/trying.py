@@ -13,6 +13,7 @@ import shutil
 import signal
 import subprocess
 import tempfile
+import threading
 import time
 import tomllib
 from collections.abc import Generator, Iterator
@@ -25,7 +26,10 @@ TOP = HERE.parent.parent
 ROOM = TOP / "out" / "plant"
 FAILURE = re.compile(r"FAIL(?:ED)?:? +(.*)")
 # Failed checks that say nothing of behaviour: that a part broke off, or that a text is another.
-NO_BEHAVIOUR = re.compile(r"is asked to its end|comes to its end|came to its end|ended early|can be tried here|mypy|has its lines|in deploy/promises.toml")
+BROKEN_OFF = re.compile(r"is asked to its end|comes to its end|came to its end|ended early|can be tried here")
+OF_TEXT = re.compile(r"mypy|has its lines|in deploy/promises.toml")
+# What is known of a command that breaks off also without a fault: it isn't asked.
+UNFIT = "breaks off"
 # What says that a part can't be asked. With a fault alone it means that what reads the file refuses it at once.
 SKIPPED = re.compile(r"skip [\w-]+(?=: )")
 # A run has its own processes, its own loopback and nothing else of the network. Its session has the priority of the one that began it.
@@ -74,9 +78,9 @@ def judged(line: str, known: frozenset[str]) -> Answer | None:
     if skipped and skipped[0] not in known:
         return Answer("refused", line[:300])
     found = FAILURE.match(line)
-    if found and not NO_BEHAVIOUR.search(found[1]) and promise_of(found[1]) not in known:
-        return Answer("told", found[1][:300])
-    return None
+    if found is None or OF_TEXT.search(found[1]) or promise_of(found[1]) in known:
+        return None
+    return Answer("broke off" if BROKEN_OFF.search(found[1]) else "told", found[1][:300])
 
 
 def promise_of(line: str) -> str:
@@ -127,8 +131,11 @@ class Tree:
         self.git("clean", "-q", "-ffdx")
 
     @contextlib.contextmanager
-    def planted(self, fault: Fault) -> Iterator[None]:
-        """The tree with a fault, which is in its last commit, too, as a release is made of that."""
+    def planted(self, fault: Fault | None) -> Iterator[None]:
+        """The tree with a fault, which is in its last commit, too, as a release is made of that. A program has its fault by itself."""
+        if fault is None:
+            yield
+            return
         file = self.folder / fault.path
         text = file.read_bytes()
         file.write_bytes(changed(text, fault.change))
@@ -161,15 +168,17 @@ class Tree:
     def failing(self, command: list[str], seconds: float) -> list[str]:
         """The names of all checks that fail, and of parts that are skipped, within so many seconds."""
         end = time.monotonic() + seconds
-        answers = (judged(line, frozenset()) for line in self.lines(command, end))
-        return sorted({promise_of(it.line) for it in answers if it})
+        answers = [it for line in self.lines(command, end) if (it := judged(line, frozenset()))]
+        broken = {UNFIT} if any(it.kind == "broke off" for it in answers) else set[str]()
+        return sorted({promise_of(it.line) for it in answers} | broken)
 
     def ask(self, command: list[str], known: frozenset[str], seconds: float) -> Answer:
         """Runs a script until a check fails that isn't known to fail."""
         end, last = time.monotonic() + seconds, ""
         with contextlib.closing(self.lines(command, end)) as lines:
             for line in lines:
-                if found := judged(line, known):
+                found = judged(line, known)
+                if found and found.kind != "broke off":
                     return found
                 last = line.strip() or last
         if time.monotonic() >= end:
@@ -182,7 +191,7 @@ class Known:
     it tries."""
 
     def __init__(self, state: str) -> None:
-        self.file, self.state = ROOM / "known.json", state
+        self.file, self.state, self.writing = ROOM / "known.json", state, threading.Lock()
         self.said: dict[str, list[str]] = json.loads(self.file.read_text()) if self.file.exists() else {}
 
     def has(self, words: str) -> bool:
@@ -192,5 +201,6 @@ class Known:
         return frozenset(self.said.get(f"{self.state} {words}", ()))
 
     def put(self, words: str, names: list[str]) -> None:
-        self.said[f"{self.state} {words}"] = names
-        self.file.write_text(json.dumps(self.said, indent=1))
+        with self.writing:
+            self.said[f"{self.state} {words}"] = names
+            self.file.write_text(json.dumps(self.said, indent=1))

@@ -58,15 +58,21 @@ class Shown:
             if each.process.poll() is None:
                 each.end(signal.SIGTERM)
 
-    def begin(self) -> Shown:
-        """Waits until it shows the circle, and reads what it printed."""
+    def has_begun(self) -> bool:
+        """Waits until it shows the circle or ends, and reads what it printed."""
         assert self.process.stdout is not None
         for line in self.process.stdout:
             self.said += line
             if line.startswith("Ctrl-C ends it"):
-                return self
+                return True
         self.end(signal.SIGTERM)
-        raise RuntimeError(f"the demo showed nothing: {self.told}")
+        return False
+
+    def begin(self) -> Shown:
+        """A demo that shows the circle."""
+        if not self.has_begun():
+            raise RuntimeError(f"the demo showed nothing: {self.told}")
+        return self
 
     def end(self, number: int | None = None) -> int:
         """Sends the signal, and returns the status with which the demo ended. One that doesn't end is killed."""

@@ -172,6 +172,9 @@ def silent(edge: Edge) -> Checks:
     kept.sendall(b"GET /me HTTP/1.1\r\nHost: payments.hub.example\r\nX-Trial-Address: 198.51.100.2\r\n\r\n")
     _, seconds = all_of(half)
     yield Check("a head that never ends is given up after 15 seconds", "" if 13 < seconds < 19 else f"after {seconds:.1f} s")
+    lines = (edge.folder / "iodef-hub.log").read_text()
+    is_told = re.search(r" @payments\.hub\.example \S+ GET \S+ 408 ", lines) is not None
+    yield Check("in the log it has its server's name, as its circle isn't known yet", "" if is_told else lines[-300:])
     _, more = all_of(kept)
     yield Check("a connection without requests is closed after 30 seconds", "" if 27 < seconds + more < 33 else f"after {seconds + more:.1f} s")
 

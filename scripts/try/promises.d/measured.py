@@ -172,13 +172,15 @@ def metrics() -> Checks:
         with haproxy(room / "haproxy"):
             ran = run(DEPLOY / "lib" / "iodef-hub-metrics", room / "told.prom", env=around)
         hub.close()
-        told = (room / "told.prom").read_text() if ran.returncode == 0 else ran.stderr
+        file = room / "told.prom"
+        told = file.read_text() if file.exists() else ""
+        yield Check("the tool ends well", "" if ran.returncode == 0 else f"status {ran.returncode}: {ran.stderr[-200:]}")
         found = {f"{circle} {metric}{more and f' {more[1:]}'}": value for metric, circle, more, value in
                  re.findall(r'^iodef_hub_(\w+)\{circle="(\w+)"((?:,[^}]*)?)\} (\S+)$', told, re.M)}
         seconds = [float(found.pop(f"{circle} answer_seconds", "nan")) for circle in ("payments", "health")]
         yield compared("each metric has its number", wanted(process), found)
         yield Check("the answer's time is told, up to ten seconds", "" if 0 < seconds[0] < 5 and 9.5 < seconds[1] < 12 else f"{seconds}")
-        yield same("everybody may read the file, and only root may write it", 0o644, (room / "told.prom").stat().st_mode & 0o777)
+        yield same("everybody may read the file, and only root may write it", 0o644, file.stat().st_mode & 0o777 if file.exists() else None)
 
 
 # The tables that limit-memory counts, with the columns that it reads.

@@ -101,7 +101,7 @@ class Queue:
             self.hub.gate.set()
             time.sleep(0.3)
 
-    def hold(self, stack: contextlib.ExitStack, *words: typing.Any, **more: str) -> http.client.HTTPConnection:
+    def hold(self, stack: contextlib.ExitStack, *words: typing.Any, **more: typing.Any) -> http.client.HTTPConnection:
         it = stack.enter_context(contextlib.closing(self.begin(*words, **more)))
         time.sleep(0.15)
         return it

@@ -16,7 +16,7 @@ import time
 import typing
 from collections.abc import Callable, Iterator
 
-from asking import DEPLOY, Check, Checks, same
+from asking import DEPLOY, Check, Checks, run, same
 
 MIB = 1 << 20
 # What the hubs of two circles need over their copies, and may take: of the second there is no limit.
@@ -117,8 +117,8 @@ def until(holds: Callable[[], bool]) -> bool:
 
 def metrics(room: Room) -> dict[str, str]:
     file = room.folder / "told.prom"
-    until(file.exists)
-    return dict(re.findall(r"^iodef_hub_(\S+) (\S+)$", file.read_text(), re.M))
+    is_there = until(file.exists)
+    return dict(re.findall(r"^iodef_hub_(\S+) (\S+)$", file.read_text() if is_there else "", re.M))
 
 
 def wanted(needed: int, is_stopped: int) -> dict[str, str]:
@@ -136,7 +136,8 @@ def stops(room: Room, copy: bytes) -> Checks:
     yield Check("above 80 % of what the next start may take the circle is in HAProxy's list", "" if until(lambda: room.haproxy.names == ["/", "payments"]) else f"{room.haproxy.told}")
     yield same("which is told with both numbers", True, until(lambda: any("posts to payments are stopped: the next start needs 800 MiB of 1000" in it for it in room.said)))
     yield same("and written at once", True, until(lambda: metrics(room) == wanted(700 * MIB + 7 * step, 1)))
-    yield same("it can be read by everybody", 0o644, (room.folder / "told.prom").stat().st_mode & 0o777)
+    file = room.folder / "told.prom"
+    yield same("it can be read by everybody", 0o644, file.stat().st_mode & 0o777 if file.exists() else None)
     room.haproxy.names = ["/"]
     yield same("a HAProxy that started anew is told again", True, until(lambda: room.haproxy.names == ["/", "payments"]))
     grown(room.store, copy, step, free_pages=1)
@@ -154,7 +155,16 @@ def without_list(room: Room) -> Checks:
     yield same("a HAProxy without the list is told, once", (True, 1), (is_told, sum("has no list" in it for it in room.said)))
 
 
+def refused() -> Checks:
+    """Words that are none."""
+    tool = DEPLOY / "lib" / "iodef-hub-room"
+    for words in (("--all",), ("one", "two")):
+        ran = run(tool, *words, timeout=60)
+        yield same(f"{len(words)} words that it doesn't take are refused", (1, "usage: iodef-hub-room [FILE]\n"), (ran.returncode, ran.stderr))
+
+
 def room() -> Checks:
+    yield from refused()
     with tempfile.TemporaryDirectory() as name, started(pathlib.Path(name)) as it:
         copy = (it.folder / "copies" / "payments" / "hub-2.db").read_bytes()
         yield from stops(it, copy)
