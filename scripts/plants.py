@@ -43,15 +43,21 @@ def counts(lines: list[Line]) -> collections.Counter[str]:
     return collections.Counter(it for it in found if it != NOT_DRAWN)
 
 
+def is_late(line: Line) -> bool:
+    """Whether nothing found it in time, and a check was still running."""
+    return line["where"] == NOTHING and any(it["said"] == "late" for it in line["asked"])
+
+
 def row(kind: str, lines: list[Line]) -> list[str]:
     """Of the last seed of a kind."""
     seeds = [str(it["seed"]) for it in lines if it["kind"] == kind]
     if not seeds:
         return [KINDS[kind], "none yet", "", "", "", ""]
-    told = counts(of_seed(lines, kind, seeds[-1]))
+    drawn_lines = of_seed(lines, kind, seeds[-1])
+    told, late = counts(drawn_lines), sum(map(is_late, drawn_lines))
     drawn = sum(told.values()) - told[SAME]
     share = round(100 * told[NOTHING] / drawn) if drawn else 0
-    numbers = [told[WITHOUT_HANDS], told[BY_HAND], f"{told[NOTHING]}: {share} %", told[SAME]]
+    numbers = [told[WITHOUT_HANDS], told[BY_HAND], f"{told[NOTHING]}: {share} %{f'; {late} late' if late else ''}", told[SAME]]
     return [KINDS[kind], f"{drawn} by `{seeds[-1][:8]}`", *map(str, numbers)]
 
 

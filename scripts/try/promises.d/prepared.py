@@ -1,4 +1,5 @@
-"""What runs before a server starts: nginx-prepare, over settings, logs and a firewall of its own, and wait-ready, which waits for a hub."""
+"""What runs before a server starts: nginx-prepare, over settings, logs and a firewall of its own; the folders that systemd makes; and
+wait-ready, which waits for a hub."""
 
 from __future__ import annotations
 
@@ -12,7 +13,7 @@ import time
 import typing
 from collections.abc import Iterator
 
-from asking import DEPLOY, TOP, Check, Checks, Missing, run, same
+from asking import DEPLOY, TOP, Check, Checks, Missing, program, run, same
 
 sys.path.insert(0, str(TOP / "scripts" / "try"))
 
@@ -32,6 +33,14 @@ printf '%s\\n' "$3" >/etc/nginx/nginx.conf
 PATH=$1/bin:$PATH sh "$0"
 cat /etc/nginx/iodef-hub-nginx.conf | grep -v '^#' >"$1/made"
 stat -c '%n %a %U %G' /var/log/nginx/* >"$1/logs"
+"""
+# The folders of receipts, as systemd makes them when the machine starts.
+FOLDERS = """
+set -e
+mount -t tmpfs tmpfs /run
+mount -t tmpfs tmpfs /var/log
+systemd-tmpfiles --create "$0" >&2
+stat -c '%n %a %U %G' /run/iodef-hub-receipts /var/log/iodef-hub-receipts
 """
 LOGS = "".join(f"/var/log/nginx/iodef-hub{it}.log 640 www-data adm\n" for it in ("-error", ""))
 SHIPPED, OWN = "/usr/share/iodef-hub/nftables/iodef-hub-callers.nft", "/etc/nginx/iodef-hub-callers.nft"
@@ -62,6 +71,13 @@ def nginx() -> Checks:
     yield same("without a limit of connections of an address it loads the shipped one", ([asked, f"-f {SHIPPED}"], LOGS), (nft, logs))
     yield Check("settings without connections are told", "" if "no line with worker_connections" in said else said[:200])
     yield same("an own limit goes before the shipped one", [asked, f"-f {OWN}"], prepare("", False, True)[2])
+
+
+def folders() -> Checks:
+    program("systemd-tmpfiles", "systemd")
+    told = run("unshare", "--mount", "sh", "-c", FOLDERS, DEPLOY / "receipts" / "tmpfiles.conf")
+    wanted = "/run/iodef-hub-receipts 750 root haproxy\n/var/log/iodef-hub-receipts 700 root root\n"
+    yield same("the folders of receipts are for root, and the socket's for HAProxy, too", (wanted, ""), (told.stdout, told.stderr))
 
 
 def waited(process: subprocess.Popen[bytes], port: int, most: float = 5) -> tuple[int | None, float, str]:
@@ -100,4 +116,5 @@ def ready() -> Checks:
 
 def prepared() -> Checks:
     yield from nginx()
+    yield from folders()
     yield from ready()
