@@ -33,7 +33,8 @@ def equivalent() -> dict[str, str]:
 
 
 def of_seed(lines: list[Line], kind: str, seed: str) -> list[Line]:
-    return [it for it in lines if it["kind"] == kind and it["seed"] == seed]
+    """Of each fault of a draw the last line."""
+    return list({it["fault"]: it for it in lines if it["kind"] == kind and it["seed"] == seed}.values())
 
 
 def counts(lines: list[Line]) -> collections.Counter[str]:
@@ -45,7 +46,7 @@ def counts(lines: list[Line]) -> collections.Counter[str]:
 
 def is_late(line: Line) -> bool:
     """Whether nothing found it in time, and a check was still running."""
-    return line["where"] == NOTHING and any(it["said"] == "late" for it in line["asked"])
+    return line["where"] == NOTHING and line["fault"] not in equivalent() and any(it["said"] == "late" for it in line["asked"])
 
 
 def row(kind: str, lines: list[Line]) -> list[str]:
