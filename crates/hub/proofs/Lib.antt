@@ -1,5 +1,4 @@
 pub mod Standings
-pub mod Passing
 pub mod ShownServed
 pub mod Keeping
 pub mod Numbered

@@ -2,23 +2,21 @@
 
 use crate::asked::Asked;
 use crate::fault::{Fault, agree};
-use crate::reads::{agree_on_rows, agree_on_shelves};
+use crate::reads::agree_on_shelves;
 use crate::replies::same_reply;
 use hub_core::{Edit, Reply};
 use std::alloc::Global;
-use trying_shelves::{Asks, Kept, Lists, Rows, Tables};
+use trying_shelves::{Asks, Kept, Lists, Tables};
 
 /// The greatest weight of the documents that the third shelf keeps, so small that one takes the place of another.
 const MOST_WEIGHT: usize = 8192;
 
-/// The hub over the shelf in memory, over SQL tables in memory, over a shelf in memory that keeps documents, and over SQL
-/// tables whose rows are kept.
+/// The hub over the shelf in memory, over SQL tables in memory, and over a shelf in memory that keeps documents.
 #[derive(Drop)]
 pub struct Shelves {
     lists: Lists,
     tables: Tables,
     kept: Kept<MOST_WEIGHT>,
-    rows: Rows,
 }
 
 fn agree_on_reply(
@@ -38,7 +36,6 @@ impl Shelves {
             lists: Lists::with(alloc, edits)?,
             kept: Kept::with(alloc, edits)?,
             tables: Tables::with(alloc, edits)?,
-            rows: Rows::with(alloc, edits)?,
         })
     }
 
@@ -59,9 +56,7 @@ impl Shelves {
         agree_on_reply(alloc, reply, &other, "a reply")?;
         let other = self.kept.answer(alloc, *now, key, request);
         let name = "a reply of the shelf that keeps documents";
-        agree_on_reply(alloc, reply, &other, name)?;
-        let other = self.rows.answer(alloc, *now, key, request);
-        agree_on_reply(alloc, reply, &other, "a reply of the shelf that keeps rows")
+        agree_on_reply(alloc, reply, &other, name)
     }
 
     /// Returns the same with the tables released and opened again.
@@ -70,16 +65,14 @@ impl Shelves {
             lists,
             tables,
             kept,
-            rows,
         } = self;
-        match (tables.opened_anew(alloc), rows.opened_anew(alloc)) {
-            (Some(tables), Some(rows)) => Ok(Shelves {
+        match tables.opened_anew(alloc) {
+            Some(tables) => Ok(Shelves {
                 lists,
                 tables,
                 kept,
-                rows,
             }),
-            _ => Err(Fault::Differs("tables that failed, or weren't opened anew")),
+            None => Err(Fault::Differs("tables that failed, or weren't opened anew")),
         }
     }
 
@@ -89,15 +82,12 @@ impl Shelves {
             lists,
             tables,
             kept,
-            rows,
         } = self;
-        let mut lists = lists.into_shelf();
         agree_on_shelves(
             alloc,
-            &mut lists,
+            &mut lists.into_shelf(),
             &mut tables.into_shelf(),
             &mut kept.into_shelf(),
-        )?;
-        agree_on_rows(alloc, &mut lists, &mut rows.into_shelf())
+        )
     }
 }

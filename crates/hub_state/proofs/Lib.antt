@@ -5,7 +5,6 @@ pub mod Ranked
 pub mod Indexing
 pub mod Found
 pub mod MadeApart
-pub mod Bare
 pub mod Counted
 pub mod Then
 pub mod Bounded

@@ -5,7 +5,6 @@ pub mod Lists
 pub mod Documents
 pub mod State
 pub mod Edits
-pub mod Bare
 pub mod Requests
 pub mod Aftermath
 pub mod Facts

@@ -1,4 +1,3 @@
-pub mod Adds
 pub mod Beside
 pub mod FeedsRows
 pub mod FirstShown

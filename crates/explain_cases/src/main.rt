@@ -1,0 +1,35 @@
+//! The traces of the cases on standard input, one a line; each answer is the lines of the trace, or a word. A line that
+//! begins with `#` is printed as it is. `cases` says what a case may say.
+#![tactic(auto)]
+
+mod cases;
+
+use cases::answer;
+use std::io;
+use std::io::Read;
+use trying_policy::Report;
+
+fn main(rt: HostRuntime) -> io::Result<()> {
+    let mut lines = String::new(rt.alloc());
+    rt.reader().read_to_string(&mut lines)?;
+    let mut report = Report::new();
+    for line in lines.lines() {
+        if line.starts_with('#') {
+            println!(rt; "{line}")?;
+        } else if !line.is_empty() {
+            print_answer(&rt, &mut report, line)?;
+        }
+    }
+    Ok(())
+}
+
+/// Prints the lines of the answer, or why there is none.
+fn print_answer(rt: &HostRuntime, report: &mut Report, line: &str) -> io::Result<()> {
+    match answer(report, rt.alloc(), line) {
+        Ok(answer) => print!(rt; "{answer}"),
+        Err(unfit) => {
+            let name = unfit.name();
+            println!(rt; "{name}")
+        }
+    }
+}

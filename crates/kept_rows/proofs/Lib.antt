@@ -1,2 +1,0 @@
-mod Drawn
-mod Reading

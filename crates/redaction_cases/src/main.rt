@@ -1,0 +1,30 @@
+//! Answers the cases on standard input, one a line, and prints each answer. It prints a line that begins with `#` as it
+//! is. `cases` says what a case may say.
+#![tactic(auto)]
+
+mod cases;
+
+use cases::Table;
+use std::io;
+use std::io::Read;
+
+fn main(rt: HostRuntime) -> io::Result<()> {
+    let mut cases = String::new(rt.alloc());
+    rt.reader().read_to_string(&mut cases)?;
+    let mut table = Table::new(rt.alloc());
+    for line in cases.lines() {
+        print_answer(&rt, &mut table, line)?;
+    }
+    Ok(())
+}
+
+fn print_answer(rt: &HostRuntime, table: &mut Table, line: &str) -> io::Result<()> {
+    if line.starts_with('#') {
+        return println!(rt; "{line}");
+    }
+    if line.is_empty() {
+        return Ok(());
+    }
+    let answer = table.answer(rt.alloc(), line)?;
+    print!(rt; "{answer}")
+}

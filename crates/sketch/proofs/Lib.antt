@@ -1,9 +1,0 @@
-mod Numbers
-mod Codes
-mod Sets
-mod Texts
-mod Classes
-mod Summaries
-mod Words
-mod Shown
-mod Judging
