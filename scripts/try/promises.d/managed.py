@@ -26,7 +26,7 @@ kill $!
 # What differs from one manager to the next, or is for people.
 OWN = re.compile(r"FragmentPath|Description|Documentation|InvocationID|.*Timestamp(Monotonic)?|UnitFile(State|Preset)")
 # Names whose order says nothing.
-UNORDERED = re.compile(r"After|Before|Requires|Wants|WantedBy|Conflicts")
+UNORDERED = re.compile(r"IPAddress(Allow|Deny)|After|Before|Requires|Wants|WantedBy|Conflicts")
 
 
 def names() -> list[str]:
