@@ -194,8 +194,12 @@ class Changes:
         """A class that has needles, of a report: the same in all phases. Of a grant, one whose label hides it from the grantee, if there is
         one."""
         if number not in self.paths:
+            kind = KINDS[number % len(KINDS)]
             named = [each.path for each in self.trial.reports[number].classes if each.needles]
-            person = GRANTEES.get(KINDS[number % len(KINDS)])
+            if kind == "replace":
+                # The label of an identity is part of it, and a revision keeps the identity.
+                named = [each for each in named if not each.endswith("/IncidentID")]
+            person = GRANTEES.get(kind)
             hidden = [each for each in named if person and self._is_hidden(person, number, each)]
             self.paths[number] = self.trial.chance.choice(hidden or named)
         return self.paths[number]
