@@ -73,14 +73,23 @@ class Answer:
     line: str = ""
 
 
+# A folder that a run made for itself, and one that was made in it.
+OWN_FOLDER = re.compile(rf"{re.escape(tempfile.gettempdir())}(?:/(?:plant-|tmp)\w+)+")
+
+
+def without_folders(line: str) -> str:
+    """The beginning of a line, with a word for the folders that only this run had."""
+    return OWN_FOLDER.sub("TMP", line)[:300]
+
+
 def judged(line: str, known: frozenset[str]) -> Answer | None:
     skipped = SKIPPED.match(line)
     if skipped and skipped[0] not in known:
-        return Answer("refused", line[:300])
+        return Answer("refused", without_folders(line))
     found = FAILURE.match(line)
     if found is None or OF_TEXT.search(found[1]) or promise_of(found[1]) in known:
         return None
-    return Answer("broke off" if BROKEN_OFF.search(found[1]) else "told", found[1][:300])
+    return Answer("broke off" if BROKEN_OFF.search(found[1]) else "told", without_folders(found[1]))
 
 
 def promise_of(line: str) -> str:
@@ -182,8 +191,8 @@ class Tree:
                     return found
                 last = line.strip() or last
         if time.monotonic() >= end:
-            return Answer("late", last[:300])
-        return Answer("kept" if re.fullmatch(r"\d+ passed, \d+ failed", last) else "broke off", last[:300])
+            return Answer("late", without_folders(last))
+        return Answer("kept" if re.fullmatch(r"\d+ passed, \d+ failed", last) else "broke off", without_folders(last))
 
 
 class Known:

@@ -2,6 +2,7 @@
 a word of what is said. Whatever a tool refuses, no file is another. The machine is that of disks.py."""
 from __future__ import annotations
 
+import contextlib
 import pathlib
 import re
 import sqlite3
@@ -25,12 +26,15 @@ class Refusal(typing.NamedTuple):
     said: str
 
 
+def change(store: str | pathlib.Path, statement: str) -> None:
+    with contextlib.closing(sqlite3.connect(store)) as rows, rows:
+        rows.execute(statement)
+
+
 def broken_copy(place: Place) -> None:
     """A person of an organisation that isn't there."""
     circle_and_copy(place)
-    with sqlite3.connect(COPY) as rows:
-        rows.execute("UPDATE person SET org = 99 WHERE number = 1")
-    rows.close()
+    change(COPY, "UPDATE person SET org = 99 WHERE number = 1")
 
 
 def copy_with_log(place: Place) -> None:
@@ -52,16 +56,12 @@ def no_copy(place: Place) -> None:
 def key_of_two(place: Place) -> None:
     """The key of the administrator is the one that is asked for."""
     circle(place)
-    with sqlite3.connect(STORE) as rows:
-        rows.execute("UPDATE person SET key = X'" + "0" * 64 + "' WHERE number = 2")
-    rows.close()
+    change(STORE, f"UPDATE person SET key = X'{'0' * 64}' WHERE number = 2")
 
 
 def suspended(place: Place) -> None:
     circle(place)
-    with sqlite3.connect(STORE) as rows:
-        rows.execute("UPDATE person SET active = 0 WHERE number = 2")
-    rows.close()
+    change(STORE, "UPDATE person SET active = 0 WHERE number = 2")
 
 
 def settings(place: Place) -> None:
