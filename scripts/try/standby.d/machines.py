@@ -161,8 +161,12 @@ class Machine:
         self.do("haproxy", "-f", "/etc/queue.cfg", "-D")
 
     def start_front(self) -> None:
-        """nginx with the package's own files."""
-        (self.folder / "etc/nginx.conf").write_text(NGINX.replace("FOLDER", str(TOP / "deploy/nginx")).replace("FRONT_PORT", str(FRONT_PORT)))
+        """nginx with the package's own files, whose includes name the folder that they are in here."""
+        settings = self.folder / "etc" / "nginx"
+        settings.mkdir()
+        for file in (TOP / "deploy" / "nginx").glob("*.conf"):
+            (settings / file.name).write_text(file.read_text().replace("/usr/share/iodef-hub/nginx", str(settings)))
+        (self.folder / "etc/nginx.conf").write_text(NGINX.replace("FOLDER", str(settings)).replace("FRONT_PORT", str(FRONT_PORT)))
         self.do("nginx")
 
     def allow(self, other: Machine, *command: str) -> None:
