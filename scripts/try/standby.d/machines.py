@@ -162,7 +162,7 @@ class Machine:
 
     def start_front(self) -> None:
         """nginx with the package's own files, whose includes name the folder that they are in here."""
-        settings = self.folder / "etc" / "nginx"
+        settings = self.folder / "etc" / "nginx-files"
         settings.mkdir()
         for file in (TOP / "deploy" / "nginx").glob("*.conf"):
             (settings / file.name).write_text(file.read_text().replace("/usr/share/iodef-hub/nginx", str(settings)))
