@@ -99,7 +99,7 @@ class Hub:
     def ask(self, key: str, method: str, target: str, body: bytes = b"") -> tuple[int, bytes, int]:
         """The status, the reply's first bytes, and how many it has."""
         length = f"Content-Length: {len(body)}\r\n" if method != "GET" else ""
-        head = f"{method} {target} HTTP/1.1\r\nHost: hub\r\nAuthorization: Bearer {key}\r\n{length}\r\n"
+        head = f"{method} {target} HTTP/1.1\r\nHost: hub\r\nConnection: close\r\nAuthorization: Bearer {key}\r\n{length}\r\n"
         kept, total = b"", 0
         buffer = bytearray(1 << 20)
         with socket.create_connection(("127.0.0.1", self.port), timeout=3_600) as peer:

@@ -134,7 +134,7 @@ class World:
 
 
 def body_of(ident: str, label: str = "green") -> bytes:
-    whole = document({"id": ident, "name": "csirt.example.com"}, 20)
+    whole = document({"id": ident, "name": many.ISSUER}, 20)
     incidents = whole["Incident"]
     assert isinstance(incidents, list)
     incidents[0]["restriction"] = label
@@ -182,6 +182,10 @@ def make_store(program: str, store: pathlib.Path, port: int, world: World) -> No
     many.fill(store, world.reports, world.report)
 
 
+def label_of(world: World, number: int) -> str:
+    return LABELS[(number if number <= len(LABELS) else world.report(number).template) - 1]
+
+
 def make_peer_store(program: str, store: pathlib.Path, world: World) -> None:
     """The same circle and reports for the peer."""
     subprocess.run([program, "init", str(store), "Hub", many.digest(key_of(1))], check=True, stdout=subprocess.DEVNULL)
@@ -196,12 +200,7 @@ def make_peer_store(program: str, store: pathlib.Path, world: World) -> None:
     for group, members in world.groups.items():
         rows.execute("INSERT INTO grp VALUES (?, ?, ?, 1)", (group, members[0], f"group {group}"))
         rows.executemany("INSERT INTO grp_member VALUES (?, ?)", ((group, org) for org in sorted(set(members))))
-    for number in range(1, world.reports + 1):
-        report = world.report(number)
-        ident = many.compact({"id": many.identity(number), "name": "csirt.example.com"}).decode()
-        label = LABELS[(number if number <= len(LABELS) else report.template) - 1]
-        rows.execute("INSERT INTO incident VALUES (?, ?, ?, 1, ?)", (number, report.source, ident, body_of(many.identity(number), label).decode()))
-        rows.execute("INSERT INTO gate VALUES (?, '', ?, ?)", (number, report.level, report.group))
+    many.fill_peer(rows, range(1, world.reports + 1), world.report, lambda number: body_of(many.identity(number), label_of(world, number)))
     rows.commit()
     rows.execute("PRAGMA wal_checkpoint(TRUNCATE)")
     rows.close()

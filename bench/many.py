@@ -1,4 +1,4 @@
-"""Stores of many reports for sizes.py and load.py, and a hub that serves them, with its use of a processor and of memory.
+"""Stores of many reports for sizes.py, load.py and passing.py, and a hub that serves them, with its use of a processor and of memory.
 
 The hub itself stores the first reports. The others are rows like theirs, each with an identity of its own, inserted by SQL: a
 hundred thousand posts would take long.
@@ -25,19 +25,21 @@ TOP = pathlib.Path(__file__).resolve().parent.parent
 DEPLOY = TOP / "deploy"
 # As many reports are put into a store by one transaction.
 CHUNK = 2_000
+# The name beside the `id` in the identity of each report.
+ISSUER = "csirt.example.com"
 # Whoever sees more data than a machine has (kB) sees an address sanitizer's shadow.
 SHADOW = 1 << 30
 
 LINES = """
-    CREATE TEMP TABLE line AS SELECT incident AS template, place, depth, name, in_array, kind, text, 0 AS named FROM item;
+    CREATE TEMP TABLE line AS SELECT incident AS template, place, depth, name, in_array, kind, text, 0 AS own FROM item;
     CREATE INDEX temp.line_of ON line (template, place);
-    CREATE TEMP TABLE wanted (number INTEGER PRIMARY KEY, template INTEGER, source INTEGER, level INTEGER, grp INTEGER, old TEXT, own TEXT);
+    CREATE TEMP TABLE wanted (number INTEGER PRIMARY KEY, template INTEGER, source INTEGER, level INTEGER, grp INTEGER, old TEXT, own TEXT, text TEXT);
 """
 PUT = (
     """INSERT INTO incident (number, source, ident, revision) SELECT number, source, replace(ident, old, own), 1 FROM
         (SELECT w.number, w.source, i.ident, w.old, w.own FROM temp.wanted AS w JOIN main.incident AS i ON i.number = w.template ORDER BY w.number)""",
     """INSERT INTO item (incident, place, depth, name, in_array, kind, text)
-        SELECT w.number, l.place, l.depth, l.name, l.in_array, l.kind, CASE WHEN l.named THEN replace(l.text, w.old, w.own) ELSE l.text END
+        SELECT w.number, l.place, l.depth, l.name, l.in_array, l.kind, CASE l.own WHEN 1 THEN replace(l.text, w.old, w.own) WHEN 2 THEN w.text ELSE l.text END
         FROM temp.wanted AS w CROSS JOIN temp.line AS l ON l.template = w.template ORDER BY w.number, l.place""",
     "INSERT INTO gate (incident, path, level, grp) SELECT number, '', level, grp FROM temp.wanted ORDER BY number",
 )
@@ -45,12 +47,14 @@ PUT = (
 
 @dataclasses.dataclass(frozen=True)
 class Report:
-    """A report of a store that is filled: the stored one whose lines it has, its organisation, its level and its group."""
+    """A report of a store that is filled: the stored one whose lines it has, its organisation, its level, its group, and the text
+    that it has in the place of that one's."""
 
     template: int
     source: int
     level: int
     group: int | None = None
+    text: str = ""
 
 
 def digest(key: str) -> str:
@@ -73,12 +77,13 @@ def fill(store: pathlib.Path, last: int, report_of: Callable[[int], Report]) -> 
         return
     rows.executescript(LINES.replace("FROM item;", f"FROM item WHERE incident IN ({','.join(map(str, sorted(templates)))}) ORDER BY incident, place;"))
     for template in templates:
-        rows.execute("UPDATE line SET named = 1 WHERE template = ? AND instr(text, ?)", (template, identity(template)))
+        rows.execute("UPDATE line SET own = 1 WHERE template = ? AND instr(text, ?)", (template, identity(template)))
+        rows.execute("UPDATE line SET own = 2 WHERE template = ? AND text <> '' AND text = ?", (template, report_of(template).text))
     for first in range(begin, last + 1, CHUNK):
         numbers = range(first, min(first + CHUNK, last + 1))
         rows.execute("BEGIN")
         rows.execute("DELETE FROM temp.wanted")
-        rows.executemany("INSERT INTO temp.wanted VALUES (?, ?, ?, ?, ?, ?, ?)", (_wanted(number, report_of(number)) for number in numbers))
+        rows.executemany("INSERT INTO temp.wanted VALUES (?, ?, ?, ?, ?, ?, ?, ?)", (_wanted(number, report_of(number)) for number in numbers))
         for statement in PUT:
             rows.execute(statement)
         rows.execute("COMMIT")
@@ -87,7 +92,16 @@ def fill(store: pathlib.Path, last: int, report_of: Callable[[int], Report]) -> 
 
 
 def _wanted(number: int, report: Report) -> tuple[object, ...]:
-    return number, report.template, report.source, report.level, report.group, identity(report.template), identity(number)
+    return number, report.template, report.source, report.level, report.group, identity(report.template), identity(number), report.text
+
+
+def fill_peer(rows: sqlite3.Connection, numbers: Iterable[int], report_of: Callable[[int], Report], body_of: Callable[[int], bytes]) -> None:
+    """Reports of the peer's store, each with the gate at its root."""
+    for number in numbers:
+        report = report_of(number)
+        ident = compact({"id": identity(number), "name": ISSUER}).decode()
+        rows.execute("INSERT INTO incident VALUES (?, ?, ?, 1, ?)", (number, report.source, ident, body_of(number).decode()))
+        rows.execute("INSERT INTO gate VALUES (?, '', ?, ?)", (number, report.level, report.group))
 
 
 # ---- a hub
@@ -106,9 +120,9 @@ def middle(costs: list[Cost]) -> Cost:
 
 
 def processor_seconds(pid: int) -> float:
-    """What a process of one thread has taken of a processor, by nanoseconds if the kernel counts them."""
+    """What the threads of a process have taken of the processors, but those that ended, by nanoseconds if the kernel counts them."""
     try:
-        return int(pathlib.Path(f"/proc/{pid}/schedstat").read_text().split()[0]) / 1e9
+        return sum(int(it.read_text().split()[0]) for it in pathlib.Path(f"/proc/{pid}/task").glob("*/schedstat")) / 1e9
     except (OSError, ValueError, IndexError):
         return all_seconds(pid)
 
@@ -173,9 +187,13 @@ class Hub:
 
     def cost(self, key: str, method: str, target: str, body: bytes = b"") -> Cost:
         """What one request costs that is answered by 200."""
+        return self.answer(key, method, target, body)[0]
+
+    def answer(self, key: str, method: str, target: str, body: bytes = b"") -> tuple[Cost, bytes]:
+        """The same with the answer."""
         worked, begun = self.seconds(), time.perf_counter()
-        self.done(key, method, target, body)
-        return Cost(self.seconds() - worked, time.perf_counter() - begun)
+        told = self.done(key, method, target, body)
+        return Cost(self.seconds() - worked, time.perf_counter() - begun), told
 
     def close(self) -> None:
         self.process.kill()

@@ -21,6 +21,7 @@ import sqlite3
 import subprocess
 import sys
 import tempfile
+from collections.abc import Sequence
 
 TOP = pathlib.Path(__file__).resolve().parent.parent
 sys.path.insert(0, str(TOP / "scripts"))
@@ -33,15 +34,15 @@ def digest(key: str) -> str:
     return hashlib.sha256(key.encode()).hexdigest()
 
 
-def document(identity: dict[str, str], count: int) -> dict[str, object]:
-    """A report like those of bench/stores.py, with so many `EventData` classes."""
+def document(identity: dict[str, str], count: int, labels: Sequence[str | None] = LABELS) -> dict[str, object]:
+    """A report like those of bench/stores.py, with so many `EventData` classes, whose labels are these in turn."""
     events: list[dict[str, object]] = []
     for at in range(count):
         address = {"category": "ipv4-addr", "value": f"192.0.2.{at}"}
         event: dict[str, object] = {
             "Description": [f"step {at} of the campaign"],
             "Flow": [{"System": [{"category": "source", "Node": {"Address": [address]}}]}]}
-        label = LABELS[at % len(LABELS)]
+        label = labels[at % len(labels)]
         if label is not None:
             event["restriction"] = label
         events.append(event)

@@ -12,10 +12,12 @@ import http.client
 import importlib.util
 import pathlib
 import re
-import socket
 import subprocess
 import sys
 import tempfile
+from collections.abc import Callable
+
+import many
 
 HERE = pathlib.Path(__file__).resolve().parent
 sys.path.insert(0, str(HERE.parent / "scripts"))
@@ -42,26 +44,33 @@ def ask(port: int, key: str, method: str, target: str, body: bytes = b"") -> byt
     return told
 
 
+def instructions(program: str, store: str, count: int, asks: Callable[[int], object]) -> int:
+    """The instructions of `serve` over a store from its start on, which ends after so many requests to its port."""
+    port = many.free_port()
+    words = ["valgrind", "--tool=callgrind", f"--callgrind-out-file={store}.callgrind", program, "serve", store, str(port), str(count)]
+    server = subprocess.Popen(words, stdout=subprocess.PIPE, stderr=subprocess.PIPE, text=True)
+    assert server.stdout is not None and server.stderr is not None
+    server.stdout.readline()
+    asks(port)
+    found = re.search(r"refs:\s+([\d,]+)", server.stderr.read())
+    server.wait()
+    return int(found[1].replace(",", "")) if found else 0
+
+
 def counted(program: str, made: object, events: int, posts: int, views: int) -> int:
     """The instructions of `serve` over a new store, in which so many reports are posted and so many views are asked."""
-    with tempfile.TemporaryDirectory() as folder, socket.socket() as free:
-        store = f"{folder}/hub.db"
-        subprocess.run([program, "init", store, "Hub", made.DIGEST], check=True, stdout=subprocess.DEVNULL)
-        free.bind(("127.0.0.1", 0))
-        port = int(free.getsockname()[1])
-        free.close()
-        words = ["valgrind", "--tool=callgrind", f"--callgrind-out-file={folder}/out", program, "serve", store, str(port), str(1 + posts + views)]
-        server = subprocess.Popen(words, stdout=subprocess.PIPE, stderr=subprocess.PIPE, text=True)
-        assert server.stdout is not None and server.stderr is not None
-        server.stdout.readline()
+
+    def asks(port: int) -> None:
         ask(port, made.KEY, "POST", "/persons", ("org=1&name=poster&role=poster&key=" + made.POSTER).encode())
         for number in range(1, posts + 1):
             ask(port, "poster", "POST", "/incidents?level=3", made.document(number, events))
         for number in range(1, views + 1):
             ask(port, "poster", "GET", f"/incidents/{number % posts + 1}")
-        told = server.stderr.read()
-        server.wait()
-    return int(re.search(r"refs:\s+([\d,]+)", told)[1].replace(",", ""))
+
+    with tempfile.TemporaryDirectory() as folder:
+        store = f"{folder}/hub.db"
+        subprocess.run([program, "init", store, "Hub", made.DIGEST], check=True, stdout=subprocess.DEVNULL)
+        return instructions(program, store, 1 + posts + views, asks)
 
 
 def main() -> None:

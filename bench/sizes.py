@@ -64,7 +64,7 @@ PAGE = 100
 CIRCLE = "sizes"
 MIB = 1 << 20
 # As deploy/lib/limit-memory has them.
-BESIDE, REQUESTS, PROGRAM, ROW = 64, 128, 16, 220
+BESIDE, REQUESTS, PROGRAM, ROW, INCIDENT, POLICY = 64, 128, 16, 220, 700, 200
 GIGABYTES = (1, 2, 4)
 
 FILE, OPENED, OPENED_CLOCK, DATA = "the store's file", "opening, of a processor", "opening, by the clock", "data behind the opening (VmData)"
@@ -544,17 +544,17 @@ class Rows:
     texts: int
 
     def memory(self) -> int:
-        """What that reckons for the report, which has a row in two other tables, too."""
-        return (self.lines + 2) * ROW + self.texts
+        """What that reckons for the report, which has a row in two other tables, too: its naming, and the gate at its root."""
+        return (self.lines + 2) * ROW + self.texts + INCIDENT + POLICY
 
 
 def row_bytes(store: pathlib.Path, number: int) -> Rows:
     """Of a store that nobody serves."""
     rows = sqlite3.connect(store)
     lines, texts = rows.execute(
-        "SELECT count(*), sum(length(CAST(name AS BLOB)) + length(CAST(text AS BLOB))) FROM item WHERE incident = ?", (number,)
+        "SELECT count(*), sum(length(CAST(name AS BLOB)) + length(CAST(text AS BLOB)) * 3 / 2) FROM item WHERE incident = ?", (number,)
     ).fetchone()
-    (ident,) = rows.execute("SELECT 2 * length(CAST(ident AS BLOB)) FROM incident WHERE number = ?", (number,)).fetchone()
+    (ident,) = rows.execute("SELECT 4 * length(CAST(ident AS BLOB)) FROM incident WHERE number = ?", (number,)).fetchone()
     rows.close()
     return Rows(lines, texts + ident)
 

@@ -45,13 +45,6 @@ fn {name}(rt: &HostRuntime) -> ExitCode {{
     ExitCode::from(status.code())
 }}
 """
-# How `main` of program_cases begins, and a `run` in its place.
-BEGIN = """fn main(rt: HostRuntime) -> io::Result<()> {
-    let mut table = String::new(rt.alloc());
-    rt.reader().read_to_string(&mut table)?;
-"""
-RUN = """pub fn run(rt: &HostRuntime, table: &str) -> io::Result<()> {
-"""
 MAIN = f"""//! Both programs, and the table of program_cases.
 #![tactic(auto)]
 
@@ -93,21 +86,11 @@ def apart(faults: Iterable[Fault]) -> list[Fault]:
     return kept
 
 
-def as_library(folder: pathlib.Path) -> None:
-    """Makes a library of program_cases, whose `run` takes the table."""
-    uses, main, body = (folder / "main.rt").read_text().partition(BEGIN)
-    if not main:
-        raise ValueError("main.rt of program_cases doesn't begin as it is known to")
-    (folder / "main.rt").unlink()
-    (folder / "lib.rt").write_text(uses.replace("use std::io::Read;\n", "") + RUN + body.replace("&rt", "rt"))
-
-
 def write(tree: pathlib.Path, faults: list[Fault]) -> None:
     """The sources with all faults, and the two crates."""
     for path in {it.path for it in faults}:
         of_file = [(number, it) for number, it in enumerate(faults, 1) if it.path == path]
         (tree / path).write_bytes(switched((tree / path).read_bytes(), of_file))
-    as_library(tree / "crates" / "program_cases" / "src")
     write_crate(tree / "crates" / "plant_switch" / "src", "lib.rt", SWITCH)
     write_crate(tree / "crates" / "planted" / "src", "main.rt", MAIN)
     crates = re.sub(rf"^({'|'.join(CHANGED)}):", r"\1: plant_switch", (tree / "crates.txt").read_text(), flags=re.M)

@@ -4,7 +4,7 @@ use crate::asking::asked_by;
 use crate::world::{Place, World, world_in};
 use std::alloc::{AllocError, Global};
 use std::str::from_utf8;
-use trying_shelves::{Asked, Either};
+use trying_shelves::{AnyHub, Asked};
 
 /// The blocks so far: the circle, the world with which others are compared, and the questions.
 #[derive(Drop)]
@@ -23,11 +23,14 @@ struct Pair<'a> {
     asked: &'a [Asked],
 }
 
-/// The shelves of the two worlds, of which at least one is over tables.
-const OVER_TABLES: [(Place, Place); 3] = [
+/// The shelves of the two worlds, of which at least one is over tables. Their rows are kept in memory or not.
+const OVER_TABLES: [(Place, Place); 6] = [
     (Place::Tables, Place::Memory),
     (Place::Memory, Place::Tables),
     (Place::Tables, Place::Tables),
+    (Place::Rows, Place::Memory),
+    (Place::Memory, Place::Rows),
+    (Place::Rows, Place::Rows),
 ];
 
 /// Returns the bytes after the head of a reply, as text.
@@ -53,8 +56,8 @@ fn describe(alloc: Global, one: &[u8], other: &[u8]) -> Result<String, AllocErro
 /// Returns the line for a request to both hubs.
 fn line_of(
     alloc: Global,
-    first: &mut Either,
-    other: &mut Either,
+    first: &mut AnyHub,
+    other: &mut AnyHub,
     asked: &Asked,
 ) -> Result<String, AllocError> {
     let (one, two) = first.told_beside(other, alloc, asked)?;
@@ -64,8 +67,8 @@ fn line_of(
 /// Returns the line for each request to both hubs.
 fn lines_of(
     alloc: Global,
-    first: &mut Either,
-    other: &mut Either,
+    first: &mut AnyHub,
+    other: &mut AnyHub,
     asked: &[Asked],
 ) -> Result<Vec<String>, AllocError> {
     let mut lines = Vec::new(alloc);
@@ -80,7 +83,7 @@ impl<'a> Pair<'a> {
     fn lines_with(
         &self,
         alloc: Global,
-        first: &mut Either,
+        first: &mut AnyHub,
         place: Place,
     ) -> Result<Option<Vec<String>>, AllocError> {
         match world_in(alloc, place, self.other)? {

@@ -1,8 +1,9 @@
 -- The directory that rows in memory make.
-use Rattle.std.specs.Prelude.{ℕ, ◌+◌, ◌≤◌}
+use Rattle.std.specs.Prelude.{ℕ, ◌+◌, ◌≤◌, List}
 use Rattle.std.specs.Vec.{vec_len, vec_capacity}
 use Rattle.circle.specs.Directory.{Directory, org_number, account_number, community_number, group_number, client_key, membership_key, connection_key, group_member_key, arrangement_key}
 use Rattle.circle.specs.Stretches.{Ascend, numbered}
+use Rattle.circle.specs.declared.command.RowEdit.{RowEdit}
 use Rattle.circle_rows.specs.declared.sets.Sets.{Sets}
 
 -- the directory of the rows in memory
@@ -42,3 +43,8 @@ pub record HasRoom (n : ℕ) (s : Sets) : Type 0 where
   pub groups : vec_len s.groups + n ≤ vec_capacity s.groups
   pub group_members : vec_len s.group_members + n ≤ vec_capacity s.group_members
   pub arrangements : vec_len s.arrangements + n ≤ vec_capacity s.arrangements
+
+-- a directory, and edits of it that are still to be made
+pub record Ready : Type 0 where
+  pub rows : Directory
+  pub edits : List RowEdit

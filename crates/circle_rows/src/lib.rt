@@ -6,7 +6,7 @@
 //!
 //! The modules, from the outside in:
 //!
-//! - `rows`: [`DirectoryRows`], nine lists (`sets`) in the order of a key (`keys`, `keyed`);
+//! - `rows`: [`DirectoryRows`], and [`ReadyRows`] with edits for which the memory is taken: nine lists (`sets`) in the order of a key (`keys`, `keyed`);
 //! - `lookups`: whether it has a row; `facts`: the facts of a command; `reads`: other questions.
 #![tactic(auto)]
 
@@ -18,4 +18,4 @@ mod reads;
 mod rows;
 mod sets;
 
-pub use rows::DirectoryRows;
+pub use rows::{DirectoryRows, ReadyRows};

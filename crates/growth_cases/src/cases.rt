@@ -22,7 +22,7 @@
 //! says how standings, gates and permissions are written.
 
 use crate::documents::{Making, Reading};
-use crate::lists::{InLists, InTables, List};
+use crate::lists::{InLists, InRows, InTables, List};
 use crate::passes::Feeding;
 use crate::readers::{Asking, asker_of};
 use crate::requests::MOMENT;
@@ -159,7 +159,7 @@ impl Cases {
         }
     }
 
-    /// Runs the list of a block over both shelves. Returns none for the first block, for which nothing is printed.
+    /// Runs the list of a block over each shelf. Returns none for the first block, for which nothing is printed.
     fn end_block(&mut self) -> Result<Option<String>, AllocError> {
         let alloc = self.alloc;
         if self.block.is_empty() {
@@ -189,7 +189,7 @@ fn written_behind(
     }
 }
 
-/// Runs a list over both shelves. Returns what is printed for it.
+/// Runs a list over each shelf. Returns what is printed for it.
 fn run_list(
     alloc: Global,
     sweep: &mut Sweep,
@@ -197,13 +197,14 @@ fn run_list(
     own: &[Asked],
 ) -> Result<String, AllocError> {
     match List::of(alloc, world, own)? {
-        Some(list) => run_both(alloc, sweep, &list),
+        Some(list) => run_over_each(alloc, sweep, &list),
         None => String::from_str(alloc, "no world"),
     }
 }
 
-fn run_both(alloc: Global, sweep: &mut Sweep, list: &List<'_>) -> Result<String, AllocError> {
+fn run_over_each(alloc: Global, sweep: &mut Sweep, list: &List<'_>) -> Result<String, AllocError> {
     let in_lists = sweep.report(alloc, &InLists { list })?;
     let in_tables = sweep.report(alloc, &InTables { list })?;
-    format!(in alloc; "in memory {in_lists}\nin tables {in_tables}")
+    let in_rows = sweep.report(alloc, &InRows { list })?;
+    format!(in alloc; "in memory {in_lists}\nin tables {in_tables}\nwith rows in memory {in_rows}")
 }

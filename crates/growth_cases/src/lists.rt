@@ -1,10 +1,10 @@
-//! Lists of requests, over both shelves.
+//! Lists of requests, over each shelf.
 
 use crate::content::content;
 use crate::heap::{arm, disarm};
 use crate::requests::keys;
 use crate::sweep::{Met, Trial};
-use crate::worlds::{in_lists, in_tables};
+use crate::worlds::{in_lists, in_rows, in_tables};
 use circle::refusal::{Code, Refusal};
 use hub::Key;
 use hub_core::Reply;
@@ -43,6 +43,12 @@ pub struct InLists<'a> {
 /// A list that is run over tables.
 #[derive(Clone, Copy)]
 pub struct InTables<'a> {
+    pub list: &'a List<'a>,
+}
+
+/// A list that is run over tables whose rows are kept in memory.
+#[derive(Clone, Copy)]
+pub struct InRows<'a> {
     pub list: &'a List<'a>,
 }
 
@@ -251,6 +257,15 @@ impl Trial for InLists<'_> {
 impl Trial for InTables<'_> {
     fn run(&self, alloc: Global, n: u32) -> Result<Met, AllocError> {
         match in_tables(alloc, self.list.world)? {
+            Some(hub) => self.list.run_over(alloc, hub, n),
+            None => no_world(alloc),
+        }
+    }
+}
+
+impl Trial for InRows<'_> {
+    fn run(&self, alloc: Global, n: u32) -> Result<Met, AllocError> {
+        match in_rows(alloc, self.list.world)? {
             Some(hub) => self.list.run_over(alloc, hub, n),
             None => no_world(alloc),
         }

@@ -1,9 +1,9 @@
-//! Hubs over both shelves, after the requests with which all lists begin.
+//! Hubs over the shelves, after the requests with which all lists begin.
 
 use hub_core::{Reply, ShelfFault};
 use std::alloc::{AllocError, Global};
 use trying_hub::{first_rows, key_of};
-use trying_shelves::{Asked, Asks, Lists, Tables};
+use trying_shelves::{Asked, Asks, Lists, Rows, Tables};
 
 /// Asks these requests. Returns whether one of them is refused.
 fn is_refused<A: Asks>(alloc: Global, hub: &mut A, world: &[Asked]) -> Result<bool, AllocError> {
@@ -41,4 +41,10 @@ pub fn in_lists(alloc: Global, world: &[Asked]) -> Result<Option<Lists>, AllocEr
 pub fn in_tables(alloc: Global, world: &[Asked]) -> Result<Option<Tables>, AllocError> {
     let rows = first_rows(alloc, key_of(1))?;
     populate(alloc, Tables::with(alloc, &rows), world)
+}
+
+/// Returns the world in new tables whose rows are kept in memory, over a connection that has no plans yet.
+pub fn in_rows(alloc: Global, world: &[Asked]) -> Result<Option<Rows>, AllocError> {
+    let rows = first_rows(alloc, key_of(1))?;
+    populate(alloc, Rows::with(alloc, &rows), world)
 }

@@ -1,4 +1,5 @@
 pub mod Standings
+pub mod Passing
 pub mod ShownServed
 pub mod Keeping
 pub mod Numbered

@@ -110,3 +110,22 @@ pub fn is_met<Sh: Shelf>(
 {
     shelf.meets(incident, case, standing, want)
 }
+
+/// Whether an incident may meet a want for the caller, as far as the shelf knows without the document. False only if it
+/// is missing or doesn't meet it.
+pub fn may_meet<Sh: Shelf>(
+    shelf: &mut Sh,
+    asker: Asker<'_>,
+    incident: u32,
+    want: &Want,
+) -> Result<bool, ShelfFault>
+    ensures { Finds Sh.has Sh.doubts Sh.failed Sh.may_remain shelf.old shelf.new result (λ s.
+        IsSound s → IsThere s asker.entry.person.now →
+        IfOk result (λ may. may ≡ false →
+        option_map_or (λ (i : Incident).
+        meets want.now i.document (case_for s i)
+        (standing_at s asker.entry.now asker.entry.person.now i)) (incident_of incident s) false
+        ≡ false)) }
+{
+    shelf.may_meet(asker.person.number, incident, asker.now, want)
+}

@@ -12,7 +12,7 @@ ghost use Rattle.hub_core.specs.Shelves.{Finds};
 ghost use Rattle.hub.specs.inner.Asking.{IsThere};
 
 use crate::PAGE_LIMIT;
-use crate::asker::{Asker, case_of, is_met, standing};
+use crate::asker::{Asker, case_of, is_met, may_meet, standing};
 use crate::fault::ample;
 use crate::page_filter::PageFilter;
 use crate::root_gate::is_shut;
@@ -66,6 +66,10 @@ fn lists<Sh: Shelf>(
         IfOk result (λ b. b ≡
         is_wanted_at s asker.entry.now asker.entry.person.now wanted.entry incident)) }
 {
+    // most incidents can be passed over without their documents
+    if !may_meet(shelf, asker, incident, wanted.want)? {
+        return Ok(false);
+    }
     match standing(shelf, asker, incident)? {
         None => Ok(false),
         Some(standing) => is_wanted_by(shelf, wanted, standing, incident),

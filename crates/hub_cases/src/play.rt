@@ -4,10 +4,12 @@ use crate::block::Block;
 use crate::counted::counts;
 use crate::steps::limit_steps;
 use crate::watched::run_failing;
-use crate::world::{begun_in_memory, begun_in_tables, lines_of, moment_at, requests_of};
+use crate::world::{
+    begun_in_memory, begun_in_rows, begun_in_tables, lines_of, moment_at, requests_of,
+};
 use std::alloc::{AllocError, Global};
 use trying_hub::{first_shelf, key_of};
-use trying_shelves::{Asks, Tables, ask, replies_text};
+use trying_shelves::{Asks, ask, replies_text};
 
 /// More calls of the shelf than a case makes.
 const MOST_CALLS: u64 = 10_000;
@@ -61,15 +63,31 @@ fn replies_over_tables(alloc: Global, lines: &[&str]) -> Result<Option<Vec<Strin
     Ok(Some(told))
 }
 
-/// Adds the answer of tables to the request at this place.
-fn push_answer(
+/// Returns the same over tables whose rows are kept in memory, and read again after each request.
+fn replies_over_rows(alloc: Global, lines: &[&str]) -> Result<Option<Vec<String>>, AllocError> {
+    let Some(mut rows) = begun_in_rows(alloc)? else {
+        return Ok(None);
+    };
+    let mut told = Vec::new(alloc);
+    for (i, line) in lines.iter().enumerate() {
+        push_answer(alloc, &mut told, &mut rows, line, i)?;
+        match rows.opened_anew(alloc) {
+            Some(again) => rows = again,
+            None => return Ok(None),
+        }
+    }
+    Ok(Some(told))
+}
+
+/// Adds the answer of a hub to the request at this place.
+fn push_answer<A: Asks>(
     alloc: Global,
     told: &mut Vec<String>,
-    tables: &mut Tables,
+    hub: &mut A,
     line: &str,
     place: usize,
 ) -> Result<(), AllocError> {
-    told.push(ask(tables, alloc, line, moment_at(place))?)?;
+    told.push(ask(hub, alloc, line, moment_at(place))?)?;
     Ok(())
 }
 
@@ -111,12 +129,25 @@ fn failed_in_turn(alloc: Global, lines: &[&str]) -> Result<&'static str, AllocEr
     Ok("more calls than expected")
 }
 
-/// Returns the words for whether the tables answer as the shelf in memory did.
+/// Returns whether a hub answered as the shelf in memory did.
+fn are_same(replies: &Option<Vec<String>>, told: &[String]) -> bool {
+    match replies {
+        Some(replies) => replies.iter().eq(told.iter()),
+        None => false,
+    }
+}
+
+/// Returns the words for whether the tables answer as the shelf in memory did, and tables whose rows are kept.
 fn over_tables(alloc: Global, lines: &[&str], told: &[String]) -> Result<&'static str, AllocError> {
-    match replies_over_tables(alloc, lines)? {
-        Some(others) if others.iter().eq(told.iter()) => Ok("the same over tables"),
-        Some(_) => Ok("other answers over tables"),
-        None => Ok("the tables failed"),
+    let over_tables = replies_over_tables(alloc, lines)?;
+    if !are_same(&over_tables, told) {
+        return Ok("otherwise over tables, or they failed");
+    }
+    let over_rows = replies_over_rows(alloc, lines)?;
+    if are_same(&over_rows, told) {
+        Ok("the same over tables")
+    } else {
+        Ok("otherwise with rows in memory, or it failed")
     }
 }
 

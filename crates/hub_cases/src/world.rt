@@ -3,7 +3,7 @@
 use crate::block::Block;
 use std::alloc::{AllocError, Global};
 use trying_hub::{first_rows, key_of};
-use trying_shelves::{Asked, Lists, Tables, asked_of};
+use trying_shelves::{Asked, Lists, Rows, Tables, asked_of};
 
 /// The moment of the first request, in seconds since 1970. Each comes a second after the one before, unless its line
 /// names another moment.
@@ -56,4 +56,9 @@ pub fn begun_in_memory(alloc: Global) -> Result<Option<Lists>, AllocError> {
 /// Returns the same over new tables.
 pub fn begun_in_tables(alloc: Global) -> Result<Option<Tables>, AllocError> {
     Ok(Tables::with(alloc, &first_rows(alloc, key_of(1))?).ok())
+}
+
+/// Returns the same over new tables whose rows are kept in memory.
+pub fn begun_in_rows(alloc: Global) -> Result<Option<Rows>, AllocError> {
+    Ok(Rows::with(alloc, &first_rows(alloc, key_of(1))?).ok())
 }

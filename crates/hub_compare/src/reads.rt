@@ -218,7 +218,7 @@ fn agree_on_entries<A: Shelf, B: Shelf>(lists: &mut A, tables: &mut B) -> Result
     agree(entries.as_slice() == others.as_slice(), "the incidents")
 }
 
-/// Compares the contents of both shelves.
+/// Compares the contents of two shelves.
 fn agree_on_reads<A: Shelf, B: Shelf>(
     alloc: Global,
     lists: &mut A,
@@ -243,4 +243,14 @@ pub fn agree_on_shelves<A: Shelf, B: Shelf, C: Shelf>(
 ) -> Result<(), Fault> {
     agree_on_reads(alloc, lists, tables)?;
     agree_on_excerpts(alloc, lists, kept)
+}
+
+/// Compares what the shelf in memory has with the one that keeps rows.
+pub fn agree_on_rows<A: Shelf, B: Shelf>(
+    alloc: Global,
+    lists: &mut A,
+    rows: &mut B,
+) -> Result<(), Fault> {
+    agree_on_reads(alloc, lists, rows)?;
+    agree_on_excerpts(alloc, lists, rows)
 }

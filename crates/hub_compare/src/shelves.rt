@@ -2,21 +2,23 @@
 
 use crate::asked::Asked;
 use crate::fault::{Fault, agree};
-use crate::reads::agree_on_shelves;
+use crate::reads::{agree_on_rows, agree_on_shelves};
 use crate::replies::same_reply;
 use hub_core::{Edit, Reply};
 use std::alloc::Global;
-use trying_shelves::{Asks, Kept, Lists, Tables};
+use trying_shelves::{Asks, Kept, Lists, Rows, Tables};
 
 /// The greatest weight of the documents that the third shelf keeps, so small that one takes the place of another.
 const MOST_WEIGHT: usize = 8192;
 
-/// The hub over the shelf in memory, over SQL tables in memory, and over a shelf in memory that keeps documents.
+/// The hub over the shelf in memory, over SQL tables in memory, over a shelf in memory that keeps documents, and over SQL
+/// tables whose rows are kept.
 #[derive(Drop)]
 pub struct Shelves {
     lists: Lists,
     tables: Tables,
     kept: Kept<MOST_WEIGHT>,
+    rows: Rows,
 }
 
 fn agree_on_reply(
@@ -36,6 +38,7 @@ impl Shelves {
             lists: Lists::with(alloc, edits)?,
             kept: Kept::with(alloc, edits)?,
             tables: Tables::with(alloc, edits)?,
+            rows: Rows::with(alloc, edits)?,
         })
     }
 
@@ -56,7 +59,9 @@ impl Shelves {
         agree_on_reply(alloc, reply, &other, "a reply")?;
         let other = self.kept.answer(alloc, *now, key, request);
         let name = "a reply of the shelf that keeps documents";
-        agree_on_reply(alloc, reply, &other, name)
+        agree_on_reply(alloc, reply, &other, name)?;
+        let other = self.rows.answer(alloc, *now, key, request);
+        agree_on_reply(alloc, reply, &other, "a reply of the shelf that keeps rows")
     }
 
     /// Returns the same with the tables released and opened again.
@@ -65,14 +70,16 @@ impl Shelves {
             lists,
             tables,
             kept,
+            rows,
         } = self;
-        match tables.opened_anew(alloc) {
-            Some(tables) => Ok(Shelves {
+        match (tables.opened_anew(alloc), rows.opened_anew(alloc)) {
+            (Some(tables), Some(rows)) => Ok(Shelves {
                 lists,
                 tables,
                 kept,
+                rows,
             }),
-            None => Err(Fault::Differs("tables that failed, or weren't opened anew")),
+            _ => Err(Fault::Differs("tables that failed, or weren't opened anew")),
         }
     }
 
@@ -82,12 +89,15 @@ impl Shelves {
             lists,
             tables,
             kept,
+            rows,
         } = self;
+        let mut lists = lists.into_shelf();
         agree_on_shelves(
             alloc,
-            &mut lists.into_shelf(),
+            &mut lists,
             &mut tables.into_shelf(),
             &mut kept.into_shelf(),
-        )
+        )?;
+        agree_on_rows(alloc, &mut lists, &mut rows.into_shelf())
     }
 }

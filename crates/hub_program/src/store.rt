@@ -2,18 +2,24 @@
 ghost use Rattle.std.specs.Prelude.{◌≡◌, false, IfOk};
 ghost use Rattle.hub_program.specs.Openings.{told_of_opening};
 
-use hub_service::{Fault, Reason};
+use crate::opening::{open_rows, tell_opening};
+use hub_core::ShelfFault;
+use hub_service::{Fault, Reason, shelf_fault};
 use hub_store::{OpenFault, SqlShelf};
 use kept_documents::{KeptDocuments, MOST_WEIGHT};
+use kept_rows::KeptRows;
 use sqlite::{Alter, Connection, Error, ErrorCode, File, FileStore};
 use std::alloc::Global;
 use std::fs;
 use std::fs::OpenOptions;
-use std::io::ErrorKind;
+use std::io::{ErrorKind, Write};
 use std::os::unix::fs::OpenOptionsExt;
 
 /// The hub's tables in a file.
 pub type FileShelf = SqlShelf<FileStore<File>>;
+
+/// What a hub serves: the tables, with the documents read lately and all other rows in memory.
+pub type ServedShelf = KeptRows<KeptDocuments<FileShelf, MOST_WEIGHT>>;
 
 /// Returns the fault for a store that isn't opened.
 pub fn open_fault(fault: OpenFault) -> Fault
@@ -100,19 +106,34 @@ pub fn open_store(rt: &HostRuntime, path: &str) -> Result<FileShelf, Fault> {
     open_over(rt.alloc(), connect(rt, path)?)
 }
 
-/// The same, with the documents read lately kept in memory.
-pub fn open_kept(
+/// Returns the shelf that a hub serves, and prints how far the opening is. Fails as `open_store`, or as the shelf does
+/// while it is read.
+pub fn open_served<E: Write>(
     rt: &HostRuntime,
     path: &str,
-) -> Result<KeptDocuments<FileShelf, MOST_WEIGHT>, Fault> {
-    match KeptDocuments::new(rt.alloc(), open_store(rt, path)?) {
-        Ok(kept) => Ok(kept),
-        Err((_, shelf)) => {
-            // nothing was changed
-            let _ = close(shelf);
-            Err(Fault::NoMemory)
-        }
+    errors: &mut E,
+) -> Result<ServedShelf, Fault> {
+    tell_opening(errors);
+    let documents = match KeptDocuments::new(rt.alloc(), open_store(rt, path)?) {
+        Ok(documents) => documents,
+        Err((_, shelf)) => return Err(closed_by(ShelfFault::NoMemory, shelf)),
+    };
+    match open_rows(rt.alloc(), documents, errors) {
+        Ok(served) => Ok(served),
+        Err((fault, documents)) => Err(closed_by(fault, documents.into_shelf())),
     }
+}
+
+/// Closes a store that was only read. Returns the fault for that of the shelf.
+fn closed_by(fault: ShelfFault, shelf: FileShelf) -> Fault {
+    // nothing was changed
+    let _ = close(shelf);
+    shelf_fault(fault)
+}
+
+/// Closes the store that a hub served, as `close` does.
+pub fn close_served(shelf: ServedShelf) -> Result<(), Fault> {
+    close(shelf.into_shelf().into_shelf())
 }
 
 /// Closes the store, which moves its log into its file. If that fails, what was committed is in the log alone, where the

@@ -5,6 +5,7 @@ pub mod Ranked
 pub mod Indexing
 pub mod Found
 pub mod MadeApart
+pub mod Bare
 pub mod Counted
 pub mod Then
 pub mod Bounded

@@ -5,6 +5,7 @@ pub mod Lists
 pub mod Documents
 pub mod State
 pub mod Edits
+pub mod Bare
 pub mod Requests
 pub mod Aftermath
 pub mod Facts

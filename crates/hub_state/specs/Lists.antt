@@ -1,9 +1,13 @@
 -- The lists in memory: the rows of a state without its directory, and an index.
-use Rattle.std.specs.Prelude.{◌≡◌, ℕ, ◌+◌, ◌≤◌, Bool, List, vec_len, vec_capacity}
+use Rattle.std.specs.Prelude.{◌≡◌, ℕ, ◌+◌, ◌≤◌, Bool, List, map, vec_len, vec_capacity}
 use Rattle.std.specs.List.{list_any}
 use Rattle.circle.specs.Directory.{Directory}
 use Rattle.hub_state.specs.State.{State, gate_cmp, recipient_cmp, permission_cmp}
-use Rattle.hub_state.specs.Edits.{edited}
+use Rattle.circle.specs.Aftermath.{edited_rows}
+use Rattle.circle_rows.specs.Rows as directory
+use Rattle.hub_state.specs.Edits.{edited, with_edits}
+use Rattle.hub_state.specs.inner.Changes.{row_edit}
+use Rattle.hub_state.specs.declared.change.RowChange.{RowChange}
 use Rattle.hub_state.specs.InOrder.{IsInOrder}
 use Rattle.hub_state.specs.Orders.{incident_cmp, named_cmp, named}
 use Rattle.hub_state.specs.declared.state.Incident.{Incident}
@@ -47,3 +51,15 @@ pub record IsMade (edit : Edit) (old new : Lists) : Type 0 where
   pub made : (d : Directory) → with_directory d new ≡ edited edit (with_directory d old)
   pub in_order : AreInOrder new
   pub room : (n : ℕ) → HasRoom (n + 1) old → HasRoom n new
+
+-- a state before edits and after them
+pub record Ready : Type 0 where
+  pub before : State
+  pub after : State
+
+-- the state that these lists are, and the one that the changes of the directory and of the other rows lead to
+abbrev pub ready_by : directory.Ready → Lists → List RowChange → Ready
+ready_by d l changes = record {
+  before = with_directory d.rows l;
+  after = record (with_edits (map row_edit changes) (with_directory d.rows l)) { directory = edited_rows d.edits d.rows };
+}

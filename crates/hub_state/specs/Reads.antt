@@ -167,6 +167,12 @@ meets_marked w ls c s = is_none (first_bad_marking (located ls)) && meets w ls c
 abbrev pub met_by_incident : ℕ → Case → Standing → Want → State → Bool
 met_by_incident n c s w st = option_map_or (λ (ls : Lines). meets_marked w ls c s) (document_of n st) false
 
+-- whether the incident meets the want for the person at the moment, by its case; false if either is missing
+abbrev pub met_for : ℕ → ℕ → ℤ → Want → State → Bool
+met_for person n now w st =
+    option_map_or (λ (s : Standing). option_map_or (λ (c : Case). met_by_incident n c s w st) (case_of n st) false)
+    (standing_of person n now st) false
+
 -- how an incident is listed: number, revision and source
 abbrev pub entry_of : Incident → Entry
 entry_of i = record { number = i.naming.number; revision = i.naming.revision; source = i.naming.source }

@@ -1,5 +1,6 @@
 //! Edits whose memory was taken before.
-ghost use Rattle.std.specs.Prelude.{◌≡◌, IfOk, map};
+ghost use Rattle.std.specs.Prelude.{◌≡◌, if◌then◌else◌, IfOk, map, []};
+ghost use Rattle.hub_state.specs.Bare.{bare_incident, kept_edit};
 ghost use Rattle.hub_state.specs.inner.Changes.{edit_in, row_edit, directory_edits, row_edits};
 
 use crate::copies::{copy_of_gate, copy_of_gate_key, copy_of_permission, copy_of_permission_key};
@@ -7,6 +8,7 @@ use crate::edit::Edit;
 use crate::rows::{Indexed, PlacedGate, PlacedPermission};
 use crate::state::{Gate, GateKey, Incident, Permission, PermissionKey, Recipient};
 use circle::command::RowEdit;
+use iodef_tree::{Document, Object};
 use std::alloc::{AllocError, Global};
 
 /// An edit whose memory was taken before.
@@ -37,15 +39,21 @@ pub(crate) struct Changes {
     pub(crate) rows: Vec<RowChange>,
 }
 
-/// Copies all edits. Fails if the memory doesn't suffice.
-pub(crate) fn changes_of(alloc: Global, edits: &[Edit]) -> Result<Changes, AllocError>
-    ensures directory { IfOk result (λ v. v.directory.items ≡ directory_edits edits.now) }
-    ensures rows { IfOk result (λ v. map row_edit v.rows.items ≡ row_edits edits.now) }
+/// Copies all edits, with the documents that they put or without them. Fails if the memory doesn't suffice.
+pub(crate) fn changes_of(
+    alloc: Global,
+    edits: &[Edit],
+    documents: bool,
+) -> Result<Changes, AllocError>
+    ensures directory { IfOk result (λ v. v.directory.items ≡
+        directory_edits (map (kept_edit documents) edits.now)) }
+    ensures rows { IfOk result (λ v. map row_edit v.rows.items ≡
+        row_edits (map (kept_edit documents) edits.now)) }
 {
     let mut directory = Vec::new(alloc);
     let mut rows = Vec::new(alloc);
     for edit in edits {
-        match change_of(alloc, edit)? {
+        match change_of(alloc, edit, documents)? {
             Change::Directory(row) => directory.push(row)?,
             Change::Row(row) => rows.push(row)?,
         }
@@ -53,13 +61,13 @@ pub(crate) fn changes_of(alloc: Global, edits: &[Edit]) -> Result<Changes, Alloc
     Ok(Changes { directory, rows })
 }
 
-fn change_of(alloc: Global, edit: &Edit) -> Result<Change, AllocError>
-    ensures { IfOk result (λ c. edit_in c ≡ edit.now) }
+fn change_of(alloc: Global, edit: &Edit, documents: bool) -> Result<Change, AllocError>
+    ensures { IfOk result (λ c. edit_in c ≡ kept_edit documents edit.now) }
 {
     let row = match edit {
         Edit::Directory(row) => return Ok(Change::Directory(row.clone()?)),
         Edit::PutIncident(incident) => {
-            RowChange::PutIncident(Indexed::new(copy_incident(alloc, incident)?)?)
+            RowChange::PutIncident(Indexed::new(copy_incident(alloc, incident, documents)?)?)
         }
         Edit::TakeIncident(number) => RowChange::TakeIncident(*number),
         Edit::TakePolicy(number) => RowChange::TakePolicy(*number),
@@ -75,12 +83,29 @@ fn change_of(alloc: Global, edit: &Edit) -> Result<Change, AllocError>
     Ok(Change::Row(row))
 }
 
-fn copy_incident(alloc: Global, incident: &Incident) -> Result<Incident, AllocError>
-    ensures { IfOk result (λ i. i ≡ incident.now) }
+fn copy_incident(
+    alloc: Global,
+    incident: &Incident,
+    documents: bool,
+) -> Result<Incident, AllocError>
+    ensures { IfOk result (λ i. i ≡
+        (if documents then incident.now else bare_incident incident.now)) }
 {
-    Ok(Incident {
-        naming: incident.naming.clone()?,
-        document: incident.document.copy(alloc)?,
+    let naming = incident.naming.clone()?;
+    let document = if documents {
+        incident.document.copy(alloc)?
+    } else {
+        no_document(alloc)
+    };
+    Ok(Incident { naming, document })
+}
+
+/// Returns the document without a line. Takes no memory.
+fn no_document(alloc: Global) -> Document
+    ensures { result ≡ [] }
+{
+    Document::new(Object {
+        members: Vec::new(alloc),
     })
 }
 

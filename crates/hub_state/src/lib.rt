@@ -18,9 +18,10 @@
 //!   [`Shared`], [`Ties`]); `facts_made`, the `facts` of a request, by what it names (`named_there`), how its incident
 //!   is shared (`sharing`), what was posted before (`posted_earlier`) and how many rows there would be
 //!   (`counts_then`);
-//! - `list_shelf`: [`ListShelf`], the shelf in memory, by `list_reads` and `list_look_ups`; `lists`, its lists, how
-//!   they are read (`of_incident`) and changed (`change`); `rows`, their rows, and `sorted_rows`, how rows in order are
-//!   found, put and taken;
+//! - `state_rows`: [`StateRows`], the rows of a state in memory, and [`ReadyState`], with edits for which the memory is
+//!   taken; `state_reads`, what is read of them; `lists`, their lists, how these are read (`of_incident`) and changed
+//!   (`change`); `rows`, their rows, and `sorted_rows`, how rows in order are found, put and taken;
+//! - `list_shelf`: [`ListShelf`], the shelf in memory, by `list_reads` and `list_look_ups`;
 //! - [`laws`]: the value of each limit.
 #![tactic(auto)]
 
@@ -53,6 +54,9 @@ mod small_counts;
 mod sorted_rows;
 mod standing;
 mod state;
+mod state_reads;
+mod state_rows;
+mod whole_rows;
 
 pub use bytes::Bytes;
 pub use copies::copy_of_gate;
@@ -72,6 +76,8 @@ pub use row_keys::{grantee_key, target_key};
 pub use shelf::{Shelf, ShelfFault};
 pub use standing::standing_by;
 pub use state::{Gate, GateKey, Incident, Naming, Permission, PermissionKey, Recipient};
+pub use state_rows::{ReadyState, StateRows};
+pub use whole_rows::WholeRows;
 
 /// How many incidents there may be.
 pub const INCIDENT_LIMIT: u32 = 1_000_000;

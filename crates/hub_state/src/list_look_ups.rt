@@ -2,7 +2,6 @@
 use crate::list_shelf::ListShelf;
 use crate::look_ups::{LookUps, Reader, Shared, Ties};
 use crate::recipients::Recipients;
-use crate::rows::Named;
 use crate::shelf::ShelfFault;
 use crate::state::Naming;
 use circle::command::{CircleCommand, CircleFacts};
@@ -34,51 +33,51 @@ impl LookUps for ListShelf {
         actor: &Person,
         command: &CircleCommand,
     ) -> Result<CircleFacts, ShelfFault> {
-        Ok(self.directory().facts(actor, command))
+        Ok(self.rows.directory().facts(actor, command))
     }
 
     fn person_of(&mut self, number: u32) -> Result<Option<Person>, ShelfFault> {
-        Ok(self.find_person_of(number)?)
+        Ok(self.rows.find_person_of(number)?)
     }
 
     fn has_person(&mut self, number: u32) -> Result<bool, ShelfFault> {
-        Ok(self.directory().has_person(number))
+        Ok(self.rows.directory().has_person(number))
     }
 
     fn has_org(&mut self, number: u32) -> Result<bool, ShelfFault> {
-        Ok(self.directory().has_org(number))
+        Ok(self.rows.directory().has_org(number))
     }
 
     fn has_community(&mut self, number: u32) -> Result<bool, ShelfFault> {
-        Ok(self.directory().has_community(number))
+        Ok(self.rows.directory().has_community(number))
     }
 
     fn has_membership(&mut self, community: u32, org: u32) -> Result<bool, ShelfFault> {
-        Ok(self.directory().has_membership(community, org))
+        Ok(self.rows.directory().has_membership(community, org))
     }
 
     fn has_group_member(&mut self, group: u32, org: u32) -> Result<bool, ShelfFault> {
-        Ok(self.directory().has_group_member(group, org))
+        Ok(self.rows.directory().has_group_member(group, org))
     }
 
     fn reader_of(&mut self, person: u32) -> Result<Option<Reader>, ShelfFault> {
-        Ok(self.find_reader(person)?)
+        Ok(self.rows.find_reader(person)?)
     }
 
     fn ties_of(&mut self, org: u32, source: u32, named: Option<u32>) -> Result<Ties, ShelfFault> {
-        Ok(self.ties(org, source, named))
+        Ok(self.rows.ties(org, source, named))
     }
 
     fn sharing_of(&mut self, incident: u32) -> Result<Option<Shared>, ShelfFault> {
-        Ok(self.find_shared(incident)?)
+        Ok(self.rows.find_shared(incident)?)
     }
 
     fn incident_count(&mut self) -> Result<u32, ShelfFault> {
-        Ok(ListShelf::incident_count(self))
+        Ok(self.rows.incident_count())
     }
 
     fn naming(&mut self, incident: u32) -> Result<Option<Naming>, ShelfFault> {
-        Ok(self.find_naming(incident)?)
+        Ok(self.rows.find_naming(incident)?)
     }
 
     fn stored_document(&mut self, incident: u32) -> Result<Option<Document>, ShelfFault> {
@@ -86,23 +85,18 @@ impl LookUps for ListShelf {
     }
 
     fn number_of(&mut self, source: u32, ident: &Text) -> Result<Option<u32>, ShelfFault> {
-        let name = Named {
-            source,
-            ident: ident.clone()?,
-            number: 0,
-        };
-        Ok(ListShelf::number_of(self, &name))
+        Ok(self.rows.number_of(source, ident)?)
     }
 
     fn gates_of(&mut self, incident: u32) -> Result<Gates, ShelfFault> {
-        Ok(self.case_gates(incident)?)
+        Ok(self.rows.case_gates(incident)?)
     }
 
     fn recipients_of(&mut self, incident: u32) -> Result<Recipients, ShelfFault> {
-        Ok(self.copied_recipients(incident)?)
+        Ok(self.rows.copied_recipients(incident)?)
     }
 
     fn permissions_of(&mut self, incident: u32) -> Result<Permissions, ShelfFault> {
-        Ok(self.case_permissions(incident)?)
+        Ok(self.rows.case_permissions(incident)?)
     }
 }

@@ -1,51 +1,37 @@
 //! The hub's state in memory.
-ghost use Rattle.std.specs.Prelude.{◌≡◌, OnOk, OnErr, IfOk, length, min, option_map};
-ghost use Rattle.std.specs.Option.{option_copied};
-ghost use Rattle.hub_state.specs.State.{State, empty, incident_of, incident_named, incident_number};
-ghost use Rattle.hub_state.specs.Reads.{its_gates, its_permissions, its_recipients, entries_after};
+ghost use Rattle.std.specs.Prelude.{◌≡◌, OnOk, OnErr};
+ghost use Rattle.hub_state.specs.State.{empty};
 ghost use Rattle.hub_state.specs.Edits as spec;
 ghost use Rattle.hub_state.specs.Shelves.{HasCause};
-ghost use Rattle.hub_state.specs.Sound.{IsSound};
 
-use crate::change::changes_of;
 use crate::edit::Edit;
 use crate::facts::Facts;
 use crate::facts_made::facts_by;
-use crate::lists::Lists;
-use crate::recipients::Recipients;
 use crate::reply::{Entry, JoinedGroup};
 use crate::request::Request;
-use crate::rows::Named;
 use crate::shelf::{Shelf, ShelfFault};
-use crate::small_counts::capped;
 use crate::standing::standing_by;
-use crate::state::Incident;
+use crate::state_rows::StateRows;
 use circle::directory::Person;
-use circle_rows::DirectoryRows;
 use iodef_tree::Document;
-use policy::{Case, Gates, Permissions, Standing};
+use policy::{Case, Standing};
 use redact::{Excerpt, Want};
 use std::alloc::{AllocError, Global};
 use std::marker::Model;
 
-/// A shelf that keeps the state in memory, in sorted vectors. No call returns `Failed`. That the vectors are in
-/// order is an invariant of the type; that the state is sound is part of what the shelf has.
+/// A shelf that keeps the state in memory. No call returns `Failed`. That the state is sound is part of what the shelf
+/// has.
 #[derive(Drop)]
 pub struct ListShelf {
-    alloc: Global,
-    directory: DirectoryRows,
-    lists: Lists,
+    pub(crate) rows: StateRows,
 }
 
 impl Model for ListShelf {
     ghost use Rattle.hub_state.specs.State.{State};
-    ghost use Rattle.hub_state.specs.Lists.{AreInOrder, with_directory};
 
     ghost Value = { State };
 
-    ghost view = { λ s. with_directory s.directory s.lists };
-
-    ghost invariant = { λ s. AreInOrder s.lists };
+    ghost view = { λ s. s.rows };
 }
 
 impl ListShelf {
@@ -54,79 +40,8 @@ impl ListShelf {
         ensures { result ≡ empty }
     {
         ListShelf {
-            alloc,
-            directory: DirectoryRows::new(alloc),
-            lists: Lists::new(alloc),
+            rows: StateRows::new(alloc),
         }
-    }
-
-    pub(crate) fn directory(&self) -> &DirectoryRows
-        ensures { result.now ≡ self.now.directory }
-    {
-        &self.directory
-    }
-
-    pub(crate) fn alloc(&self) -> Global {
-        self.alloc
-    }
-
-    pub(crate) fn incident(&self, number: u32) -> Option<&Incident>
-        ensures { option_copied result ≡ incident_of number self.now }
-    {
-        self.lists.incident(number)
-    }
-
-    /// How many incidents there are, at most the greatest u32.
-    pub(crate) fn incident_count(&self) -> u32
-        ensures { result ≡ min (length self.now.incidents) 4294967295 }
-    {
-        capped(self.lists.incidents.as_slice().len())
-    }
-
-    /// The number of the incident that a source has posted under an ident.
-    pub(crate) fn number_of(&self, name: &Named) -> Option<u32>
-        ensures { IsSound self.now →
-            result ≡ option_map incident_number
-            (incident_named name.now.source name.now.ident self.now) }
-    {
-        self.lists.number_of(name)
-    }
-
-    pub(crate) fn case_gates(&self, incident: u32) -> Result<Gates, AllocError>
-        ensures { IfOk result (λ v. v ≡ its_gates incident self.now.gates) }
-    {
-        self.lists.case_gates(self.alloc, incident)
-    }
-
-    pub(crate) fn copied_recipients(&self, incident: u32) -> Result<Recipients, AllocError>
-        ensures { IfOk result (λ v. v ≡ its_recipients incident self.now.recipients) }
-    {
-        self.lists.copied_recipients(self.alloc, incident)
-    }
-
-    pub(crate) fn case_permissions(&self, incident: u32) -> Result<Permissions, AllocError>
-        ensures { IfOk result (λ v. v ≡ its_permissions incident self.now.permissions) }
-    {
-        self.lists.case_permissions(self.alloc, incident)
-    }
-
-    pub(crate) fn list_after(&self, number: u32, most: u32) -> Result<Vec<Entry>, AllocError>
-        ensures { IfOk result (λ found. found.items ≡ entries_after number most self.now) }
-    {
-        self.lists.entries_after(self.alloc, number, most)
-    }
-
-    /// Makes all edits. Fails with no edit made if the memory doesn't suffice.
-    pub(crate) fn make(&mut self, edits: &[Edit]) -> Result<(), AllocError>
-        ensures made { OnOk result (self.new ≡ spec.with_edits edits.now self.old) }
-        ensures none { OnErr result (self.new ≡ self.old) }
-    {
-        // the copies and the room are taken first, so that nothing can fail once an edit is made
-        let changes = changes_of(self.alloc, edits)?;
-        self.lists.reserve(changes.rows.len())?;
-        self.directory.apply(changes.directory)?;
-        self.lists.make_all(changes.rows);
-        Ok(())
     }
 }
 
@@ -158,7 +73,7 @@ impl Shelf for ListShelf {
     }
 
     fn person_by_key(&mut self, key: &[u8; 32]) -> Result<Option<Person>, ShelfFault> {
-        Ok(self.find_person(key)?)
+        Ok(self.rows.find_person(key)?)
     }
 
     fn standing(
@@ -171,7 +86,7 @@ impl Shelf for ListShelf {
     }
 
     fn case(&mut self, incident: u32) -> Result<Option<Case>, ShelfFault> {
-        Ok(self.find_case(incident)?)
+        Ok(self.rows.find_case(incident)?)
     }
 
     fn document(&mut self, incident: u32) -> Result<Option<Document>, ShelfFault> {
@@ -198,15 +113,15 @@ impl Shelf for ListShelf {
     }
 
     fn incidents_after(&mut self, number: u32, most: u32) -> Result<Vec<Entry>, ShelfFault> {
-        Ok(self.list_after(number, most)?)
+        Ok(self.rows.list_after(number, most)?)
     }
 
     fn groups_of(&mut self, person: &Person) -> Result<Vec<JoinedGroup>, ShelfFault> {
-        Ok(self.joined_groups(person)?)
+        Ok(self.rows.joined_groups(person)?)
     }
 
     fn facts(&mut self, actor: &Person, request: &Request) -> Result<Facts, ShelfFault> {
-        let alloc = self.alloc;
+        let alloc = self.rows.alloc();
         facts_by(self, alloc, actor, request)
     }
 
@@ -217,6 +132,6 @@ impl Shelf for ListShelf {
         ensures none { OnErr result (self.new ≡ self.old) }
         ensures cause { HasCause 0 0 result }
     {
-        Ok(self.make(edits)?)
+        Ok(self.rows.make(edits)?)
     }
 }

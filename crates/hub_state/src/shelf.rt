@@ -1,10 +1,10 @@
 //! What a shelf promises: reads that are functions of the state, and edits that are made whole or not at all.
-ghost use Rattle.std.specs.Prelude.{◌≡◌, ◌⊎◌, ◌≤◌, ◌↔◌, ℕ, Option, Some, option_map, OnOk, OnErr};
+ghost use Rattle.std.specs.Prelude.{◌≡◌, false, ◌⊎◌, ◌≤◌, ◌↔◌, ℕ, Option, Some, option_map, OnOk, OnErr};
 ghost use Rattle.hub_state.specs.State.{State};
 ghost use Rattle.hub_state.specs.Edits.{with_edits as state_with_edits};
 ghost use Rattle.hub_state.specs.Sound.{IsSound};
 ghost use Rattle.hub_state.specs.Facts.{facts_of};
-ghost use Rattle.hub_state.specs.Reads.{standing_of, case_of, document_of, served_of_incident, met_by_incident, entries_after};
+ghost use Rattle.hub_state.specs.Reads.{standing_of, case_of, document_of, served_of_incident, met_by_incident, met_for, entries_after};
 ghost use Rattle.hub_state.specs.Reads as spec;
 ghost use Rattle.redact.specs.Excerpts.{told_by};
 ghost use Rattle.hub_state.specs.Shelves.{HasCause, Reads, KeepsContent};
@@ -96,6 +96,26 @@ pub trait Shelf {
     ) -> Result<bool, ShelfFault>
         ensures { Reads has doubts failed may_remain self.old self.new (λ s met. met ≡
             met_by_incident incident case standing want s) result };
+
+    /// Whether an incident may meet a want for a person at a moment, as far as it is known without the document. False
+    /// only if either is missing, or if the incident doesn't meet the want for the person's standing, by its case. By
+    /// default nothing is known.
+    fn may_meet(
+        &mut self,
+        person: u32,
+        incident: u32,
+        now: i64,
+        want: &Want,
+    ) -> Result<bool, ShelfFault>
+        ensures { Reads has doubts failed may_remain self.old self.new (λ s may.
+            may ≡ false → met_for person incident now want.now s ≡ false) result }
+    {
+        // at the last value of the count every call fails
+        if self.failures() == u64::MAX {
+            return Err(ShelfFault::Failed);
+        }
+        Ok(true)
+    }
 
     /// The first `most` incidents above a number, in the order of their numbers.
     fn incidents_after(&mut self, number: u32, most: u32) -> Result<Vec<Entry>, ShelfFault>

@@ -1,5 +1,5 @@
 -- What queries of the table of pairs show of one of its sets.
-use Rattle.std.proofs.Common.{◌≡◌, ℕ, pos, negsuc, List, [], ◌∷◌, map, filter, drop, Bool, true, false, ◌==◌, codes, Option, Some, None, nat_cmp, refl, subst, ◌∙◌}
+use Rattle.std.proofs.Common.{◌≡◌, ℕ, pos, negsuc, List, [], ◌∷◌, map, filter, drop, Bool, true, false, ◌==◌, codes, Option, Some, None, nat_cmp, refl, ap, subst, ◌∙◌}
 use Rattle.std.specs.Option.{option_to_list}
 use Rattle.std.specs.List.Sorted.{IsPermutation}
 use Rattle.std.specs.declared.cmp.Ordering.TheVariants.{Less}
@@ -22,6 +22,7 @@ use Rattle.hub_store.specs.Holdings.{holding_without_rowids}
 use Rattle.hub_store.specs.Means.{Means}
 use Rattle.hub_store.specs.Pairs.{Pair, pair_row, rows_of_pairs}
 use Rattle.hub_store.specs.inner.PairKinds.{kind_name, pairs_of, is_between, pair_between, pairs_from, pairs_to, value_shown, first_shown, second_shown}
+use Rattle.hub_store.specs.inner.Adds.{pair_shown}
 use Rattle.hub_store.specs.Rows.{pair_sets, client_pair, membership_pair, connection_pair, group_member_pair, arrangement_pair}
 use Rattle.hub_store.specs.declared.pair_kind.PairKind.{PairKind}
 use Rattle.hub_store.specs.declared.pair_kind.PairKind.TheVariants as kind
@@ -30,7 +31,9 @@ use Rattle.hub_store.proofs.Finding.{seen_through, of_elements, only_one, Once, 
 use Rattle.hub_store.proofs.Forms.{one_table, is_param, by_column, ordered_by}
 use Rattle.hub_store.proofs.Listed.{in_its_order, int_below, not_less, first_decides, next_decides}
 use Rattle.hub_store.proofs.OneKind.{kind_alone, is_of}
-use Rattle.hub_store.proofs.Puts.{past_two, past_three}
+use Rattle.hub_store.proofs.Found.{filter_all}
+use Rattle.hub_store.proofs.Placed.{int_as_nat, last_two}
+use Rattle.hub_store.proofs.Puts.{past_one, past_two, past_three}
 use Rattle.hub_store.proofs.Statements.{keeps, shows, selected}
 use Rattle.hub_store.proofs.Rising.{rising}
 use Rattle.hub_store.proofs.Places.{pair_place, pair_tree, held_of}
@@ -89,6 +92,13 @@ past_to : (params r : Row) → (eval_all (map (λ (k : Term × Key). k.0) (by_co
 past_to params [] = refl
 past_to params (x ∷ r) = refl
 
+abbrev all_out : Row → Output
+all_out r = (column r 1 ∷ column r 2 ∷ [], column r 1 ∷ column r 2 ∷ column r 3 ∷ [])
+
+past_all : (params r : Row) → (eval_all (map (λ (k : Term × Key). k.0) (by_column 2 ∷ by_column 3 ∷ [])) (params ∷ r ∷ []), shows (col 1 2 ∷ col 1 3 ∷ col 1 4 ∷ []) params r) ≡ all_out (drop 1 r)
+past_all params [] = refl
+past_all params (x ∷ r) = refl
+
 kept_to : (name : List ℕ) (b : ℕ) (r : Row) → keeps (is_param 1 0 ∷ is_param 3 1 ∷ []) (Text name ∷ Int (pos b) ∷ []) r ≡ is_of name (begins 2 (Int (pos b) ∷ [])) (drop 1 r)
 kept_to name b [] = refl
 kept_to name b (x ∷ r) = refl
@@ -129,3 +139,11 @@ module _ (db : Trees) (s : core.State) (k : PairKind) (sound : IsSound s) (means
       let params = Text (kind_name k) ∷ Int (pos b) ∷ [] in
       ordered (is_param 1 0 ∷ is_param 3 1 ∷ []) (col 1 2 ∷ col 1 4 ∷ []) (by_column 2 ∷ []) params (begins 2 (Int (pos b) ∷ [])) to_out (λ (p : Pair). p.0.1 == b) rows (kept_to (kind_name k) b) (past_to params) (λ p. and_true _ ∙ equal_numbers p.0.1 b)
       (λ p q one less other. rw (value_cmp-Int (pos p.0.0) (pos q.0.0), int_below p.0.0 q.0.0 (first_decides p.0.0 q.0.0 p.0.1 q.0.1 b one other less)) refl) answer
+
+  -- all pairs of the set, in the order of their numbers
+  pub all_shown : (rows : List Row) → IsAnswer (ordered_by (by_column 2 ∷ by_column 3 ∷ []) (one_table pair_tree (is_param 1 0 ∷ []) (col 1 2 ∷ col 1 3 ∷ col 1 4 ∷ []))) db (Text (kind_name k) ∷ []) rows → rows ≡ map pair_shown (pairs_of k s.directory)
+  all_shown rows answer =
+      let params = Text (kind_name k) ∷ [] in
+      ordered (is_param 1 0 ∷ []) (col 1 2 ∷ col 1 3 ∷ col 1 4 ∷ []) (by_column 2 ∷ by_column 3 ∷ []) params (begins 1 []) all_out (λ p. true) rows (past_one (Text (kind_name k))) (past_all params) (λ p. refl)
+      (λ p q _ less _. rw (value_cmp-Int (pos p.0.0) (pos q.0.0), value_cmp-Int (pos p.0.1) (pos q.0.1), int_as_nat p.0.0 q.0.0, int_as_nat p.0.1 q.0.1) (last_two (nat_cmp p.0.0 q.0.0) (nat_cmp p.0.1 q.0.1) less)) answer
+      ∙ ap (map pair_shown) (filter_all (pairs_of k s.directory))

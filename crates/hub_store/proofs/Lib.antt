@@ -89,3 +89,7 @@ pub mod AnyLines
 pub mod AtPlaces
 pub mod Streaming
 pub mod Probing
+pub mod Adding
+pub mod AllListed
+pub mod TextsWhole
+pub mod WholeRows

@@ -62,7 +62,7 @@ int_equal a b h = grind (arith, nat_tests)
 int_above : (a b : ℕ) → nat_cmp a b ≡ Greater → int_cmp (pos a) (pos b) ≡ Greater
 int_above a b h = grind (arith, nat_tests)
 
-int_as_nat : (a b : ℕ) → int_cmp (pos a) (pos b) ≡ nat_cmp a b
+pub int_as_nat : (a b : ℕ) → int_cmp (pos a) (pos b) ≡ nat_cmp a b
 int_as_nat a b = go (nat_cmp a b) refl
   where
     go : (c : Ordering) → nat_cmp a b ≡ c → int_cmp (pos a) (pos b) ≡ nat_cmp a b
@@ -70,7 +70,7 @@ int_as_nat a b = go (nat_cmp a b) refl
     go Equal is = int_equal a b is ∙ sym is
     go Greater is = int_above a b is ∙ sym is
 
-last_three : (o p q : Ordering) → ordering_then o (ordering_then p q) ≡ Less → ordering_then o (ordering_then p (ordering_then q Equal)) ≡ Less
+pub last_three : (o p q : Ordering) → ordering_then o (ordering_then p q) ≡ Less → ordering_then o (ordering_then p (ordering_then q Equal)) ≡ Less
 last_three Less p q h = refl
 last_three Greater p q h = absurd cc
 last_three Equal Less q h = refl
@@ -121,7 +121,7 @@ past_recipients : (params r : Row) → (eval_all (map (λ (k : Term × Key). k.0
 past_recipients params [] = refl
 past_recipients params (x ∷ r) = refl
 
-last_two : (o p : Ordering) → ordering_then o p ≡ Less → ordering_then o (ordering_then p Equal) ≡ Less
+pub last_two : (o p : Ordering) → ordering_then o p ≡ Less → ordering_then o (ordering_then p Equal) ≡ Less
 last_two Less p h = refl
 last_two Greater p h = absurd cc
 last_two Equal Less h = refl

@@ -1,3 +1,4 @@
+pub mod Adds
 pub mod Beside
 pub mod FeedsRows
 pub mod FirstShown

@@ -5,12 +5,13 @@ ghost use Rattle.sqlite_value.specs.Order.{column};
 ghost use Rattle.iodef_tree.specs.Pointer.{pointer_text};
 ghost use Rattle.iodef_tree.specs.Text.{Tokens};
 ghost use Rattle.hub_state.specs.State.{target_key, grantee_key};
+ghost use Rattle.hub_store.specs.Rows.{gate_row, recipient_row, permission_row};
 ghost use Rattle.hub_store.specs.inner.Shown.{IsShownBy, entry_shown, naming_shown, gate_shown, target_shown, permission_shown};
 ghost use Rattle.hub_store.specs.Values.{number_or_null, moment_or_null};
 
 use crate::from_row::{FromRow, NO_MEMORY, STRANGE};
 use circle::text::Text;
-use hub_state::{Entry, Naming, Target};
+use hub_state::{Entry, Naming, Recipient, Target};
 use iodef_tree::{Path, PathFault};
 use policy::{Gate, Grantee, Permission};
 use sqlite::{Error, Row};
@@ -129,6 +130,51 @@ impl FromRow for Permission {
             path: path_of(alloc, path.as_str())?,
             grantee: grantee_of(kind, row.get(2)?)?,
             until: moment_if_any(row, 3)?,
+        })
+    }
+}
+
+impl FromRow for hub_state::Gate {
+    ghost shows = { IsShownBy gate_row };
+
+    fn from_row(alloc: Global, row: &Row) -> Result<hub_state::Gate, Error> {
+        let path: String = row.get(1)?;
+        Ok(hub_state::Gate {
+            incident: row.get(0)?,
+            gate: Gate {
+                path: path_of(alloc, path.as_str())?,
+                level: level_of(row.get(2)?)?,
+                group: number_if_any(row, 3)?,
+            },
+        })
+    }
+}
+
+impl FromRow for Recipient {
+    ghost shows = { IsShownBy recipient_row };
+
+    fn from_row(_alloc: Global, row: &Row) -> Result<Recipient, Error> {
+        let kind: u32 = row.get(1)?;
+        Ok(Recipient {
+            incident: row.get(0)?,
+            target: target_of(kind, row.get(2)?)?,
+        })
+    }
+}
+
+impl FromRow for hub_state::Permission {
+    ghost shows = { IsShownBy permission_row };
+
+    fn from_row(alloc: Global, row: &Row) -> Result<hub_state::Permission, Error> {
+        let path: String = row.get(1)?;
+        let kind: u32 = row.get(2)?;
+        Ok(hub_state::Permission {
+            incident: row.get(0)?,
+            permission: Permission {
+                path: path_of(alloc, path.as_str())?,
+                grantee: grantee_of(kind, row.get(3)?)?,
+                until: moment_if_any(row, 4)?,
+            },
         })
     }
 }

@@ -19,7 +19,7 @@ pub(crate) struct Joined {
     pub(crate) extend: bool,
 }
 
-fn handling_of(number: u32) -> Result<Handling, Error>
+pub(crate) fn handling_of(number: u32) -> Result<Handling, Error>
     ensures { IfOk result (λ handling. spec.handling_number handling ≡ number) }
 {
     match number {

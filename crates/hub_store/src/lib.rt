@@ -16,14 +16,15 @@
 //! - `tables`, `to_version_2`, `remake`, `next_version`, `set_version`, `create` and `version`: a new store, the step
 //!   to each version, and the version of a store; `migrate` and `old_rows`: bringing a store of an older version to the
 //!   newest;
-//! - `pair_kind`, `numbers`, `from_row`, `person_rows`, `joined_rows`, `incident_rows`, `item_rows`: values as rows,
-//!   and rows as values;
+//! - `pair_kind`, `numbers`, `from_row`, `person_rows`, `joined_rows`, `directory_rows`, `incident_rows`, `item_rows`:
+//!   values as rows, and rows as values; `into_edit`: rows as the edits that put them;
 //! - `statement` and `query`: preparing a text and running or asking it in a transaction; `any_row`, `ask_pairs`,
 //!   `read_pairs`: queries that several of these ask;
 //! - `find_person`, `find_numbered`, `find_number`, `find_naming`, `find_document`, `find_excerpt`, `find_met`,
 //!   `find_gates`, `find_recipients`, `find_permissions`, `find_case`, `find_sharing`, `find_groups`,
 //!   `find_communities`, `find_arranged`, `find_reader`, `find_ties`, `list_entries`, `has_row`, `has_pair`,
 //!   `common_numbers`: the look-ups; `kept_reader`: what of them is kept;
+//! - `add_numbered`, `add_pairs`, `add_incidents`: each set read by one query; `find_rows`: all rows but the documents;
 //! - `feed_rows`: the lines of an incident for the pass of an excerpt, one at a time; `probe_rows`: the same for a
 //!   search, until its result is sure;
 //! - `counts`, `count_incidents`, `directory_facts`: what the facts of a request need;
@@ -33,6 +34,9 @@
 //!   how failures of the store are returned and counted; `laws`: the law of what a crash leaves.
 #![tactic(auto)]
 
+mod add_incidents;
+mod add_numbered;
+mod add_pairs;
 mod any_row;
 mod apply;
 mod ask_pairs;
@@ -42,6 +46,7 @@ mod counts;
 mod create;
 mod directory_edits;
 mod directory_facts;
+mod directory_rows;
 mod failures;
 mod feed_rows;
 mod find_arranged;
@@ -59,6 +64,7 @@ mod find_permissions;
 mod find_person;
 mod find_reader;
 mod find_recipients;
+mod find_rows;
 mod find_sharing;
 mod find_ties;
 mod from_row;
@@ -66,6 +72,7 @@ mod has_pair;
 mod has_row;
 mod incident_edits;
 mod incident_rows;
+mod into_edit;
 mod item_rows;
 mod joined_rows;
 mod kept_reader;

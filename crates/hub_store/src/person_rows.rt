@@ -10,7 +10,7 @@ use circle::name::Name;
 use sqlite::{Error, Row};
 use std::alloc::Global;
 
-fn role_of(number: u32) -> Result<Role, Error>
+pub(crate) fn role_of(number: u32) -> Result<Role, Error>
     ensures { IfOk result (λ role. spec.role_number role ≡ number) }
 {
     match number {

@@ -8,6 +8,7 @@ ghost use Rattle.hub_store.specs.Opening.{opened_as};
 mod look_ups;
 mod migrated;
 mod shelf;
+mod whole_rows;
 
 use crate::create::make_store;
 use crate::failures::fault_of;

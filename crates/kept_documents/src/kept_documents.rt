@@ -9,7 +9,9 @@ ghost use Rattle.kept_documents.specs.Kept.{AreAmong, AreDocuments, AreLight, we
 use crate::copies::{copies_for_search, copies_of};
 use crate::documents::Documents;
 use circle::directory::Person;
-use hub_state::{Edit, Entry, Facts, JoinedGroup, Request, Shelf, ShelfFault};
+use hub_state::{
+    Edit, Entry, Facts, JoinedGroup, Request, Shelf, ShelfFault, StateRows, WholeRows,
+};
 use iodef_tree::Document;
 use policy::{Case, Standing};
 use redact::{Excerpt, Want, excerpt, meets};
@@ -268,5 +270,15 @@ impl<Sh: Shelf, const MOST: usize> Shelf for KeptDocuments<Sh, MOST> {
         // before the call: whatever its outcome, no document is kept that may have changed
         self.documents.let_go(edits);
         self.shelf.apply(edits)
+    }
+}
+
+impl<Sh: WholeRows, const MOST: usize> WholeRows for KeptDocuments<Sh, MOST> {
+    fn rows(&mut self) -> Result<StateRows, ShelfFault> {
+        let found = self.shelf.rows();
+        if self.documents.give_way(&found) {
+            return self.shelf.rows();
+        }
+        found
     }
 }

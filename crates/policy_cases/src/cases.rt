@@ -22,6 +22,9 @@
 //!     probe|STANDING|GATES|PERMISSIONS|NEEDLE|CLASS   the same, in classes of this name
 //!     seek|STANDING|GATES|PERMISSIONS|LINES           what a search answers to lines and at the end, of no report
 //!     seek|STANDING|GATES|PERMISSIONS|LINES|NEEDLE    the same for a needle
+//!     sketch|STANDING|GATES|PERMISSIONS               what its sketch says: whether it may hold it, and is listed
+//!     sketch|STANDING|GATES|PERMISSIONS|NEEDLE        the same for the needle, if there is one
+//!     sketch|STANDING|GATES|PERMISSIONS|NEEDLE|CLASS  the same, in classes of this name
 //!     lists|GATES|PERMISSIONS               the gates and permissions that a case gives back
 //!     numbers|STANDING                      the groups that the reader's standing gives back
 //!     moment|TEXT                           the moment that the text says
@@ -35,6 +38,7 @@ use crate::line::Line;
 use crate::probing::{probe_of, probed, sought};
 use crate::rows::feed_words;
 use crate::served::{answer_to, asker_of};
+use crate::sketching::sketched;
 use iodef_tree::Path;
 use std::alloc::Global;
 use trying_policy::{Report, Unfit};
@@ -59,6 +63,12 @@ fn probe(report: &Report, alloc: Global, line: &Line<'_>) -> Result<String, Unfi
     probed(alloc, report.document()?, probe)
 }
 
+/// Returns what the sketch of the report says.
+fn sketch(report: &Report, alloc: Global, line: &Line<'_>) -> Result<String, Unfit> {
+    let asker = asker_of(alloc, line)?;
+    sketched(alloc, report.document()?, &asker, line.fourth, line.fifth)
+}
+
 /// Returns what a search answers to the lines.
 fn seek(alloc: Global, line: &Line<'_>) -> Result<String, Unfit> {
     let needle = line.fifth.unwrap_or("");
@@ -77,6 +87,7 @@ pub fn answer(report: &mut Report, alloc: Global, line: &str) -> Result<String, 
         "feed" => feed_words(alloc, asker_of(alloc, &line)?, line.fourth),
         "probe" => probe(report, alloc, &line),
         "seek" => seek(alloc, &line),
+        "sketch" => sketch(report, alloc, &line),
         _ => answer_alone(alloc, &line),
     }
 }

@@ -25,7 +25,7 @@ fn words_of(kind: &str) -> Option<(usize, usize)> {
         "label" => Some((2, 3)),
         "excerpt" | "listed" => Some((3, 3)),
         "decide" | "kept" | "feed" => Some((4, 4)),
-        "probe" => Some((3, 5)),
+        "probe" | "sketch" => Some((3, 5)),
         "find" | "seek" => Some((4, 5)),
         _ => None,
     }

@@ -7,7 +7,7 @@ use std::alloc::{AllocError, Global};
 use trying_policy::{Asker, Unfit};
 
 /// Returns the text, or none if it is empty.
-fn text_of(alloc: Global, word: &str) -> Result<Option<String>, AllocError> {
+pub fn text_of(alloc: Global, word: &str) -> Result<Option<String>, AllocError> {
     if word.is_empty() {
         return Ok(None);
     }

@@ -231,11 +231,16 @@ fn told_done(rt: &HostRuntime, callers: &mut Vec<TcpStream>) -> io::Result<Strin
     Ok(format!(in alloc; "{count} done\n")?)
 }
 
+/// Whether a line of an outcome says that the store was opened and served, and no fault.
+fn is_of_serving(line: &str) -> bool {
+    line == "status 0" || line == "> listening PORT" || line.starts_with("! opening")
+}
+
 /// Posts to the store. Returns how many posts are done, or the first other reply.
 pub fn post(rt: &HostRuntime, place: &Place, field: &str) -> io::Result<String> {
     let requests = posts_of(rt, field)?;
     let (told, mut callers) = served(rt, place, &requests)?;
-    if told.as_str() != "status 0\n> listening PORT\n" {
+    if !told.as_str().lines().all(is_of_serving) {
         return Ok(told);
     }
     told_done(rt, &mut callers)

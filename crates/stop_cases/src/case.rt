@@ -6,7 +6,7 @@ use crate::files::{Kept, NEVER};
 use crate::lists::are_made;
 use crate::steps::Steps;
 use crate::stops::{Case, Stops};
-use crate::stores::{Way, run_statements};
+use crate::stores::{Over, Way, run_statements};
 use hub_core::Edit;
 use std::alloc::{AllocError, Global};
 use trying_shelves::{Asked, Lists};
@@ -37,6 +37,7 @@ impl World<'_> {
             Way::Open => {
                 let steps = Steps {
                     way: Way::Make,
+                    over: Over::Tables,
                     rows: self.rows,
                     asked: self.asked,
                 };
@@ -64,7 +65,12 @@ impl World<'_> {
             Way::Open => (&[], asked),
             Way::Migrate(_) => (&[], &[]),
         };
-        Steps { way, rows, asked }
+        Steps {
+            way,
+            over: Over::Tables,
+            rows,
+            asked,
+        }
     }
 
     /// Returns what is printed for the case of a block.
@@ -81,7 +87,8 @@ impl World<'_> {
     }
 }
 
-/// Stops steps over files of these bytes. Returns what is printed for them. The hub gives the replies that are due.
+/// Stops steps over files of these bytes, and again with the rows of the store kept in memory. Returns what is printed
+/// for both. The hub gives the replies that are due.
 fn stop_all(
     alloc: Global,
     kept: &Kept,
@@ -89,10 +96,13 @@ fn stop_all(
     hub: Lists,
 ) -> Result<String, AllocError> {
     let due = due_of(alloc, &steps, hub)?;
-    let case = Case {
-        kept,
-        steps,
-        due: &due,
-    };
-    case.describe(alloc)
+    let in_tables = told_of(alloc, kept, steps, &due)?;
+    let over = Over::Rows;
+    let in_rows = told_of(alloc, kept, Steps { over, ..steps }, &due)?;
+    format!(in alloc; "{in_tables}\nwith rows in memory {in_rows}")
+}
+
+/// Returns what is printed for steps over one shelf.
+fn told_of(alloc: Global, kept: &Kept, steps: Steps<'_>, due: &Due) -> Result<String, AllocError> {
+    Case { kept, steps, due }.describe(alloc)
 }

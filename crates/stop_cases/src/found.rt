@@ -2,13 +2,14 @@
 
 use crate::content::content;
 use crate::files::{Kept, NEVER, Stopping};
-use crate::stores::{Way, shelf_in};
+use crate::stores::{Over, Way, shelf_in};
 use hub::Hub;
 use hub_core::Shelf;
 use hub_store::{OpenFault, SqlShelf};
 use sqlite::Alter;
 use sqlite_disk::Files;
 use std::alloc::{AllocError, Global};
+use trying_shelves::keep_rows;
 
 /// The replies of the store in these files to all persons; else why there is no store, if the files were opened.
 enum Look {
@@ -21,22 +22,42 @@ fn told_by<Sh: Shelf + Drop>(alloc: Global, shelf: Sh) -> Result<String, AllocEr
     content(alloc, &mut Hub::new(shelf))
 }
 
-/// Returns the same for a shelf over tables in any store.
-fn told_over<S: Alter + Drop>(alloc: Global, shelf: SqlShelf<S>) -> Result<String, AllocError> {
-    told_by(alloc, shelf)
+/// Returns the same with the rows of the shelf kept in memory.
+fn told_in_rows<S: Alter + Drop>(alloc: Global, shelf: SqlShelf<S>) -> Result<String, AllocError> {
+    match keep_rows(alloc, shelf) {
+        Ok(kept) => told_by(alloc, kept),
+        Err(_) => String::from_str(alloc, "rows that aren't read"),
+    }
 }
 
-fn look_into(alloc: Global, files: Files<Stopping>, way: Way) -> Result<Look, AllocError> {
+/// Returns the same for a shelf over tables in any store.
+fn told_over<S: Alter + Drop>(
+    alloc: Global,
+    shelf: SqlShelf<S>,
+    over: Over,
+) -> Result<String, AllocError> {
+    match over {
+        Over::Tables => told_by(alloc, shelf),
+        Over::Rows => told_in_rows(alloc, shelf),
+    }
+}
+
+fn look_into(
+    alloc: Global,
+    files: Files<Stopping>,
+    way: Way,
+    over: Over,
+) -> Result<Look, AllocError> {
     match shelf_in(alloc, files, way) {
-        Ok(shelf) => Ok(Look::Told(told_over(alloc, shelf)?)),
+        Ok(shelf) => Ok(Look::Told(told_over(alloc, shelf, over)?)),
         Err((fault, _)) => Ok(Look::Refused(fault)),
     }
 }
 
 /// Returns the same for a store that is taken in another way, behind words that say so.
-fn looked_again(alloc: Global, kept: &Kept, way: Way) -> Result<String, AllocError> {
+fn looked_again(alloc: Global, kept: &Kept, way: Way, over: Over) -> Result<String, AllocError> {
     let words = way.words(alloc)?;
-    match look_into(alloc, kept.files(alloc, NEVER)?, way)? {
+    match look_into(alloc, kept.files(alloc, NEVER)?, way, over)? {
         Look::Told(told) => format!(in alloc; "{words}{told}"),
         Look::Refused(_) => format!(in alloc; "{words}: refused"),
     }
@@ -47,19 +68,22 @@ fn tell_refused(
     alloc: Global,
     kept: &Kept,
     fault: Option<OpenFault>,
+    over: Over,
 ) -> Result<String, AllocError> {
     match fault {
-        Some(OpenFault::NotOurs) => looked_again(alloc, kept, Way::Make),
-        Some(OpenFault::WrongVersion(version)) => looked_again(alloc, kept, Way::Migrate(version)),
+        Some(OpenFault::NotOurs) => looked_again(alloc, kept, Way::Make, over),
+        Some(OpenFault::WrongVersion(version)) => {
+            looked_again(alloc, kept, Way::Migrate(version), over)
+        }
         _ => String::from_str(alloc, "a store that isn't opened"),
     }
 }
 
 /// Returns the replies of the store in files of these bytes to all persons.
-fn tell(alloc: Global, kept: &Kept) -> Result<String, AllocError> {
-    match look_into(alloc, kept.files(alloc, NEVER)?, Way::Open)? {
+fn tell(alloc: Global, kept: &Kept, over: Over) -> Result<String, AllocError> {
+    match look_into(alloc, kept.files(alloc, NEVER)?, Way::Open, over)? {
         Look::Told(told) => Ok(told),
-        Look::Refused(fault) => tell_refused(alloc, kept, fault),
+        Look::Refused(fault) => tell_refused(alloc, kept, fault, over),
     }
 }
 
@@ -74,13 +98,15 @@ struct Found {
 #[derive(Drop)]
 pub struct Finds {
     alloc: Global,
+    over: Over,
     all: Vec<Found>,
 }
 
 impl Finds {
-    pub fn new(alloc: Global) -> Finds {
+    pub fn new(alloc: Global, over: Over) -> Finds {
         Finds {
             alloc,
+            over,
             all: Vec::new(alloc),
         }
     }
@@ -106,7 +132,7 @@ impl Finds {
         if let Some(told) = self.before(&kept) {
             return String::from_str(self.alloc, told);
         }
-        let told = tell(self.alloc, &kept)?;
+        let told = tell(self.alloc, &kept, self.over)?;
         self.add(kept, told.as_str())?;
         Ok(told)
     }

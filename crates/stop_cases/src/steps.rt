@@ -1,7 +1,7 @@
-//! The steps of a case, over a shelf in memory or in files.
+//! The steps of a case, over tables in files.
 
 use crate::files::{Kept, NEVER, Stopping, take_calls};
-use crate::stores::{Stored, Way, leave, shelf_in};
+use crate::stores::{Over, Stored, Way, leave, shelf_in};
 use circle::refusal::Code;
 use hub::Hub;
 use hub_core::{Edit, Reply, Shelf};
@@ -9,12 +9,13 @@ use hub_store::SqlShelf;
 use sqlite::Alter;
 use sqlite_disk::Files;
 use std::alloc::{AllocError, Global};
-use trying_shelves::{Asked, Asks};
+use trying_shelves::{Asked, Asks, keep_rows};
 
 /// The steps: a store is taken, gets the rows that a hub begins with, if there are any, and is asked.
 #[derive(Clone, Copy)]
 pub struct Steps<'a> {
     pub way: Way,
+    pub over: Over,
     pub rows: &'a [Edit],
     pub asked: &'a [Asked],
 }
@@ -79,23 +80,45 @@ impl Steps<'_> {
             .saturating_add(self.asked.len())
     }
 
-    /// Returns how many steps are answered as done, by a shelf that is taken.
-    fn go<Sh: Shelf + Drop>(&self, alloc: Global, mut shelf: Sh) -> (usize, Sh) {
+    /// Returns how many steps are answered as done by a shelf that is taken, and whether one more was begun.
+    fn go<Sh: Shelf + Drop>(&self, alloc: Global, mut shelf: Sh) -> (usize, bool, Sh) {
         let taken = self.of_taking();
         if !self.rows.is_empty() && shelf.apply(self.rows).is_err() {
-            return (taken, shelf);
+            return (taken, true, shelf);
         }
         let mut hub = Hub::new(shelf);
         let answered = count_answered(alloc, &mut hub, self.asked);
         let done = taken
             .saturating_add(self.of_rows())
             .saturating_add(answered);
-        (done, hub.into_shelf())
+        (done, done < self.len(), hub.into_shelf())
+    }
+
+    /// Returns the same with the rows of the shelf kept in memory. If they aren't read, no step is begun.
+    fn go_in_rows<S: Alter + Drop>(
+        &self,
+        alloc: Global,
+        shelf: SqlShelf<S>,
+    ) -> (usize, bool, SqlShelf<S>) {
+        match keep_rows(alloc, shelf) {
+            Ok(kept) => {
+                let (done, is_begun, kept) = self.go(alloc, kept);
+                (done, is_begun, kept.into_shelf())
+            }
+            Err((_, shelf)) => (self.of_taking(), false, shelf),
+        }
     }
 
     /// Returns the same over tables in any store.
-    fn go_over<S: Alter + Drop>(&self, alloc: Global, shelf: SqlShelf<S>) -> (usize, SqlShelf<S>) {
-        self.go(alloc, shelf)
+    fn go_over<S: Alter + Drop>(
+        &self,
+        alloc: Global,
+        shelf: SqlShelf<S>,
+    ) -> (usize, bool, SqlShelf<S>) {
+        match self.over {
+            Over::Tables => self.go(alloc, shelf),
+            Over::Rows => self.go_in_rows(alloc, shelf),
+        }
     }
 
     /// Returns the outcome if the store wasn't taken.
@@ -110,9 +133,8 @@ impl Steps<'_> {
 
     /// Plays the steps after the taking. Returns the outcome.
     fn play_over(&self, alloc: Global, shelf: SqlShelf<Stored>) -> Played {
-        let (done, shelf) = self.go_over(alloc, shelf);
-        let is_begun = done < self.len();
-        let (is_closed, files) = leave(shelf, !is_begun);
+        let (done, is_begun, shelf) = self.go_over(alloc, shelf);
+        let (is_closed, files) = leave(shelf, done == self.len());
         end_play(done, is_begun, is_closed, files)
     }
 

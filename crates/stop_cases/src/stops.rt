@@ -224,7 +224,7 @@ fn told_of(alloc: Global, due: &Due, log: &Stops, db: &Stops) -> Result<String, 
 impl Case<'_> {
     /// Returns what is printed for a case.
     pub fn describe(&self, alloc: Global) -> Result<String, AllocError> {
-        let mut finds = Finds::new(alloc);
+        let mut finds = Finds::new(alloc, self.steps.over);
         let log = self.stops(alloc, true, &mut finds)?;
         if let Some(fault) = &log.fault {
             return format!(in alloc; "the log: {fault}");

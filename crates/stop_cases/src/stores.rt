@@ -21,6 +21,14 @@ pub enum Way {
     Migrate(u32),
 }
 
+/// The shelf over which steps are played and content is read.
+#[derive(Clone, Copy)]
+pub enum Over {
+    Tables,
+    /// Tables whose rows are kept in memory.
+    Rows,
+}
+
 impl Way {
     /// Returns the words that precede the replies of a store that had to be taken in this way.
     pub fn words(self, alloc: Global) -> Result<String, AllocError> {

@@ -1,19 +1,16 @@
-//! The answers of a program to the lines of its table.
+//! The answers to the lines of a table.
 
 use std::alloc::AllocError;
 use std::io;
-use std::io::Read;
 
-/// Prints the answer to each line of standard input. Prints a line that begins with `#` as it is, and skips an empty
-/// one.
+/// Prints the answer to each line of a table. Prints a line that begins with `#` as it is, and skips an empty one.
 pub fn print_answers<F: FnMut(&str) -> Result<String, AllocError>>(
     rt: &HostRuntime,
+    table: &str,
     mut answer: F,
 ) -> io::Result<()>
     requires { F.IsAlwaysCallable answer }
 {
-    let mut table = String::new(rt.alloc());
-    rt.reader().read_to_string(&mut table)?;
     for line in table.lines() {
         if line.starts_with('#') {
             println!(rt; "{line}")?;

@@ -198,8 +198,10 @@ INSERT INTO incident VALUES (1, '0123456789'), (2, 'é');
 INSERT INTO recipient VALUES (1), (2), (2);
 INSERT INTO pair VALUES ('m');
 """
-# 144 MiB, 220 for each of 14 rows, the texts of lines (19 bytes), and twice the paths (8) and the identities (12). docs/OPERATIONS.md, Sizes.
-NEEDED = 144 * MIB + 14 * 220 + 19 + 2 * 8 + 2 * 12
+# 144 MiB, 220 for each of 14 rows, the names of lines (6 bytes) and one and a half of each text (18); for each of 3 gates and
+# permissions 200, and for their paths 56 for each of 2 parts and four times their 8 bytes; for each of 2 incidents 700 and four times the
+# bytes of the identities (12). docs/OPERATIONS.md, Sizes.
+NEEDED = 144 * MIB + 14 * 220 + 6 + 18 + 3 * 200 + 2 * 56 + 4 * 8 + 2 * 700 + 4 * 12
 
 
 def memory() -> Checks:
@@ -210,18 +212,18 @@ def memory() -> Checks:
         with contextlib.closing(sqlite3.connect(store)) as rows:
             rows.executescript(TABLES)
         tool = DEPLOY / "lib" / "limit-memory"
-        yield same("a start needs 144 MiB, 220 bytes a row, and the texts", f"{NEEDED} 7\n", run(tool, "--needs", store).stdout)
+        yield same("a start needs 144 MiB, 220 bytes a row, the texts, and more for sketches and paths", f"{NEEDED} 8\n", run(tool, "--needs", store).stdout)
         put(store.with_name("hub.db-wal"), "x" * 1000)
-        yield same("and six times the log", f"{NEEDED + 6000} 7\n", run(tool, "--needs", store).stdout)
+        yield same("and eight times the log", f"{NEEDED + 8000} 8\n", run(tool, "--needs", store).stdout)
         own = pathlib.Path("/proc/self/cgroup").read_text()
         group = next((line[3:] for line in own.split("\n") if line.startswith("0::")), "/")
         limit, around = groups / group.strip("/") / "memory.max", {**os.environ, "IODEF_HUB_CGROUPS": str(groups)}
         start = [tool, store, "sh", "-c", "ulimit -d"]
-        for most, told in ((1024 * MIB, (0, f"{960 * 1024}\n")), (NEEDED + 6000 + 64 * MIB, (0, f"{(NEEDED + 6000) // 1024}\n"))):
+        for most, told in ((1024 * MIB, (0, f"{960 * 1024}\n")), (NEEDED + 8000 + 64 * MIB, (0, f"{(NEEDED + 8000) // 1024}\n"))):
             put(limit, f"{most}\n")
             ran = run(*start, env=around)
             yield same(f"with {most:,} bytes allowed it starts, with 64 MiB less of data", told, (ran.returncode, ran.stdout))
-        put(limit, f"{NEEDED + 5999 + 64 * MIB}\n")
+        put(limit, f"{NEEDED + 7999 + 64 * MIB}\n")
         ran = run(*start, env=around)
         said = re.sub(r"\d+", "N", ran.stderr.partition("iodef-hub: ")[2].partition(" \"[")[0])
         yield same("with one byte less it ends with status 78 and says so",

@@ -80,11 +80,11 @@ def folders() -> Checks:
     yield same("the folders of receipts are for root, and the socket's for HAProxy, too", (wanted, ""), (told.stdout, told.stderr))
 
 
-def waited(process: subprocess.Popen[bytes], port: int, most: float = 5, **user: typing.Any) -> tuple[int | None, float, str]:
-    """How wait-ready of a user ends for a process and a port within so many seconds, and after which time; None if it still waits."""
+def waited(process: subprocess.Popen[bytes], port: int, most: float = 5) -> tuple[int | None, float, str]:
+    """How wait-ready ends for a process and a port within so many seconds, and after which time; None if it still waits."""
     begun = time.monotonic()
     try:
-        ran = run("sh", LIB / "wait-ready", port, env={**os.environ, "MAINPID": str(process.pid)}, timeout=most, **user)
+        ran = run("sh", LIB / "wait-ready", port, env={**os.environ, "MAINPID": str(process.pid)}, timeout=most)
     except subprocess.TimeoutExpired:
         return None, time.monotonic() - begun, ""
     return ran.returncode, time.monotonic() - begun, ran.stderr.strip()
@@ -109,7 +109,7 @@ def ready() -> Checks:
         yield Check("a hub is waited for until it listens", "" if status == 0 and seconds > 0.5 else f"status {status} after {seconds:.1f} s")
         yield same("another port isn't the hub's", None, waited(hub, port + 1)[0])
         if nobody:
-            yield same("nor is that of another user", None, waited(other, port, **nobody)[0])
+            yield same("nor is that of another user", None, waited(other, port)[0])
     told = waited(hub, port + 1, 60)
     yield same("a hub that has ended is told so", (1, f"the hub ended before it listened on port {port + 1}"), (told[0], told[2]))
 

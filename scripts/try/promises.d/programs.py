@@ -26,7 +26,7 @@ KEY = "admin-key"
 DIGEST = hashlib.sha256(KEY.encode()).hexdigest()
 # Of a report of four texts what two readers see: behind a gate of another group; by a permission that has ended; by one of the
 # reader's group; and by the report's label alone.
-DATA = TOP / "crates" / "program_cases" / "data"
+DATA = TOP / "crates" / "test_suite" / "data"
 TEXTS = ("gated", "ended", "grouped", "plain")
 SEEN = {"view.json": ["grouped", "plain"], "view-red.json": list(TEXTS)}
 HELD = b"POST /incidents?level=3 HTTP/1.1\r\nContent-Length: 262145\r\n\r\n"

@@ -1,6 +1,6 @@
 //! `serve`: connections over a socket.
 
-use crate::store::{close, open_kept};
+use crate::store::{close_served, open_served};
 use hub::Hub;
 use hub_core::Shelf;
 use hub_service::{Fault, Status, print, serve_count};
@@ -24,7 +24,7 @@ fn serve_hub<Sh: Shelf, W: Write, E: Write>(
     Ok(serve_count(rt.alloc(), &listener, count, hub, rt, errors))
 }
 
-/// Serves `count` connections on 127.0.0.1. Fails with `Failed` if changes are in the log alone at its end.
+/// Opens the store, and serves `count` connections on 127.0.0.1. Fails with `Failed` if changes are in the log alone at its end.
 pub fn run<W: Write, E: Write>(
     rt: &HostRuntime,
     store: &str,
@@ -33,9 +33,9 @@ pub fn run<W: Write, E: Write>(
     writer: &mut W,
     errors: &mut E,
 ) -> Result<Status, Fault> {
-    let mut hub = Hub::new(open_kept(rt, store)?);
+    let mut hub = Hub::new(open_served(rt, store, errors)?);
     let outcome = serve_hub(rt, &mut hub, port, count, writer, errors);
-    let closed = close(hub.into_shelf().into_shelf());
+    let closed = close_served(hub.into_shelf());
     let status = outcome?;
     closed?;
     Ok(status)

@@ -1,8 +1,0 @@
-use Rattle.std.proofs.Common.{◌≡◌, subst}
-use Rattle.std.specs.Prelude.{IfOk}
-use Rattle.hub_state.specs.State.{State}
-use Rattle.hub_state.specs.Reads.{its_permissions}
-use Rattle.hub_state.proofs.list_shelf.ListShelf.case_permissions.Goals as goal
-
-pub returns : goal.returns
-returns c = subst (λ (s : State). IfOk c.case_permissions.result (λ v. v ≡ its_permissions c.args.incident s.permissions)) c.self.view_is c.case_permissions.ensures

@@ -1,8 +1,0 @@
-use Rattle.std.proofs.Common.{◌≡◌, subst}
-use Rattle.std.specs.Prelude.{IfOk}
-use Rattle.hub_state.specs.State.{State}
-use Rattle.hub_state.specs.Reads.{its_recipients}
-use Rattle.hub_state.proofs.list_shelf.ListShelf.copied_recipients.Goals as goal
-
-pub returns : goal.returns
-returns c = subst (λ (s : State). IfOk c.copied_recipients.result (λ v. v ≡ its_recipients c.args.incident s.recipients)) c.self.view_is c.copied_recipients.ensures

@@ -1,6 +1,0 @@
-use Rattle.std.proofs.Common.{ap}
-use Rattle.hub_state.specs.State.{State}
-use Rattle.hub_state.proofs.list_shelf.ListShelf.directory.Goals as goal
-
-pub returns : goal.returns
-returns c = ap (λ (s : State). s.directory) c.self.view_is

@@ -1,6 +1,0 @@
-use Rattle.std.proofs.Common.{◌∙◌, ap}
-use Rattle.hub_state.specs.State.{State, incident_of}
-use Rattle.hub_state.proofs.list_shelf.ListShelf.incident.Goals as goal
-
-pub returns : goal.returns
-returns c = c.incident.ensures ∙ ap (λ (s : State). incident_of c.args.number s) c.self.view_is

@@ -1,6 +1,0 @@
-use Rattle.std.proofs.Common.{◌∙◌, ap}
-use Rattle.hub_state.specs.State.{empty}
-use Rattle.hub_state.proofs.list_shelf.ListShelf.new.Goals as goal
-
-pub returns : goal.returns
-returns c = c.new-2.ensures.rows c.new.result ∙ ap (λ d. record empty { directory = d }) c.new.ensures

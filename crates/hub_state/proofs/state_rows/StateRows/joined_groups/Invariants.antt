@@ -1,0 +1,10 @@
+use Rattle.std.proofs.Common.{◌≡◌, ◌++◌, drop}
+use Rattle.std.specs.List.{filter_map}
+use Rattle.std.specs.Prelude.{option_map}
+use Rattle.circle.specs.declared.directory.GroupMember.{GroupMember}
+use Rattle.circle.specs.Reads.{group_of}
+use Rattle.hub_state.specs.Reads.{joined, groups_of}
+use Rattle.hub_state.proofs.state_rows.StateRows.joined_groups.Given as goal
+
+abbrev pub invariant-loop-member : goal.invariant-loop-member
+invariant-loop-member l = l.groups.items ++ filter_map (λ (m : GroupMember). option_map (joined m) (group_of m.group l.self.directory)) (drop l.member-index l.member-items) ≡ groups_of l.person l.self

@@ -1,0 +1,14 @@
+use Rattle.std.proofs.Common.{◌≡◌, map, ◌∙◌}
+use Rattle.sqlite_trees.proofs.ListLemmas.{map-map}
+use Rattle.hub_store.specs.Rows.{client_pair}
+use Rattle.hub_store.specs.inner.Adds.{Adds, pair_shown, client_shown, client_edit, client_edits}
+use Rattle.hub_store.specs.inner.PairKinds.{pairs_of}
+use Rattle.hub_store.specs.declared.pair_kind.PairKind.TheVariants as kind
+use Rattle.hub_store.proofs.Adding.{adds_all}
+use Rattle.hub_store.proofs.Reading.{read_made}
+use Rattle.hub_store.proofs.add_pairs.add_clients.Goals as goal
+
+pub returns-clause-read : goal.returns-clause-read
+returns-clause-read g c =
+    read_made _ _ (λ s shown. shown.items ≡ map pair_shown (pairs_of kind.Client s.directory)) (Adds client_edits c.args.rows) c.in_ok-shown.shown c.put_shown.result c.in_ok-shown.ensures.read
+    (λ s sound is. adds_all client_shown client_edit s.directory.clients c.in_ok-shown.shown.items c.args.rows c.put_shown.result (is ∙ map-map pair_shown client_pair s.directory.clients) (rw c.deref.ensures.value at c.put_shown.ensures))

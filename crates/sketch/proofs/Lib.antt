@@ -1,0 +1,9 @@
+mod Numbers
+mod Codes
+mod Sets
+mod Texts
+mod Classes
+mod Summaries
+mod Words
+mod Shown
+mod Judging

@@ -1,0 +1,11 @@
+use Rattle.std.proofs.Common.{map, ◌∙◌, ap, ◌++◌}
+use Rattle.iodef_tree.specs.View.{forest}
+use Rattle.sketch.specs.inner.Held.{shown, holdings_below}
+use Rattle.sketch.proofs.Classes.{held-all}
+use Rattle.sketch.proofs.holding.holdings.Goals as goal
+
+pub returns : goal.returns
+returns c =
+    c.in_ok-push_below.ensures
+    ∙ ap (λ xs. map shown xs ++ holdings_below (forest c.root.result.now)) c.new-held.ensures.items
+    ∙ held-all (forest c.root.result.now) c.args.document.now c.root.ensures.sound c.root.ensures.lines

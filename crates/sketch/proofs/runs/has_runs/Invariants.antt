@@ -1,0 +1,8 @@
+use Rattle.std.proofs.Common.{◌≡◌, drop}
+use Rattle.std.specs.List.{list_all}
+use Rattle.sketch.specs.Bits.{holds}
+use Rattle.sketch.specs.Runs.{runs}
+use Rattle.sketch.proofs.runs.has_runs.Given as goal
+
+abbrev pub invariant-loop-start : goal.invariant-loop-start
+invariant-loop-start l = list_all (holds l.bits) (runs (drop l.start l.text)) ≡ list_all (holds l.bits) (runs l.text)

@@ -1,0 +1,7 @@
+use Rattle.std.proofs.Common.{◌≡◌, drop}
+use Rattle.sketch.specs.Runs.{runs}
+use Rattle.sketch.specs.inner.Puts.{put_all}
+use Rattle.sketch.proofs.runs.put_runs.Given as goal
+
+abbrev pub invariant-loop-start : goal.invariant-loop-start
+invariant-loop-start l = put_all l.bits (runs (drop l.start l.text)) ≡ put_all l.fn.bits (runs l.text)

@@ -1,0 +1,112 @@
+-- What a sketch alone says of a want.
+use Rattle.std.specs.Prelude.{Bool, true, false, not, ◌&&◌, List, Option, Some, None, is_none, is_some, option_map, if◌then◌else◌, string_bytes}
+use Rattle.std.specs.List.{list_any, list_all}
+use Rattle.std.specs.Option.{option_map_or}
+use Rattle.iodef_tree.specs.Text.{Bytes, is_root}
+use Rattle.iodef_tree.specs.Paths.{located}
+use Rattle.iodef_tree.specs.declared.line.Line.{Line}
+use Rattle.marking.specs.Label.{is_at_most, by_arrangement}
+use Rattle.marking.specs.Marks.{first_bad_marking}
+use Rattle.marking.specs.declared.label.Handling.{Handling}
+use Rattle.policy.specs.Clearance.{clearance_of}
+use Rattle.policy.specs.Gates.{refusal_of_gate}
+use Rattle.policy.specs.Permissions.{holds_for}
+use Rattle.policy.specs.Verdict.{handling_for}
+use Rattle.policy.specs.declared.standing.Standing.{Standing}
+use Rattle.policy.specs.declared.gate.Gate.{Gate}
+use Rattle.policy.specs.declared.case.Case.{Case}
+use Rattle.redact.specs.Wants.{meets}
+use Rattle.redact.specs.declared.want.Want.{Want}
+use Rattle.sketch.specs.Bits.{holds}
+use Rattle.sketch.specs.Labels.{lesser}
+use Rattle.sketch.specs.Runs.{runs, number_of}
+use Rattle.sketch.specs.declared.judged.Judged.{Judged}
+use Rattle.sketch.specs.declared.judged.Judged.TheVariants.{Met, Unmet, Unsure}
+use Rattle.sketch.specs.declared.sketch.Summary.{Summary}
+use Rattle.sketch.specs.declared.sketch.Sketch.{Sketch}
+
+-- the lines meet the want for this reader, and their markings are accepted
+abbrev pub meets_marked : Want → List Line → Case → Standing → Bool
+meets_marked w ls c s = is_none (first_bad_marking (located ls)) && meets w ls c s
+
+-- ---- the words of the want
+
+-- whether the bit of each run of the needle is set; a needle of fewer than three bytes has no run
+abbrev pub has_runs : Summary → Bytes → Bool
+has_runs k needle = list_all (holds k.run_bits) (runs needle)
+
+-- whether the bit of the class's name is set, if a class is named
+abbrev pub has_name : Summary → Option Bytes → Bool
+has_name k class = option_map_or (λ name. holds k.name_bits (number_of name)) class true
+
+-- whether no run of the needle and no name is missing; without a needle the class's name counts for nothing
+abbrev pub has_words : Summary → Option Bytes → Option Bytes → Bool
+has_words k None class = true
+has_words k (Some needle) class = has_runs k needle && has_name k class
+
+-- whether somebody may be shown what the want asks for, by the words alone
+abbrev pub may_hold : Sketch → Want → Bool
+may_hold s w =
+    option_map_or (λ k. has_words k (option_map string_bytes w.needle) (option_map string_bytes w.class)) s.summary false
+
+-- ---- the case and the reader
+
+-- the least handling for a reader: that at the classes whose label isn't `default`, and if there is a `default`, that of
+-- the arrangement, or RED
+abbrev pub reader_least : Bool → Option Handling → Standing → Option Handling
+reader_least arranged least s = lesser least (if arranged then Some (handling_for s by_arrangement) else None)
+
+-- whether the reader is cleared for a handling; if there is none, it isn't
+abbrev pub is_cleared : Standing → Option Handling → Bool
+is_cleared s h = option_map_or (λ h. is_at_most h (clearance_of s).0) h false
+
+-- whether a gate refuses the reader
+abbrev pub is_refusing : Standing → Gate → Bool
+is_refusing s g = is_some (refusal_of_gate s g)
+
+-- whether a gate at the root refuses the reader
+abbrev pub is_shut : Case → Standing → Bool
+is_shut c s = list_any (λ g. is_root g.path && is_refusing s g) c.gates
+
+-- whether any gate of the case refuses the reader
+abbrev pub some_refuses : Case → Standing → Bool
+some_refuses c s = list_any (is_refusing s) c.gates
+
+-- whether a permission of the case holds for the reader
+abbrev pub some_permits : Case → Standing → Bool
+some_permits c s = list_any (holds_for s) c.permissions
+
+-- whether a reader who isn't of the source is shown some class of a document that has this least handling for the reader
+abbrev pub judged_least : Option Handling → Case → Standing → Judged
+judged_least least c s =
+    if is_shut c s then Unmet
+    else if is_cleared s least then (if some_refuses c s then Unsure else Met)
+    else if some_permits c s then Unsure
+    else Unmet
+
+-- whether the reader is shown some class
+abbrev pub judged_shown : Summary → Case → Standing → Judged
+judged_shown k c s =
+    if not k.classes then Unmet
+    else if s.source then Met
+    else judged_least (reader_least k.arranged k.least s) c s
+
+-- a needle has to be looked for in what the reader is shown
+abbrev pub looked_for : Judged → Judged
+looked_for Met = Unsure
+looked_for Unmet = Unmet
+looked_for Unsure = Unsure
+
+-- whether the want with this needle, if it has one, is met by a reader who is shown some class, or none
+abbrev pub judged_for : Option Bytes → Judged → Judged
+judged_for None v = v
+judged_for (Some needle) v = looked_for v
+
+-- the same by what is kept of a document, and by both words of the want: not met if a run or the name is missing
+abbrev pub judged_by : Summary → Case → Standing → Option Bytes → Option Bytes → Judged
+judged_by k c s needle class = if has_words k needle class then judged_for needle (judged_shown k c s) else Unmet
+
+-- What a sketch says of a want, for a case and a reader: it is met, or not, or the document has to be read.
+abbrev pub judged : Sketch → Case → Standing → Want → Judged
+judged s c r w =
+    option_map_or (λ k. judged_by k c r (option_map string_bytes w.needle) (option_map string_bytes w.class)) s.summary Unmet

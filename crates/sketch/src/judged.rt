@@ -1,0 +1,209 @@
+//! What a sketch says of a want.
+
+ghost use Rattle.std.specs.Prelude.{◌≡◌, ◌&&◌, List, true, false, option_map, string_bytes};
+ghost use Rattle.iodef_tree.specs.Text.{is_root};
+ghost use Rattle.iodef_tree.specs.declared.line.Line.{Line};
+ghost use Rattle.policy.specs.declared.standing.Standing.{Standing as TheStanding};
+ghost use Rattle.policy.specs.declared.case.Case.{Case as TheCase};
+ghost use Rattle.sketch.specs.Sketched.{IsSketchOf};
+ghost use Rattle.sketch.specs.Judged.{is_refusing, meets_marked, judged};
+ghost use Rattle.sketch.specs.Judged as spec;
+
+use crate::labels::lesser;
+use crate::runs::{has_runs, number};
+use crate::sketch::{Sketch, Summary};
+use marking::{Handling, Label};
+use policy::{Case, Gate, Standing, clearance, holds_for, passes};
+use redact::Want;
+
+/// What a sketch alone says of a want, for a case and a reader.
+#[derive(Clone, Copy)]
+pub enum Judged {
+    /// The want is met.
+    Met,
+    /// The want isn't met.
+    Unmet,
+    /// The document has to be read.
+    Unsure,
+}
+
+impl Sketch {
+    /// Returns false only if no reader's want is met: the markings aren't accepted, or the want has a needle and a
+    /// three-byte run of it, or the name of its class, is missing. Allocates nothing.
+    pub fn may_hold(&self, want: &Want) -> bool
+        ensures exact { result ≡ spec.may_hold self.now want.now }
+        ensures missing { (ls : List Line) (c : TheCase) (s : TheStanding) →
+            IsSketchOf self.now ls → result ≡ false → meets_marked want.now ls c s ≡ false }
+    {
+        match &self.summary {
+            None => false,
+            Some(summary) => has_words(summary, want),
+        }
+    }
+
+    /// Returns whether the reader's want is met, as far as the sketch alone says it. Allocates nothing.
+    pub fn judge(&self, case: &Case, standing: &Standing, want: &Want) -> Judged
+        ensures exact { result ≡ judged self.now case.now standing.entry.now want.now }
+        ensures met { (ls : List Line) → IsSketchOf self.now ls → result ≡ Judged.Met →
+            meets_marked want.now ls case.now standing.entry.now ≡ true }
+        ensures unmet { (ls : List Line) → IsSketchOf self.now ls → result ≡ Judged.Unmet →
+            meets_marked want.now ls case.now standing.entry.now ≡ false }
+    {
+        match &self.summary {
+            None => Judged::Unmet,
+            Some(summary) => judge_by(summary, case, standing, want),
+        }
+    }
+}
+
+/// Returns whether no run of the want's needle is missing, nor the name of its class.
+fn has_words(summary: &Summary, want: &Want) -> bool
+    ensures { result ≡ spec.has_words summary.now (option_map string_bytes want.now.needle)
+        (option_map string_bytes want.now.class) }
+{
+    match &want.needle {
+        None => true,
+        Some(needle) => {
+            has_runs(&summary.run_bits, needle.as_str().as_bytes())
+                && has_name(summary, &want.class)
+        }
+    }
+}
+
+/// Returns whether the name of the class isn't missing, if a class is named.
+fn has_name(summary: &Summary, class: &Option<String>) -> bool
+    ensures { result ≡ spec.has_name summary.now (option_map string_bytes class.now) }
+{
+    let Some(name) = class else {
+        return true;
+    };
+    summary.name_bits.holds(number(name.as_str().as_bytes()))
+}
+
+/// Returns whether the want is met, by what is kept of the document.
+fn judge_by(summary: &Summary, case: &Case, standing: &Standing, want: &Want) -> Judged
+    ensures { result ≡ spec.judged_by summary.now case.now standing.entry.now
+        (option_map string_bytes want.now.needle) (option_map string_bytes want.now.class) }
+{
+    if !has_words(summary, want) {
+        return Judged::Unmet;
+    }
+    let shown = judge_shown(summary, case, standing);
+    match &want.needle {
+        None => shown,
+        Some(_) => look_for(shown),
+    }
+}
+
+/// Returns what is known of a needle if this is known of all that the reader is shown.
+fn look_for(shown: Judged) -> Judged
+    ensures { result ≡ spec.looked_for shown }
+{
+    match shown {
+        Judged::Met => Judged::Unsure,
+        Judged::Unmet => Judged::Unmet,
+        Judged::Unsure => Judged::Unsure,
+    }
+}
+
+/// Returns whether the reader is shown some class.
+fn judge_shown(summary: &Summary, case: &Case, standing: &Standing) -> Judged
+    ensures { result ≡ spec.judged_shown summary.now case.now standing.entry.now }
+{
+    if !summary.classes {
+        return Judged::Unmet;
+    }
+    if standing.source {
+        return Judged::Met;
+    }
+    judge_least(reader_least(summary, standing), case, standing)
+}
+
+/// Returns whether a reader who isn't of the source is shown some class, by the least handling.
+fn judge_least(least: Option<Handling>, case: &Case, standing: &Standing) -> Judged
+    ensures { result ≡ spec.judged_least least case.now standing.entry.now }
+{
+    if is_shut(case, standing) {
+        return Judged::Unmet;
+    }
+    if is_cleared(standing, least) {
+        return if some_refuses(case, standing) {
+            Judged::Unsure
+        } else {
+            Judged::Met
+        };
+    }
+    if some_permits(case, standing) {
+        Judged::Unsure
+    } else {
+        Judged::Unmet
+    }
+}
+
+/// Returns the least handling for the reader.
+fn reader_least(summary: &Summary, standing: &Standing) -> Option<Handling>
+    ensures { result ≡ spec.reader_least summary.now.arranged summary.now.least standing.entry.now }
+{
+    if summary.arranged {
+        lesser(
+            summary.least,
+            Some(Label::Default.handling(standing.arrangement)),
+        )
+    } else {
+        lesser(summary.least, None)
+    }
+}
+
+/// Returns whether the reader is cleared for a handling, if there is one.
+fn is_cleared(standing: &Standing, handling: Option<Handling>) -> bool
+    ensures { result ≡ spec.is_cleared standing.entry.now handling }
+{
+    match handling {
+        None => false,
+        Some(handling) => handling.is_at_most(clearance(standing).0),
+    }
+}
+
+/// Returns whether the gate refuses the reader.
+fn refuses(standing: &Standing, gate: &Gate) -> bool
+    ensures { result ≡ is_refusing standing.entry.now gate.now }
+{
+    passes(standing, gate).is_err()
+}
+
+/// Returns whether the gate is at the root and refuses the reader.
+fn shuts(standing: &Standing, gate: &Gate) -> bool
+    ensures { result ≡ (is_root gate.now.path && is_refusing standing.entry.now gate.now) }
+{
+    gate.path.tokens().is_empty() && refuses(standing, gate)
+}
+
+/// Returns whether a gate at the root refuses the reader.
+fn is_shut(case: &Case, standing: &Standing) -> bool
+    ensures { result ≡ spec.is_shut case.now standing.entry.now }
+{
+    case.gates
+        .as_slice()
+        .iter()
+        .any(|gate| shuts(standing, gate))
+}
+
+/// Returns whether any gate of the case refuses the reader.
+fn some_refuses(case: &Case, standing: &Standing) -> bool
+    ensures { result ≡ spec.some_refuses case.now standing.entry.now }
+{
+    case.gates
+        .as_slice()
+        .iter()
+        .any(|gate| refuses(standing, gate))
+}
+
+/// Returns whether a permission of the case holds for the reader.
+fn some_permits(case: &Case, standing: &Standing) -> bool
+    ensures { result ≡ spec.some_permits case.now standing.entry.now }
+{
+    case.permissions
+        .as_slice()
+        .iter()
+        .any(|permission| holds_for(standing, permission))
+}
