@@ -21,7 +21,7 @@ import socket, sys, time
 end = time.monotonic() + float(sys.argv[3])
 while time.monotonic() < end:
     if sys.argv[2] == "rests":
-        time.sleep(0.1)
+        time.sleep(float(sys.argv[3]))
 listener = socket.create_server(("127.0.0.1", int(sys.argv[1])))
 time.sleep(60)
 """
