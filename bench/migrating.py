@@ -25,18 +25,8 @@ TOP = pathlib.Path(__file__).resolve().parent.parent
 sys.path.insert(0, str(TOP / "scripts"))
 import record  # noqa: E402
 
-TABLES = """
-    CREATE TABLE hub (version INTEGER NOT NULL) STRICT;
-    CREATE TABLE org (number INTEGER PRIMARY KEY, name TEXT NOT NULL UNIQUE) STRICT;
-    CREATE TABLE person (number INTEGER PRIMARY KEY, org INTEGER NOT NULL, name TEXT NOT NULL, role INTEGER NOT NULL, key BLOB NOT NULL UNIQUE, active INTEGER NOT NULL, nominated INTEGER NOT NULL) STRICT;
-    CREATE TABLE community (number INTEGER PRIMARY KEY, name TEXT NOT NULL UNIQUE) STRICT;
-    CREATE TABLE grp (number INTEGER PRIMARY KEY, owner INTEGER NOT NULL, name TEXT NOT NULL, releasability TEXT NOT NULL, active INTEGER NOT NULL, UNIQUE (owner, name)) STRICT;
-    CREATE TABLE pair (kind TEXT NOT NULL, a INTEGER NOT NULL, b INTEGER NOT NULL, value INTEGER, UNIQUE (kind, a, b), UNIQUE (kind, b, a)) STRICT;
-    CREATE TABLE gate (incident INTEGER NOT NULL, path TEXT NOT NULL, level INTEGER NOT NULL, grp INTEGER, UNIQUE (incident, path)) STRICT;
-    CREATE TABLE recipient (incident INTEGER NOT NULL, kind INTEGER NOT NULL, target INTEGER NOT NULL, UNIQUE (incident, kind, target)) STRICT;
-    CREATE TABLE permission (incident INTEGER NOT NULL, path TEXT NOT NULL, kind INTEGER NOT NULL, target INTEGER NOT NULL, UNIQUE (incident, path, kind, target)) STRICT;
-    CREATE TABLE incident (number INTEGER PRIMARY KEY, source INTEGER NOT NULL, ident TEXT NOT NULL, revision INTEGER NOT NULL, text TEXT NOT NULL, UNIQUE (source, ident)) STRICT;
-"""
+# of version 1, as the tables of cases have them
+TABLES = (TOP / "crates" / "test_suite" / "data" / "tables.sql").read_text()
 
 
 def identity(number: int) -> dict[str, str]:
