@@ -22,6 +22,8 @@ in a second one; two pairs of communities are connected. Of the reports (4 KB, 2
     post           one an organisation         50,000 reports a year of 200 organisations
     replace        one of ten posts            a report is mended once in a while
     address, grant each one of ten posts       most reports are shared by their level alone
+    sharing        each own report that is     the page asks how it is shared, once for the own communities, and again behind each
+                   opened, addressed, ..       address, grant and replace
     explain        one of ten posts            somebody asks an administrator why a class isn't shown
     person         five for 200 organisations  people come and go
     health         one a minute                the operator's monitor
@@ -87,6 +89,7 @@ MAY_BE = (200, 429, 503)
 KINDS = {
     "page": "the page, nginx alone", "me": "`/me`, `/me/groups`", "look": "a look for news", "list": "a list's page", "addressed": "addressed",
     "view": "a View", "search": "a search", "post": "a post", "replace": "a new revision", "share": "a recipient or permission",
+    "sharing": "how a report is shared, `/me/communities`",
     "explain": "an explanation", "person": "a new person", "health": "`/healthz`",
 }
 PEER_KNOWS = ("page", "look", "list", "view", "search", "post")
@@ -334,8 +337,14 @@ class Day:
         asked += [("view", f"/incidents/{number}") for number in seen[: -ROWS_IN_SIGHT - 1 : -1]]
         for at, (kind, target) in enumerate(asked):
             self.ask(kind, person, target, moment=moment + at * BETWEEN, visit=self.visits)
-        for _ in range(OPENED):
-            self.ask("view", person, f"/incidents/{self.drawn.choice(seen[-MOST_OF_LIST:])}", moment=moment + self.drawn.uniform(5, 15), visit=self.visits)
+        opened = [(moment + self.drawn.uniform(5, 15), self.drawn.choice(seen[-MOST_OF_LIST:])) for _ in range(OPENED)]
+        own = [(at, number) for at, number in opened if self.world.source[number] == org]
+        for at, number in opened:
+            self.ask("view", person, f"/incidents/{number}", moment=at, visit=self.visits)
+        if own:
+            self.ask("sharing", person, "/me/communities", moment=min(own)[0] + BETWEEN, visit=self.visits)
+        for at, number in own:
+            self.ask("sharing", person, f"/incidents/{number}/sharing", moment=at + 2 * BETWEEN, visit=self.visits)
 
     def search(self, org: int) -> None:
         needle = f"198.51.100.{self.drawn.randrange(256)}" if self.drawn.random() < 0.75 else f"192.0.2.{self.drawn.randrange(20)}"
@@ -354,20 +363,27 @@ class Day:
         self.changed.add(number)
         return number
 
+    def change(self, kind: str, person: int, number: int, target: str, method: str, body: bytes) -> None:
+        """A change of an own report, behind which the page asks how it is shared."""
+        at = self.drawn.uniform(0, self.seconds)
+        self.ask(kind, person, target, method, body, moment=at)
+        self.ask("sharing", person, f"/incidents/{number}/sharing", moment=at + BETWEEN)
+
     def replace(self, org: int) -> None:
         if number := self.unchanged(org):
             label = LABELS[self.world.report(number).template - 1]
             body = body_of(many.identity(number), label)
-            self.ask("replace", self.world.person(org, 1), f"/incidents/{number}?revision=1&level=3", "PUT", body)
+            self.change("replace", self.world.person(org, 1), number, f"/incidents/{number}?revision=1&level=3", "PUT", body)
 
     def address(self, org: int) -> None:
         if number := self.unchanged(org):
-            self.ask("share", self.world.person(org, 1), f"/incidents/{number}/address", "POST", f"org={self.drawn.choice(self.world.orgs)}".encode())
+            form = f"org={self.drawn.choice(self.world.orgs)}"
+            self.change("share", self.world.person(org, 1), number, f"/incidents/{number}/address", "POST", form.encode())
 
     def grant(self, org: int) -> None:
         if number := self.unchanged(org):
             form = f"revision=1&path=/Incident/0/EventData/3&org={self.drawn.choice(self.world.orgs)}"
-            self.ask("share", self.world.person(org, 0), f"/incidents/{number}/grant", "POST", form.encode())
+            self.change("share", self.world.person(org, 0), number, f"/incidents/{number}/grant", "POST", form.encode())
 
     def explain(self, org: int) -> None:
         words = f"person={self.reader(org)}&incident={self.drawn.randrange(1, self.world.reports + 1)}&path=/Incident/0/EventData/3"

@@ -1,6 +1,6 @@
 #!/usr/bin/env python3
-"""The instructions of one post and of one view over HTTP, by the lines of the report: what one more request costs a
-running `serve`, counted by callgrind. They are the same for the same program and report, whatever else the machine does.
+"""The instructions of one post, of one view and of what tells its source how a report is shared, over HTTP, by the lines of the report:
+what one more request costs a running `serve`, counted by callgrind. They are the same for the same program and report, whatever else the machine does.
 
 usage: bench/requests.py [--program PATH] [--events 1,20,60]
 
@@ -57,20 +57,20 @@ def instructions(program: str, store: str, count: int, asks: Callable[[int], obj
     return int(found[1].replace(",", "")) if found else 0
 
 
-def counted(program: str, made: object, events: int, posts: int, views: int) -> int:
-    """The instructions of `serve` over a new store, in which so many reports are posted and so many views are asked."""
+def counted(program: str, made: object, events: int, posts: int, reads: int, of: str = "") -> int:
+    """The instructions of `serve` over a new store, in which so many reports are posted and so many are asked for, or what is below them."""
 
     def asks(port: int) -> None:
         ask(port, made.KEY, "POST", "/persons", ("org=1&name=poster&role=poster&key=" + made.POSTER).encode())
         for number in range(1, posts + 1):
             ask(port, "poster", "POST", "/incidents?level=3", made.document(number, events))
-        for number in range(1, views + 1):
-            ask(port, "poster", "GET", f"/incidents/{number % posts + 1}")
+        for number in range(1, reads + 1):
+            ask(port, "poster", "GET", f"/incidents/{number % posts + 1}{of}")
 
     with tempfile.TemporaryDirectory() as folder:
         store = f"{folder}/hub.db"
         subprocess.run([program, "init", store, "Hub", made.DIGEST], check=True, stdout=subprocess.DEVNULL)
-        return instructions(program, store, 1 + posts + views, asks)
+        return instructions(program, store, 1 + posts + reads, asks)
 
 
 def main() -> None:
@@ -79,12 +79,14 @@ def main() -> None:
     words.add_argument("--events", default="1,20,60")
     said = words.parse_args()
     made = peer()
-    print("| `EventData` classes | Bytes | A post | A view by its source |\n|---|---|---|---|")
+    print("| `EventData` classes | Bytes | A post | A view by its source | How it is shared |\n|---|---|---|---|---|")
     for events in (int(each) for each in said.events.split(",")):
         first = counted(said.program, made, events, 1, 0)
         posts = counted(said.program, made, events, 1 + MORE, 0)
         views = counted(said.program, made, events, 1, MORE)
-        print(f"| {events} | {len(made.document(1, events)):,} | {(posts - first) / MORE / 1e6:.2f} million | {(views - first) / MORE / 1e6:.2f} million |", flush=True)
+        sharings = counted(said.program, made, events, 1, MORE, "/sharing")
+        each = " | ".join(f"{(more - first) / MORE / 1e6:.2f} million" for more in (posts, views, sharings))
+        print(f"| {events} | {len(made.document(1, events)):,} | {each} |", flush=True)
 
 
 if __name__ == "__main__":

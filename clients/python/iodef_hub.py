@@ -13,6 +13,7 @@ can't be known, MayBeTaken says what the answer to the same request means.
 from __future__ import annotations
 
 import codecs
+import copy
 import hashlib
 import http.client
 import ipaddress
@@ -156,6 +157,41 @@ class Gate:
         return f"{self.level}:{self.group}:{self.path}"
 
 
+@dataclass(frozen=True)
+class Community:
+    """A community of the caller's organisation, the numbers of its members, and of the communities that are connected to it."""
+
+    number: int
+    name: str
+    members: tuple[int, ...]
+    connected: tuple[int, ...]
+
+
+@dataclass(frozen=True)
+class Permission:
+    """A permission at a class. `until` is its end in seconds since 1970, or None; `ended` says whether the end has come."""
+
+    path: str
+    kind: str
+    target: int
+    until: int | None
+    ended: bool
+
+
+@dataclass(frozen=True)
+class Sharing:
+    """How a report of the caller's organisation is shared. The first gate is the root's, whose path is empty. A recipient is its kind and
+    its number, and `community` is 0 if none is named. `ident` is the report's IncidentID as JSON."""
+
+    number: int
+    revision: int
+    community: int
+    ident: str
+    gates: tuple[Gate, ...]
+    recipients: tuple[tuple[str, int], ...]
+    permissions: tuple[Permission, ...]
+
+
 T = TypeVar("T", int, str, bool)
 
 
@@ -219,6 +255,40 @@ def _withheld(value: object) -> Withheld:
     if not (isinstance(value, list) and len(value) == 2 and all(isinstance(each, str) for each in value)):
         raise _stranger("withheld")
     return Withheld(value[0], value[1])
+
+
+def _whole_numbers(value: object, name: str) -> tuple[int, ...]:
+    found = _list(value, name)
+    if not all(type(each) is int for each in found):
+        raise _stranger(name)
+    return tuple(found)
+
+
+def _community(value: object) -> Community:
+    return Community(
+        _member(value, "number", int), _member(value, "name", str), _whole_numbers(value, "members"), _whole_numbers(value, "connected"),
+    )
+
+
+def _row(value: object, name: str, *kinds: tuple[type, ...]) -> list[Any]:
+    """A row of an answer, whose values are of these kinds."""
+    if not (isinstance(value, list) and len(value) == len(kinds) and all(type(each) in kind for each, kind in zip(value, kinds))):
+        raise _stranger(name)
+    return value
+
+
+def _gate(value: object) -> Gate:
+    path, level, group = _row(value, "gates", (str,), (int,), (int,))
+    return Gate(level, group, path)
+
+
+def _recipient(value: object) -> tuple[str, int]:
+    kind, target = _row(value, "recipients", (str,), (int,))
+    return kind, target
+
+
+def _permission(value: object) -> Permission:
+    return Permission(*_row(value, "permissions", (str,), (str,), (int,), (int, type(None)), (bool,)))
 
 
 def new_key() -> str:
@@ -341,6 +411,11 @@ def _is_this_host(name: str) -> bool:
         return name == "localhost"
 
 
+def _check_key(key: str) -> None:
+    if not 1 <= len(key) <= 128 or not all("!" <= each <= "~" for each in key):
+        raise ValueError("a key must be 1 to 128 bytes from ! to ~")
+
+
 class Hub:
     """A hub, as the person with this key sees it. Each call is one request, except `every_..`, which makes one for each page.
 
@@ -361,8 +436,7 @@ class Hub:
             raise ValueError("a key is sent only over https, except to this host")
         if not all("!" <= each <= "~" for each in parts.path):
             raise ValueError("the path of the hub's address must be ASCII without spaces")
-        if not 1 <= len(key) <= 128 or not all("!" <= each <= "~" for each in key):
-            raise ValueError("a key must be 1 to 128 bytes from ! to ~")
+        _check_key(key)
         # Over plain HTTP the name of this host is not looked up: a key must not leave it by a strange table of names.
         self._host = "127.0.0.1" if parts.scheme == "http" and parts.hostname == "localhost" else parts.hostname
         self._port, self._path = parts.port, parts.path.rstrip("/")
@@ -373,6 +447,13 @@ class Hub:
         self._tls = ssl.create_default_context(cafile=ca) if parts.scheme == "https" else None
         self.heard = b""
         """The bytes of the newest answer's body, as received."""
+
+    def with_key(self, key: str) -> Hub:
+        """The same hub, as the person with this key sees it."""
+        _check_key(key)
+        other = copy.copy(self)
+        other._key, other.heard = key, b""
+        return other
 
     def _connection(self) -> http.client.HTTPConnection:
         if self._tls:
@@ -479,6 +560,19 @@ class Hub:
         """The sharing groups of the caller's organisation."""
         return tuple(_group(each) for each in _list(self._ask("GET", "/me/groups"), "groups"))
 
+    def communities(self) -> tuple[Community, ...]:
+        """The communities of the caller's organisation, with their members and the communities that are connected to them."""
+        return tuple(_community(each) for each in _list(self._ask("GET", "/me/communities"), "communities"))
+
+    def sharing(self, number: int) -> Sharing:
+        """How a report of the caller's organisation is shared: its gates, its recipients, and its permissions, ended ones too."""
+        value = self._ask("GET", f"/incidents/{number}/sharing")
+        return Sharing(
+            _member(value, "number", int), _member(value, "revision", int), _member(value, "community", int), _member(value, "ident", str),
+            tuple(map(_gate, _list(value, "gates"))), tuple(map(_recipient, _list(value, "recipients"))),
+            tuple(map(_permission, _list(value, "permissions"))),
+        )
+
     def addressed(self, after: int = 0) -> tuple[Entry, ...]:
         """The first 100 incidents above a number that address the caller or its organisation."""
         return _page(self._ask("GET", "/me/addressed", [("after", after)]))
@@ -514,6 +608,12 @@ class Hub:
     def every_found(self, needle: str, class_name: str | None = None, after: int = 0) -> Iterator[Entry]:
         """Yields each incident above a number in which a class that the caller may read holds a text."""
         return _every(lambda last: self.search(needle, class_name, last), after)
+
+    # The own key, by every active person
+
+    def new_key(self, digest: str) -> None:
+        """Exchanges the caller's key for the one with this digest. This Hub keeps the old key, which is nobody's then."""
+        self._do("/me/key", "K1 means that it was done, so ask with the new key", ("key", digest))
 
     # Reports, by a poster or a coordinator
 

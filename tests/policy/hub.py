@@ -29,6 +29,8 @@ CODES = {
 NAME, RELEASABILITY, NEEDLE = 128, 512, 256
 CLASS_GATES, RECIPIENTS, PERMISSIONS, LISTED = 16, 64, 64, 100
 ORGS, COMMUNITIES, GROUPS = 1000, 1000, 1000
+# In the order of HTTP, "GET /incidents/{number}/sharing"
+KINDS = ("person", "org", "community", "group")
 
 
 class Refusal(Exception):
@@ -161,7 +163,7 @@ class Asked:
         return self.given.get(name)
 
     def grantee(self) -> tuple[str, int]:
-        return next((each, self.given[each]) for each in ("person", "org", "community", "group") if each in self.given)
+        return next((each, self.given[each]) for each in KINDS if each in self.given)
 
 
 DONE = {"done": True}
@@ -240,6 +242,37 @@ def my_groups(hub: Hub, asked: Asked) -> dict[str, Any]:
             }
             for number, each in own
         ]
+    }
+
+
+def my_communities(hub: Hub, asked: Asked) -> dict[str, Any]:
+    return {
+        "communities": [
+            {
+                "connected": [each for each in hub.communities if (number, each) in hub.links or (each, number) in hub.links],
+                "members": [each for each in hub.orgs if (number, each) in hub.members],
+                "name": hub.communities[number],
+                "number": number,
+            }
+            for number in hub.communities_of(asked.org)
+        ]
+    }
+
+
+def sharing(hub: Hub, asked: Asked) -> dict[str, Any]:
+    """Paths are compared byte by byte. A permission covers before its end."""
+    incident = own_incident(hub, asked)
+    gates = sorted(incident.gates.items(), key=lambda each: each[0].encode())
+    permissions = sorted(incident.permissions.items(), key=lambda each: (each[0][0].encode(), KINDS.index(each[0][1]), each[0][2]))
+    recipients = sorted(incident.recipients, key=lambda each: (KINDS.index(each[0]), each[1]))
+    return {
+        "community": incident.community or 0,
+        "gates": [[path, gate.level, gate.group] for path, gate in gates],
+        "ident": incident.identifier,
+        "number": asked["number"],
+        "permissions": [[*key, until, until is not None and asked.now >= until] for key, until in permissions],
+        "recipients": [list(each) for each in recipients],
+        "revision": incident.revision,
     }
 
 
@@ -397,6 +430,16 @@ def withdraw(hub: Hub, asked: Asked) -> dict[str, Any]:
     return DONE
 
 
+# The own key
+
+
+def new_key(hub: Hub, asked: Asked) -> dict[str, Any]:
+    """A key that any person has is taken, also the caller's and one of somebody who is suspended."""
+    refuse_if(any(each.key == asked["key"].lower() for each in hub.persons.values()), "S1")
+    hub.persons[asked.caller].key = asked["key"].lower()
+    return DONE
+
+
 # The directory
 
 
@@ -542,6 +585,9 @@ REQUESTS: dict[str, Callable[[Hub, Asked], dict[str, Any]]] = {
     "Search": search,
     "Addressed": addressed,
     "MyGroups": my_groups,
+    "MyCommunities": my_communities,
+    "Sharing": sharing,
+    "NewKey": new_key,
     "WhoAmI": who_am_i,
     "Explain": explain,
     "Post": post,
@@ -574,7 +620,7 @@ REQUESTS: dict[str, Callable[[Hub, Asked], dict[str, Any]]] = {
 # Who may do what (POLICY, "Who is who" and "Requests and refusals")
 EVERYBODY = ("reader", "poster", "coordinator", "administrator")
 ROLES = {
-    EVERYBODY: {"View", "List", "Search", "Addressed", "MyGroups", "WhoAmI"},
+    EVERYBODY: {"View", "List", "Search", "Addressed", "MyGroups", "MyCommunities", "Sharing", "NewKey", "WhoAmI"},
     ("poster", "coordinator"): {"Post", "Replace", "Redistribute", "Address", "Unaddress", "Grant", "Withdraw"},
     ("administrator",): {
         "Explain",

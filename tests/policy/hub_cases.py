@@ -59,6 +59,9 @@ ROUTES: dict[str, tuple[str, str, str]] = {
     "Search": ("GET", "/search", "query"),
     "Addressed": ("GET", "/me/addressed", "query"),
     "MyGroups": ("GET", "/me/groups", "query"),
+    "MyCommunities": ("GET", "/me/communities", "query"),
+    "Sharing": ("GET", "/incidents/{number}/sharing", "query"),
+    "NewKey": ("POST", "/me/key", "form"),
     "WhoAmI": ("GET", "/me", "query"),
     "Explain": ("GET", "/explain", "query"),
     "Post": ("POST", "/incidents", "query"),
@@ -142,7 +145,7 @@ def sent(by: int, request: str, given: Json) -> Json:
 
 
 class Talk:
-    """Requests of one case, answered one after the other."""
+    """Requests of one case, answered one after the other; each by the key of a number, which is that of a person who hasn't exchanged it."""
 
     def __init__(self, hub: Hub) -> None:
         self.hub, self.requests = copy.deepcopy(hub), list[Json]()
@@ -213,7 +216,9 @@ def shared(draws: Draws, hub: Hub) -> Json:
         needle=draws.one(("needle", "creator", "x")),
         **({"class": draws.one(("Contact", "Email"))} if draws.chance(1, 2) else {}),
     )
-    talk.ask(person, draws.one(("List", "Addressed", "MyGroups")))
+    talk.ask(person, draws.one(("List", "Addressed", "MyGroups", "MyCommunities")))
+    for person in (by, draws.one((1, 2, 9, 10)), draws.one((3, 8, 11, 16))):
+        talk.ask(person, "Sharing", number=1)
     return {"requests": talk.requests}
 
 
@@ -332,7 +337,9 @@ CALLERS: dict[str, tuple[int, ...]] = {
     "AddPerson": (1, 1, 1, 16, 2),
     "SuspendPerson": (1, 1, 16, 1, 2),
     **{each: (2, 2, 2, 2, 10, 2, 3, 1) for each in ("Post", "Replace", "Redistribute", "Address", "Unaddress", "Grant", "Withdraw")},
-    **{each: (2, 3, 4, 8, 11, 13, 1) for each in ("View", "List", "Search", "Addressed", "MyGroups", "WhoAmI")},
+    **{each: (2, 3, 4, 8, 11, 13, 1) for each in ("View", "List", "Search", "Addressed", "MyGroups", "MyCommunities", "WhoAmI")},
+    "Sharing": (2, 2, 9, 10, 3, 11, 1, 16),
+    "NewKey": (8, 9, 12, 13, 14),
 }
 DRAWN = (
     *ROUTES,
@@ -367,6 +374,9 @@ def any_request(draws: Draws, talk: Talk) -> None:
         "List": {"after": draws.one((None, 0, 1, 7))},
         "Addressed": {"after": draws.one((None, 1))},
         "MyGroups": {},
+        "MyCommunities": {},
+        "Sharing": {"number": number},
+        "NewKey": {"key": digest(key_of(draws.one((3, 15, 8, 20, 21, 22, 23))))},
         "WhoAmI": {},
         "Search": {
             "needle": draws.one(("needle", "creator", "", "x" * 256, "x" * 257, "a")),
@@ -546,6 +556,85 @@ def directed(hub: Hub) -> Iterator[Json]:
         talk.ask(1, "AddCommunity", name=name)
         talk.ask(2, "NewGroup", name=name, releasability=name)
     yield {"requests": talk.requests}
+    yield told_to_the_source(hub)
+    yield communities_told(hub)
+    yield keys_exchanged(hub)
+
+
+def told_to_the_source(hub: Hub) -> Json:
+    """How a report is shared, by each change of it, asked by each role of its source and by all others."""
+    talk = Talk(hub)
+    body = reports.compact(report(incident([{"Email": [{}]}, {}], restriction="green"))).encode()
+    talk.ask(2, "Post", report=body, level=4, group=1, community=1, gates=[(5, None, PATHS[3]), (0, None, PATHS[4])])
+    talk.ask(3, "Post", report=body, level=3)
+    talk.ask(2, "Sharing", number=1)
+    for until, given in enumerate(({"group": 3}, {"org": 4}, {"community": 2}, {"person": 11}, {"person": 4}, {"org": 3}, {"group": 1})):
+        for path in (PATHS[3], PATHS[1], PATHS[4]):
+            talk.ask(2, "Grant", number=1, revision=1, path=path, until=(None, *ENDS)[until % 5], **given)
+    for given in ({"org": 8}, {"person": 14}, {"org": 3}, {"person": 4}, {"person": 1}):
+        talk.ask(10, "Address", number=1, **given)
+    for person in range(17):
+        talk.ask(person, "Sharing", number=1)
+    talk.ask(1, "Leave", number=1, org=2)
+    talk.ask(2, "GroupActive", number=1, active=0)
+    talk.ask(2, "Withdraw", number=1, path=PATHS[1], org=4)
+    talk.ask(2, "Grant", number=1, revision=1, path=PATHS[1], org=3, until=ENDS[0])
+    talk.ask(2, "Unaddress", number=1, org=3)
+    talk.ask(2, "Redistribute", number=1, revision=1, path="", level=0)
+    talk.ask(2, "Redistribute", number=1, revision=1, path=PATHS[0], level=4, group=3)
+    talk.ask(9, "Sharing", number=1)
+    talk.ask(2, "Replace", number=1, revision=1, report=body, level=2)
+    talk.ask(2, "Sharing", number=1)
+    for number in (0, 2, 3):
+        talk.ask(2, "Sharing", number=number)
+    return {"requests": talk.requests}
+
+
+def communities_told(hub: Hub) -> Json:
+    """The own communities, by each change of them."""
+    talk = Talk(hub)
+    for person in (2, 3, 4, 8, 1, 15, 0):
+        talk.ask(person, "MyCommunities")
+    for request, given in (
+        ("Join", {"number": 3, "org": 3}),
+        ("Join", {"number": 1, "org": 8}),
+        ("Link", {"number": 2, "other": 1}),
+        ("Link", {"number": 4, "other": 3}),
+        ("AddCommunity", {"name": "\u00e9 \"5\""}),
+        ("Join", {"number": 5, "org": 2}),
+        ("Link", {"number": 5, "other": 2}),
+    ):
+        talk.ask(1, request, **given)
+        for person in (2, 3, 8):
+            talk.ask(person, "MyCommunities")
+    for request, given in (("Unlink", {"number": 3, "other": 1}), ("Leave", {"number": 2, "org": 3}), ("Leave", {"number": 1, "org": 2})):
+        talk.ask(1, request, **given)
+        for person in (9, 11, 5):
+            talk.ask(person, "MyCommunities")
+    return {"requests": talk.requests}
+
+
+def keys_exchanged(hub: Hub) -> Json:
+    """The own key, exchanged by each role, for one that is free, taken or one's own; who asks by an old one, and who may have it."""
+    talk = Talk(hub)
+    for by, new in ((1, 21), (2, 22), (8, 23), (10, 24), (23, 25), (25, 8)):
+        talk.ask(by, "NewKey", key=digest(key_of(new)))
+        for each in (by, new):
+            talk.ask(each, "WhoAmI")
+    for by, new in ((22, 22), (22, 3), (22, 15), (15, 26), (0, 26), (22, 2), (3, 22), (3, 1)):
+        talk.ask(by, "NewKey", key=digest(key_of(new)))
+        talk.ask(by, "WhoAmI")
+    talk.ask(11, "NewKey", key=digest(key_of(27)).upper())
+    for by in (27, 11, 1, 3):
+        talk.ask(by, "WhoAmI")
+    talk.ask(21, "AddPerson", org=3, name="Pia", role="reader", key=digest(key_of(27)))
+    talk.ask(21, "AddPerson", org=3, name="Pia", role="reader", key=digest(key_of(11)))
+    talk.ask(11, "WhoAmI")
+    talk.ask(21, "SuspendPerson", number=3)
+    for by, new in ((1, 28), (28, 29), (4, 1)):
+        talk.ask(by, "NewKey", key=digest(key_of(new)))
+        talk.ask(new, "WhoAmI")
+    return {"requests": talk.requests}
 
 
 def all_cases(draws: Draws, count: int) -> Iterator[Json]:

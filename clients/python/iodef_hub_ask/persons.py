@@ -1,15 +1,80 @@
-"""The command that adds a person, with a key that is never lost and never shown twice."""
+"""The commands that add a person and exchange a key: a key is never lost, and never shown twice."""
 from __future__ import annotations
 
 import argparse
 import os
 import sys
 
-from iodef_hub import Hub, HubError, MayBeTaken, digest_of, new_key
+from iodef_hub import Hub, HubError, MayBeTaken, Refused, digest_of, new_key
 
 from .characters import shown
+from .reading import key_of
 from .sharing import check_circle
 from .telling import Teller
+
+
+TAKEN = b'{"done":true}'  # the answer to a change
+
+
+def write_key(name: str, key: str) -> None:
+    """Writes a key before it is sent, so that one which was taken is never lost; a file that is there stays as it is."""
+    with os.fdopen(os.open(name, os.O_WRONLY | os.O_CREAT | os.O_EXCL, 0o600), "w") as file:
+        file.write(key + "\n")
+        file.flush()
+        os.fsync(file.fileno())
+
+
+def is_taken(hub: Hub, key: str) -> bool:
+    """Whether the hub knows the caller by this key."""
+    try:
+        hub.with_key(key).me()
+    except Refused as fault:
+        if fault.code != "K1":
+            raise
+        return False
+    return True
+
+
+def key_to_take(given: argparse.Namespace) -> str:
+    """A new key, written into its file; with --made the one that is there."""
+    if given.made:
+        return key_of({"IODEF_HUB_KEY_FILE": given.key_file})
+    key = new_key()
+    write_key(given.key_file, key)
+    return key
+
+
+def exchange(hub: Hub, key: str) -> bytes:
+    """Sends the digest of a new key, and returns the hub's answer. If that is lost, the key itself says whether it was taken."""
+    try:
+        hub.new_key(digest_of(key))
+        return hub.heard
+    except MayBeTaken as fault:
+        try:
+            taken = is_taken(hub, key)
+        except HubError:
+            raise fault from None
+        if not taken:
+            raise
+        return TAKEN
+
+
+def do_new_key(hub: Hub, given: argparse.Namespace, teller: Teller) -> None:
+    """Says that the old key is nobody's only when the hub has answered a request with the new one. Each hub of a circle gets the same key,
+    whose file goes only if no hub may have taken it."""
+    is_first = given.fresh is None
+    if is_first:
+        given.fresh = key_to_take(given)
+    try:
+        answer = TAKEN if given.made and is_taken(hub, given.fresh) else exchange(hub, given.fresh)
+    except HubError as fault:
+        if is_first and not given.made and not isinstance(fault, MayBeTaken):
+            os.unlink(given.key_file)
+            given.fresh = None
+        raise
+    if not is_taken(hub, given.fresh):
+        raise HubError("K1", f"the hub took the new key and doesn't know it: keep both, the new one is in {given.key_file}")
+    teller.tell_change(answer, f"your key is the one in {given.key_file}; the old one is nobody's")
 
 
 def do_add_person(hub: Hub, given: argparse.Namespace, teller: Teller) -> None:
@@ -20,11 +85,7 @@ def do_add_person(hub: Hub, given: argparse.Namespace, teller: Teller) -> None:
         return
     key = new_key()
     if given.key_file is not None:
-        # Before it is sent, so that a key which was taken is never lost; a file that is there stays as it is.
-        with os.fdopen(os.open(given.key_file, os.O_WRONLY | os.O_CREAT | os.O_EXCL, 0o600), "w") as file:
-            file.write(key + "\n")
-            file.flush()
-            os.fsync(file.fileno())
+        write_key(given.key_file, key)
     try:
         made = hub.add_person(given.org, given.name, given.role, digest_of(key))
     except MayBeTaken:

@@ -13,11 +13,12 @@ from iodef_hub import GRANTEES, HANDLINGS, RECIPIENTS, ROLES, Entry, Hub, HubErr
 
 from .characters import shown, shown_json
 from .looking import do_indicators, do_show
-from .persons import do_add_person
+from .persons import do_add_person, do_new_key
 from .posting import do_post, do_post_all, do_replace
 from .preview import do_preview
 from .readers import READER_HELP
 from .reading import gate, key_of, moment, number, place
+from .shared import do_sharing, do_withdraw_ended
 from .sharing import LEVELS, changing, check_circle, do_address, do_grant, do_redistribute, do_unaddress, do_withdraw
 from .telling import Teller, Undone, Usage, names_of, warn
 from .watch import do_watch
@@ -64,7 +65,9 @@ HELPS = {
 DEFAULT_URL = "http://127.0.0.1:8080"
 
 # What the commands do if there are several hubs. Those of an incident ask its hub, and all that aren't here ask each hub in turn.
-AT_INCIDENT = {"show", "indicators", "why", "replace", "redistribute", "address", "unaddress", "grant", "withdraw"}
+AT_INCIDENT = {
+    "show", "indicators", "why", "replace", "redistribute", "address", "unaddress", "grant", "withdraw", "sharing", "withdraw-ended",
+}
 AT_NEWEST = {"post", "post-all"}
 LISTS = {"list", "addressed", "find"}
 NUMBERING = {"add-org", "add-person", "add-community", "new-group"}
@@ -128,6 +131,12 @@ class Words:
         self.add("me", told(lambda hub, given: [shown_json(asdict(hub.me()))]), "who the hub says you are")
         self.add("groups", told(lambda hub, given: [shown(json.dumps(asdict(each), ensure_ascii=False)) for each in hub.groups()]),
                  "the sharing groups of your organisation")
+        self.add("communities", told(lambda hub, given: [shown(json.dumps(asdict(each), ensure_ascii=False)) for each in hub.communities()]),
+                 "the communities of your organisation, their members, and the communities connected to them")
+        fresh = self.add("new-key", do_new_key, "exchanges your key for a new one, and asks the hub with it")
+        fresh.add_argument("--key-file", required=True, help="write the new key into this file, which must not exist")
+        fresh.add_argument("--made", action="store_true", help="the file has the new key already, such as for a hub that lacks it")
+        fresh.set_defaults(fresh=None)
         self.add("list", listed(lambda hub, given, after: hub.incidents(after)), "the incidents of which you may see something")
         self.add("addressed", listed(lambda hub, given, after: hub.addressed(after)), "the incidents that address you or your organisation")
         self.add("show", do_show, "what you may see of an incident; standard error lists what is withheld", "number")
@@ -187,6 +196,10 @@ class Words:
         for made, what in ((redistribute, "a level other than 0 at the root or at the Incident"), (grant, "a permission of the Incident itself")):
             made.add_argument("--whole-incident", action="store_true", help=f"required for {what}")
         self.add("withdraw", do_withdraw, "removes a permission", "number", "path", "grantee", "target")
+        self.add("sharing", do_sharing, "how a report of your organisation is shared: gates, labels, recipients and permissions; or what"
+                 " opens one class of it", "number", "path?").add_argument(
+            "--ended", action="store_true", help="also the permissions that have ended")
+        self.add("withdraw-ended", do_withdraw_ended, "removes the permissions that have ended, looking again before each", "number")
 
     def add_circle(self) -> None:
         self.add("why", told(lambda hub, given: [shown(each) for each in hub.explain(given.person, given.number, given.path).splitlines()]),
@@ -336,6 +349,8 @@ def run_at_each(words: Words, given: argparse.Namespace, hubs: Hubs) -> int:
                 if numbers and given.command == "add-person":
                     print(f"iodef-hub-ask: for the hubs that lack the person, run this again with --digest {given.digest}", file=sys.stderr)
                 return status
+    if given.command == "new-key" and status and numbers:
+        print("iodef-hub-ask: for the hubs that lack the new key, run this again with the old key and --made", file=sys.stderr)
     if given.command in NUMBERING and len(set(numbers.values())) > 1:
         print("iodef-hub-ask: the hubs gave different numbers, so a number doesn't mean the same at each hub", file=sys.stderr)
         status = status or 1

@@ -11,9 +11,10 @@ use hub_http::reply_bytes;
 use std::alloc::{AllocError, Global};
 use trying_hub::{Fields, key_of, request_of};
 
-/// The questions about incidents, the reader's groups and itself, with 0 before them. Then the requests that are
-/// refused about an incident of another organisation, with the incident's number before them.
-const LINES: [(u32, &str); 22] = [
+/// The questions about incidents, the reader's groups, communities and itself, and a new key that is person 1's, with 0
+/// before them. Then the requests that are refused about an incident of another organisation, with the number of the
+/// incident before them.
+const LINES: [(u32, &str); 29] = [
     (0, "View|1"),
     (0, "View|2"),
     (0, "View|3"),
@@ -28,8 +29,15 @@ const LINES: [(u32, &str); 22] = [
     (0, "Search|needle|Incident|0"),
     (0, "Search|private|-|0"),
     (0, "Addressed|0"),
+    (0, "Sharing|1"),
+    (0, "Sharing|2"),
+    (0, "Sharing|3"),
+    (0, "Sharing|4"),
+    (0, "Sharing|5"),
     (0, "MyGroups"),
+    (0, "MyCommunities"),
     (0, "WhoAmI"),
+    (0, "NewKey|1"),
     (1, "Grant|1|1|/Incident/0|org 2"),
     (2, "Withdraw|2|/Incident/0|org 2"),
     (1, "Redistribute|1|1|/Incident/0/EventData/0|3|-"),

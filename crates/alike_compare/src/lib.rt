@@ -8,7 +8,8 @@
 //! - rows that are for others.
 //!
 //! A step may leave one premise out, and then the next step begins at the same world. In each pair the reader asks all
-//! questions about incidents, its groups and itself, and makes some requests that are refused.
+//! questions about incidents, how each is shared, its groups, its communities and itself, and makes some requests that
+//! are refused, one of them for a new key.
 //!
 //! The step and a plain judge of each class decide whether a premise holds, over the rows of which the world is made.
 //! They also decide what the reader must learn. A pair is printed with the question and both replies, and nothing else

@@ -3,9 +3,9 @@
 use crate::asking::{Question, answers};
 use crate::fault::Fault;
 use crate::reader::Reader;
-use crate::row_steps::other_rows;
+use crate::row_steps::{other_own_rows, other_rows};
 use crate::rows::{World, number_at};
-use crate::steps::{Change, any_foreign, other_class, other_incident, other_lines};
+use crate::steps::{Change, any_incident, other_class, other_incident, other_lines};
 use crate::told::{told_in, written_in};
 use crate::worlds::any_world;
 use std::alloc::{AllocError, Global};
@@ -49,9 +49,13 @@ fn any_change(
     world: &World,
     reader: Reader<'_>,
 ) -> Result<Option<Change>, AllocError> {
-    let Some(at) = any_foreign(alloc, dice, world, reader)? else {
+    let is_own = dice.once_in(11);
+    let Some(at) = any_incident(alloc, dice, world, reader, is_own)? else {
         return Ok(None);
     };
+    if is_own {
+        return other_own_rows(dice, world, reader, at);
+    }
     match dice.roll(10) {
         0..=2 => other_lines(alloc, dice, world, reader, at),
         3..=5 => other_class(alloc, dice, world, reader, at),
@@ -117,6 +121,18 @@ impl<'a> Asker<'a> {
         }
     }
 
+    /// Returns whether an incident is of the person's organisation.
+    fn is_source(&self, asked: &Asked) -> bool {
+        match Reader::of(&asked.world, self.who) {
+            Some(reader) => asked
+                .world
+                .reports
+                .iter()
+                .any(|report| reader.is_source(report)),
+            None => false,
+        }
+    }
+
     fn count(
         &self,
         tally: &mut Tally,
@@ -127,6 +143,9 @@ impl<'a> Asker<'a> {
         tally.note(kind, "pairs")?;
         if self.is_served(one) {
             tally.note(kind, "something seen")?;
+        }
+        if self.is_source(one) {
+            tally.note(kind, "an own report")?;
         }
         if one.told != other.told {
             tally.note(kind, "had to differ")?;

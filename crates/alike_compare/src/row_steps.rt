@@ -24,6 +24,8 @@ pub const MEMBER: &str = "but a membership of the reader's organisation in a gro
 
 pub const DIRECTORY: &str = "but a row of the directory that is for nobody alone";
 
+pub const OWN: &str = "but of a report of the reader's organisation";
+
 /// The greatest number of persons before one is put in.
 const MANY: u32 = 12;
 
@@ -224,6 +226,26 @@ fn turn_row(
             Ok(Some(DIRECTORY))
         }
     }
+}
+
+/// Returns a change of a permission or a recipient of the reader's own report at this place.
+pub fn other_own_rows(
+    dice: &mut Dice,
+    world: &World,
+    reader: Reader<'_>,
+    at: usize,
+) -> Result<Option<Change>, AllocError> {
+    let mut after = world.clone()?;
+    if dice.once_in(3) {
+        turn_recipient(dice, &mut after, reader, at)?;
+    } else {
+        turn_permission(dice, &mut after, reader, at)?;
+    }
+    Ok(Some(Change {
+        world: after,
+        step: ROWS,
+        left_out: Some(OWN),
+    }))
 }
 
 /// Returns a change of a row, of the incident at this place or of the directory.

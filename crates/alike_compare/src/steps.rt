@@ -48,16 +48,17 @@ struct Cut {
     put: Vec<Class>,
 }
 
-/// Returns the place of an incident that isn't of the reader's organisation.
-pub fn any_foreign(
+/// Returns the place of an incident that is of the reader's organisation, or that isn't.
+pub fn any_incident(
     alloc: Global,
     dice: &mut Dice,
     world: &World,
     reader: Reader<'_>,
+    is_own: bool,
 ) -> Result<Option<usize>, AllocError> {
     let mut places = Vec::new(alloc);
     for (place, report) in world.reports.iter().enumerate() {
-        if !reader.is_source(report) {
+        if reader.is_source(report) == is_own {
             places.push(place)?;
         }
     }

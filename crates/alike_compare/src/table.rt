@@ -1,12 +1,12 @@
 //! The counts of pairs, as they are printed.
 
-use crate::row_steps::{ARRANGEMENT, DIRECTORY, MEMBER, PERMISSION, READER, RECIPIENT, ROWS};
+use crate::row_steps::{ARRANGEMENT, DIRECTORY, MEMBER, OWN, PERMISSION, READER, RECIPIENT, ROWS};
 use crate::steps::{CLASS_SEEN, CLASSES, INCIDENTS, LABEL, LINES, SEEN_WITHIN, SERVED, WITHHELD};
 use std::alloc::{AllocError, Global};
 use trying::Tally;
 
 /// The kinds of pairs: each step, and behind it the premises that are left out.
-const KINDS: [(&str, bool); 15] = [
+const KINDS: [(&str, bool); 16] = [
     (LINES, true),
     (CLASS_SEEN, false),
     (LABEL, false),
@@ -22,11 +22,13 @@ const KINDS: [(&str, bool); 15] = [
     (ARRANGEMENT, false),
     (MEMBER, false),
     (DIRECTORY, false),
+    (OWN, false),
 ];
 
-const OUTCOMES: [&str; 5] = [
+const OUTCOMES: [&str; 6] = [
     "pairs",
     "something seen",
+    "an own report",
     "had to differ",
     "told apart",
     "told alike",
@@ -45,7 +47,7 @@ pub fn lines_of(alloc: Global, tally: &Tally) -> Result<Vec<String>, AllocError>
     let mut lines = Vec::new(alloc);
     lines.push(String::from_str(
         alloc,
-        "what differs | pairs | something seen | had to differ | told apart | told alike",
+        "what differs | pairs | something seen | an own report | had to differ | told apart | told alike",
     )?)?;
     for (kind, _) in KINDS {
         let mut line = String::from_str(alloc, kind)?;

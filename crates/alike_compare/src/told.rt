@@ -1,9 +1,13 @@
 //! What a reader must learn by the rules, in numbers. If two worlds have other numbers, some answer must differ.
 
 use crate::reader::{Reader, Why};
-use crate::rows::{GROUPS, Report, World, end_of, number_at};
+use crate::rows::{
+    COMMUNITIES, Circle, GROUPS, Given, ORGS, Reach, Report, World, end_of, number_at,
+};
 use crate::writing::{PRIVATE, plain_label};
 use circle::directory::Role;
+use hub_core::Target;
+use policy::Grantee;
 use std::alloc::{AllocError, Global};
 
 /// A kept class: one that is seen, one that only holds others, or one that is wholly hidden.
@@ -211,6 +215,107 @@ fn membership_number(reader: Reader<'_>, group: u32) -> u32 {
     }
 }
 
+/// Adds the numbers of the reader's communities: their members, and the communities connected to them.
+fn push_communities(numbers: &mut Vec<u32>, reader: Reader<'_>) -> Result<(), AllocError> {
+    let circle = reader.circle;
+    for community in 1..=COMMUNITIES {
+        if circle.is_member(community, reader.own.org) {
+            numbers.push(community)?;
+            push_community(numbers, circle, community)?;
+        }
+    }
+    Ok(())
+}
+
+/// Adds a number for each organisation, and for each community.
+fn push_community(
+    numbers: &mut Vec<u32>,
+    circle: &Circle,
+    community: u32,
+) -> Result<(), AllocError> {
+    for org in 1..=ORGS {
+        numbers.push(u32::from(circle.is_member(community, org)))?;
+    }
+    for other in 1..=COMMUNITIES {
+        let is_linked = circle.connections.iter().any(|row| {
+            row.low == community && row.high == other || row.low == other && row.high == community
+        });
+        numbers.push(u32::from(is_linked))?;
+    }
+    Ok(())
+}
+
+fn target_number(target: Target) -> u32 {
+    match target {
+        Target::Person(number) => number.saturating_mul(2),
+        Target::Org(number) => number.saturating_mul(2).saturating_add(1),
+    }
+}
+
+fn grantee_number(grantee: Grantee) -> u32 {
+    match grantee {
+        Grantee::Person(number) => number.saturating_mul(4),
+        Grantee::Org(number) => number.saturating_mul(4).saturating_add(1),
+        Grantee::Community(number) => number.saturating_mul(4).saturating_add(2),
+        Grantee::Group(number) => number.saturating_mul(4).saturating_add(3),
+    }
+}
+
+/// Returns the end in seconds, and 1 for none.
+fn end_number(until: Option<i64>) -> u32 {
+    match until {
+        None => 1,
+        Some(end) => u32::try_from(end).unwrap_or(0),
+    }
+}
+
+fn push_reach(numbers: &mut Vec<u32>, reach: Option<Reach>) -> Result<(), AllocError> {
+    let (level, group) = match reach {
+        None => (9, 0),
+        Some(reach) => (u32::from(reach.level), reach.group.unwrap_or(0)),
+    };
+    numbers.push(level)?;
+    numbers.push(group)?;
+    Ok(())
+}
+
+/// The grantee of a permission is above this, and its end below.
+const HALF: u64 = 4_294_967_296;
+
+fn push_grants(alloc: Global, numbers: &mut Vec<u32>, grants: &[Given]) -> Result<(), AllocError> {
+    let mut rows = Vec::new(alloc);
+    for given in grants {
+        let grantee = u64::from(grantee_number(given.grantee));
+        let end = u64::from(end_number(given.until));
+        rows.push(grantee.saturating_mul(HALF).saturating_add(end))?;
+    }
+    rows.sort()?;
+    for row in rows.iter() {
+        numbers.push(u32::try_from(*row / HALF).unwrap_or(0))?;
+        numbers.push(u32::try_from(*row % HALF).unwrap_or(0))?;
+    }
+    numbers.push(u32::MAX)?;
+    Ok(())
+}
+
+/// Adds the numbers of how a report is shared: its community, gates, recipients and permissions.
+fn push_shared(alloc: Global, numbers: &mut Vec<u32>, report: &Report) -> Result<(), AllocError> {
+    numbers.push(report.community.unwrap_or(0))?;
+    push_reach(numbers, Some(report.reach))?;
+    let mut targets = Vec::new(alloc);
+    for target in report.recipients.iter() {
+        targets.push(target_number(*target))?;
+    }
+    targets.sort()?;
+    numbers.extend_from_slice(&targets)?;
+    numbers.push(u32::MAX)?;
+    for class in report.classes.iter() {
+        push_reach(numbers, class.gate)?;
+        push_grants(alloc, numbers, &class.grants)?;
+    }
+    Ok(())
+}
+
 /// Adds the numbers of the reader itself and of its groups.
 fn push_self(numbers: &mut Vec<u32>, reader: Reader<'_>) -> Result<(), AllocError> {
     let own = reader.own;
@@ -231,7 +336,11 @@ pub fn told_in(alloc: Global, world: &World, who: u32) -> Result<Vec<u32>, Alloc
     };
     for (place, report) in world.reports.iter().enumerate() {
         push_report(alloc, &mut numbers, reader, number_at(place), report)?;
+        if reader.is_source(report) {
+            push_shared(alloc, &mut numbers, report)?;
+        }
     }
+    push_communities(&mut numbers, reader)?;
     push_self(&mut numbers, reader)?;
     Ok(numbers)
 }

@@ -1,5 +1,6 @@
 -- No organisation, person, community or group goes away.
-use Rattle.std.proofs.Common.{◌==◌, false, if◌then◌else◌, Option, Some, None, refl}
+use Rattle.std.proofs.Common.{ℕ, ◌==◌, false, if◌then◌else◌, map, IsTrue, Option, Some, None, refl}
+use Rattle.std.specs.List.{list_any}
 use Rattle.circle.specs.declared.directory.Org.{Org}
 use Rattle.circle.specs.declared.directory.Account.{Account}
 use Rattle.circle.specs.declared.directory.Community.{Community}
@@ -7,9 +8,9 @@ use Rattle.circle.specs.declared.directory.Group.{Group}
 use Rattle.circle.specs.declared.command.Edit.{Edit}
 use Rattle.circle.specs.declared.command.Edit.TheVariants.{Row, Found}
 use Rattle.circle.specs.declared.command.RowEdit.{RowEdit}
-use Rattle.circle.specs.declared.command.RowEdit.TheVariants.{PutOrg, PutAccount, Suspend, PutClient, TakeClient, PutCommunity, PutMembership, TakeMembership, PutConnection, TakeConnection, PutGroup, PutGroupMember, TakeGroupMember, SetGroupActive, PutArrangement, TakeArrangement, SetNominated}
+use Rattle.circle.specs.declared.command.RowEdit.TheVariants.{PutOrg, PutAccount, Suspend, PutClient, TakeClient, PutCommunity, PutMembership, TakeMembership, PutConnection, TakeConnection, PutGroup, PutGroupMember, TakeGroupMember, SetGroupActive, PutArrangement, TakeArrangement, SetNominated, SetKey}
 use Rattle.circle.specs.declared.refusal.Refusal.{Refusal}
-use Rattle.circle.specs.Directory.{Directory, org_number, account_number, community_number, group_number}
+use Rattle.circle.specs.Directory.{Directory, org_number, account_number, community_number, group_number, has_person}
 use Rattle.circle.specs.Ordered.{by_number}
 use Rattle.circle.specs.Refusals.{refusal_of}
 use Rattle.circle.specs.Aftermath.{edited_row, edited, edit_of, next_in, changed, unless_refused, founder}
@@ -36,6 +37,13 @@ grows_row (SetGroupActive n b) d = record { orgs = λ n h. h; persons = λ n h. 
 grows_row (PutArrangement x) d = record { orgs = λ n h. h; persons = λ n h. h; communities = λ n h. h; groups = λ n h. h }
 grows_row (TakeArrangement x y) d = record { orgs = λ n h. h; persons = λ n h. h; communities = λ n h. h; groups = λ n h. h }
 grows_row (SetNominated n b) d = record { orgs = λ n h. h; persons = λ m h. names_map account_number (λ (a : Account). if a.person.number == n then record a { person = record (a.person) { nominated = b } } else a) d.accounts m (λ a. same_when account_number (a.person.number == n) (record a { person = record (a.person) { nominated = b } }) a refl) h; communities = λ n h. h; groups = λ n h. h }
+grows_row (SetKey n key) d = record { orgs = λ n h. h; persons = named; communities = λ n h. h; groups = λ n h. h }
+  where
+    set : Account → Account
+    set a = if a.person.number == n then record a { key = key } else a
+
+    named : (m : ℕ) → IsTrue (has_person m d) → IsTrue (list_any (λ (a : Account). a.person.number == m) (map set d.accounts))
+    named m h = names_map account_number set d.accounts m (λ a. same_when account_number (a.person.number == n) (record a { key = key }) a refl) h
 
 joined : (a b c : Directory) → Grows a b → Grows b c → Grows a c
 joined a b c one two = record { orgs = λ n h. two.orgs n (one.orgs n h); persons = λ n h. two.persons n (one.persons n h); communities = λ n h. two.communities n (one.communities n h); groups = λ n h. two.groups n (one.groups n h) }

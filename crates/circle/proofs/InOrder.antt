@@ -1,6 +1,6 @@
 -- The grounds of each command are in the order of the codes.
 use Rattle.std.proofs.Common.{refl}
-use Rattle.circle.specs.declared.command.CircleCommand.TheVariants.{AddOrg, AddPerson, SuspendPerson, AddClient, RemoveClient, AddCommunity, Join, Leave, Link, Unlink, NewGroup, GroupAdd, GroupRemove, GroupActive, Arrange, CancelArrange, Nominate, Unnominate}
+use Rattle.circle.specs.declared.command.CircleCommand.TheVariants.{AddOrg, AddPerson, SuspendPerson, AddClient, RemoveClient, AddCommunity, Join, Leave, Link, Unlink, NewGroup, GroupAdd, GroupRemove, GroupActive, Arrange, CancelArrange, Nominate, Unnominate, NewKey}
 use Rattle.circle.specs.Order.{GroundsAscend}
 
 pub in_order : GroundsAscend
@@ -22,3 +22,4 @@ in_order d a (Arrange org handling) = refl
 in_order d a (CancelArrange org) = refl
 in_order d a (Nominate person) = refl
 in_order d a (Unnominate person) = refl
+in_order d a (NewKey key) = refl

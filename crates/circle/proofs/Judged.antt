@@ -6,7 +6,7 @@ use Rattle.circle.specs.declared.TheConstants.{ORG_LIMIT, PERSON_LIMIT, COMMUNIT
 use Rattle.circle.specs.declared.directory.Person.{Person}
 use Rattle.circle.specs.declared.command.CircleFacts.{CircleFacts}
 use Rattle.circle.specs.declared.command.CircleCommand.{CircleCommand}
-use Rattle.circle.specs.declared.command.CircleCommand.TheVariants.{AddOrg, AddPerson, SuspendPerson, AddClient, RemoveClient, AddCommunity, Join, Leave, Link, Unlink, NewGroup, GroupAdd, GroupRemove, GroupActive, Arrange, CancelArrange, Nominate, Unnominate}
+use Rattle.circle.specs.declared.command.CircleCommand.TheVariants.{AddOrg, AddPerson, SuspendPerson, AddClient, RemoveClient, AddCommunity, Join, Leave, Link, Unlink, NewGroup, GroupAdd, GroupRemove, GroupActive, Arrange, CancelArrange, Nominate, Unnominate, NewKey}
 use Rattle.circle.specs.declared.command.Edit.{Edit}
 use Rattle.circle.specs.declared.refusal.Code.TheVariants.{B1}
 use Rattle.circle.specs.declared.refusal.Refusal.{Refusal}
@@ -40,6 +40,7 @@ agrees d a (Arrange org handling) = rw with_field_if
 agrees d a (CancelArrange org) = refl
 agrees d a (Nominate person) = refl
 agrees d a (Unnominate person) = refl
+agrees d a (NewKey key) = refl
 
 -- the greatest of numbers without a gap is how many there are
 greatest_counts : {X : Type 0} (number : X → ℕ) (n : ℕ) (rows : List X) → CountsFrom number n rows → max n (greatest (map number rows)) ≡ n + length rows
@@ -71,6 +72,7 @@ same_edit d a (Arrange org handling) h = refl
 same_edit d a (CancelArrange org) h = refl
 same_edit d a (Nominate person) h = refl
 same_edit d a (Unnominate person) h = refl
+same_edit d a (NewKey key) h = refl
 
 none_said : (b : Bool) (r : Refusal) (rest : Option Refusal) → (if b then Some r else rest) ≡ None → (b ≡ false) × (rest ≡ None)
 none_said true r rest h = cc

@@ -114,6 +114,40 @@ pub names_map : {X : Type 0} (number : X → ℕ) (f : X → X) (xs : List X) (n
 names_map number f [] n same h = h
 names_map number f (x ∷ xs) n same h = rw (same x) (grind (arith, common_steps, names_map number f xs n same))
 
+-- ---- a number without a gap, and a key for one row
+
+-- the rows after one have greater numbers
+pub past : {X : Type 0} (number : X → ℕ) (n : ℕ) (xs : List X) → CountsFrom number n xs → Each (λ x. n < number x) xs
+past number n [] h = tt
+past number n (x ∷ xs) h =
+    let first : number x ≡ n + 1 = h.0 in
+    (omega arith, each_weaker (λ y. n + 1 < number y) (λ y. n < number y) xs (λ y low. omega arith) (past number (n + 1) xs h.1))
+
+-- the row with this number gets a key that no row has
+pub differ_set : {X K : Type 0} (number : X → ℕ) (key : X → K) (f : X → X) (n : ℕ) (new : K) (m : ℕ) (xs : List X)
+    → ((x : X) → (number x == n) ≡ true → key (f x) ≡ new) → ((x : X) → (number x == n) ≡ false → key (f x) ≡ key x)
+    → CountsFrom number m xs → Each (λ x. key x ≢ new) xs → Differ key xs → Differ key (map f xs)
+differ_set number key f n new m [] at_n elsewhere counts none all = tt
+differ_set number key f n new m (x ∷ xs) at_n elsewhere counts none all =
+    (others xs (past number (m + 1) xs counts.1) none.1 all.0, differ_set number key f n new (m + 1) xs at_n elsewhere counts.1 none.1 all.1)
+  where
+    not_both : (y : _) → m + 1 < number y → (number x == n) ≡ true → (number y == n) ≡ true → ⊥
+    not_both y later is is_too = let first : number x ≡ m + 1 = counts.0 in clash (number x) (number y) first later is is_too
+      where
+        clash : (a b : ℕ) → a ≡ m + 1 → m + 1 < b → (a == n) ≡ true → (b == n) ≡ true → ⊥
+        clash a b e low h k = let one : a ≡ n = grind (arith, nat_tests) in let two : b ≡ n = grind (arith, nat_tests) in omega arith
+
+    here : (y : _) → m + 1 < number y → key y ≢ new → key x ≢ key y
+        → (a b : Bool) → (number x == n) ≡ a → (number y == n) ≡ b → key (f x) ≢ key (f y)
+    here y later fresh apart true true is is_too e = absurd (not_both y later is is_too)
+    here y later fresh apart true false is is_too e = fresh (sym (elsewhere y is_too) ∙ (sym e ∙ at_n x is))
+    here y later fresh apart false true is is_too e = none.0 (sym (elsewhere x is) ∙ (e ∙ at_n y is_too))
+    here y later fresh apart false false is is_too e = apart (sym (elsewhere x is) ∙ (e ∙ elsewhere y is_too))
+
+    others : (ys : List _) → Each (λ y. m + 1 < number y) ys → Each (λ y. key y ≢ new) ys → Each (λ y. key x ≢ key y) ys → Each (λ y. key (f x) ≢ key y) (map f ys)
+    others [] later fresh apart = tt
+    others (y ∷ ys) later fresh apart = (here y later.0 fresh.0 apart.0 (number x == n) (number y == n) refl refl, others ys later.1 fresh.1 apart.1)
+
 -- ---- a key that no row has
 
 pub pair_total : IsTotalOrder pair_cmp
@@ -126,7 +160,7 @@ pub rise_put : {X : Type 0} (key : X → ℕ × ℕ) (x : X) (xs : List X) → l
 rise_put key x xs none all = order_put (by_pair key) x xs (on_total key pair_total)
     (each_weaker _ (λ y. pair_cmp (key x) (key y) ≢ Equal) xs (λ y h. apart (key x).0 (key x).1 (key y).0 (key y).1 h) (none_of _ xs none)) all
 
-text_apart : (a b : List ℕ) → bytes_eq a b ≡ false → a ≢ b
+pub text_apart : (a b : List ℕ) → bytes_eq a b ≡ false → a ≢ b
 text_apart a b h e = let yes : bytes_eq a b ≡ true = (bytes_eq-Decides a b).1 e in cc
 
 pub differ_put : {X : Type 0} (key : X → List ℕ) (cmp : X → X → Ordering) (x : X) (xs : List X) → list_any (λ y. bytes_eq (key y) (key x)) xs ≡ false → Differ key xs → Differ key (put_by cmp x xs)

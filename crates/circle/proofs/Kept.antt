@@ -1,7 +1,8 @@
 -- A command that nothing refuses leaves a sound directory.
-use Rattle.std.proofs.Common.{◌≡◌, ℕ, ◌+◌, ◌≤◌, ◌<◌, ◌==◌, ◌&&◌, Bool, true, false, not, List, [], ◌∷◌, filter, length, max, min, IsTrue, Option, Some, None, if◌then◌else◌, refl, sym, ap, ◌∙◌, subst, arith}
+use Rattle.std.proofs.Common.{◌≡◌, ◌≢◌, ℕ, ◌+◌, ◌≤◌, ◌<◌, ◌==◌, ◌&&◌, Bool, true, false, not, List, [], ◌∷◌, filter, length, max, min, IsTrue, Option, Some, None, if◌then◌else◌, refl, sym, ap, ◌∙◌, subst, arith}
 use Rattle.std.specs.Prelude.{nat_le}
 use Rattle.std.specs.List.{list_any}
+use Rattle.std.specs.Str.{bytes_eq}
 use Rattle.std.proofs.lemmas.Grind.{common_steps}
 use Rattle.std.proofs.lemmas.Bool.Decides.{nat_tests}
 use Rattle.circle.specs.declared.TheConstants.{ORG_LIMIT, PERSON_LIMIT, COMMUNITY_LIMIT, GROUP_LIMIT}
@@ -16,15 +17,15 @@ use Rattle.circle.specs.declared.directory.Group.{Group}
 use Rattle.circle.specs.declared.directory.GroupMember.{GroupMember}
 use Rattle.circle.specs.declared.directory.Arrangement.{Arrangement}
 use Rattle.circle.specs.declared.command.CircleCommand.{CircleCommand}
-use Rattle.circle.specs.declared.command.CircleCommand.TheVariants.{AddOrg, AddPerson, SuspendPerson, AddClient, RemoveClient, AddCommunity, Join, Leave, Link, Unlink, NewGroup, GroupAdd, GroupRemove, GroupActive, Arrange, CancelArrange, Nominate, Unnominate}
+use Rattle.circle.specs.declared.command.CircleCommand.TheVariants.{AddOrg, AddPerson, SuspendPerson, AddClient, RemoveClient, AddCommunity, Join, Leave, Link, Unlink, NewGroup, GroupAdd, GroupRemove, GroupActive, Arrange, CancelArrange, Nominate, Unnominate, NewKey}
 use Rattle.circle.specs.declared.refusal.Refusal.{Refusal}
 use Rattle.circle.specs.Directory.{Directory, org_number, account_number, community_number, group_number, client_key, membership_key, connection_key, group_member_key, arrangement_key, has_org, has_org_named, has_key, has_client, has_community, has_community_named, has_group_named, has_group_member}
 use Rattle.circle.specs.Ordered.{put_by, by_number, by_pair}
 use Rattle.circle.specs.Refusals.{grounds, refusal_of}
-use Rattle.circle.specs.Aftermath.{next_in, changed, state_after, unless_refused, exchange_account, exchange_group}
-use Rattle.circle.specs.Sound.{IsSound, SoundAccounts, SoundClients, SoundMemberships, SoundConnections, SoundGroups, SoundGroupMembers, SoundArrangements, IsOrg, IsCommunity, IsGroup}
+use Rattle.circle.specs.Aftermath.{next_in, changed, state_after, unless_refused, exchange_account, exchange_key, exchange_group}
+use Rattle.circle.specs.Sound.{IsSound, Each, SoundAccounts, SoundClients, SoundMemberships, SoundConnections, SoundGroups, SoundGroupMembers, SoundArrangements, IsOrg, IsCommunity, IsGroup}
 use Rattle.circle.proofs.Judged.{next_number, passed}
-use Rattle.circle.proofs.Keeping.{each_put, each_left, each_weaker, each_map, pairs_left, pairs_put, numbered_put, rise_put, differ_put, any_put, none_of, none_any, found_then, names_within, pair_apart, ends_of, low_high, differ_map, numbered_map, names_map}
+use Rattle.circle.proofs.Keeping.{each_put, each_left, each_weaker, each_map, pairs_left, pairs_put, numbered_put, rise_put, differ_put, any_put, none_of, none_any, found_then, names_within, pair_apart, ends_of, low_high, differ_map, differ_set, text_apart, numbered_map, names_map}
 
 both : (a b : Bool) → not (a && b) ≡ false → IsTrue a × IsTrue b
 both true true h = (refl, refl)
@@ -85,6 +86,30 @@ accounts_exchanged d n f number org h = record {
   keys = differ_map (λ (a : Account). a.key) (λ (a : Account). if a.person.number == n then record a { person = f a.person } else a) d.accounts (λ a. same_when (λ (x : Account). x.key) (a.person.number == n) (record a { person = f a.person }) a refl) h.accounts.keys;
   ends = each_map (λ (a : Account). IsOrg d.orgs a.person.org) (λ (a : Account). if a.person.number == n then record a { person = f a.person } else a) d.accounts (λ a e. subst (λ o. IsOrg d.orgs o) (sym (same_when (λ (x : Account). x.person.org) (a.person.number == n) (record a { person = f a.person }) a (org a.person))) e) h.accounts.ends;
 }
+
+accounts_keyed : (d : Directory) (n : ℕ) (key : List ℕ) → has_key key d ≡ false → IsSound d → SoundAccounts d.orgs (exchange_key n key d.accounts)
+accounts_keyed d n key new h = record {
+  numbered = numbered_map account_number PERSON_LIMIT set d.accounts (λ a. stays account_number a refl) h.accounts.numbered;
+  keys = differ_set account_number (λ (a : Account). a.key) set n key 0 d.accounts at_n elsewhere h.accounts.numbered.0 others h.accounts.keys;
+  ends = each_map (λ (a : Account). IsOrg d.orgs a.person.org) set d.accounts
+      (λ a e. subst (IsOrg d.orgs) (sym (stays (λ (x : Account). x.person.org) a refl)) e) h.accounts.ends;
+}
+  where
+    set : Account → Account
+    set a = if a.person.number == n then record a { key = key } else a
+
+    stays : {Y : Type 0} (show : Account → Y) (a : Account) → show (record a { key = key }) ≡ show a → show (set a) ≡ show a
+    stays show a e = same_when show (a.person.number == n) (record a { key = key }) a e
+
+    at_n : (a : Account) → (a.person.number == n) ≡ true → Account.key (set a) ≡ key
+    at_n a is = ap (λ b. Account.key (if b then record a { key = key } else a)) is
+
+    elsewhere : (a : Account) → (a.person.number == n) ≡ false → Account.key (set a) ≡ a.key
+    elsewhere a is = ap (λ b. Account.key (if b then record a { key = key } else a)) is
+
+    others : Each (λ (a : Account). a.key ≢ key) d.accounts
+    others = each_weaker (λ (a : Account). bytes_eq a.key key ≡ false) (λ (a : Account). a.key ≢ key) d.accounts
+        (λ a. text_apart a.key key) (none_of _ d.accounts new)
 
 -- the other sets stay
 with_accounts : (d : Directory) (accounts : List Account) → IsSound d → SoundAccounts d.orgs accounts → IsSound (record d { accounts = accounts })
@@ -209,6 +234,7 @@ kept d a (Arrange org handling) h known fine =
     let row : Arrangement = record { source = a.org; org = org; handling = handling } in
     with_arrangements d _ h (record { rising = rise_put arrangement_key row d.arrangements p.1.1.1.0 h.arrangements.rising; ends = each_put _ (by_pair arrangement_key) row d.arrangements (known, yes (has_org org d) p.1.1.0) h.arrangements.ends })
 kept d a (CancelArrange org) h known fine = with_arrangements d _ h (record { rising = pairs_left _ _ d.arrangements h.arrangements.rising; ends = each_left _ _ d.arrangements h.arrangements.ends })
+kept d a (NewKey key) h known fine = let p = passed (grounds d a (NewKey key)) fine in with_accounts d _ h (accounts_keyed d a.number key p.0 h)
 
 pub kept_after : (d : Directory) (a : Person) (c : CircleCommand) → IsSound d → IsOrg d.orgs a.org → IsSound (state_after d a c)
 kept_after d a c h known = split (refusal_of d a c) refl

@@ -6,4 +6,5 @@ pub mod Staying
 pub mod Others
 pub mod Owners
 pub mod Growth
+pub mod NewKeys
 pub mod Lookup

@@ -10,7 +10,7 @@ use Rattle.circle.specs.declared.TheConstants.{GROUP_LIMIT}
 use Rattle.circle.specs.declared.directory.Account.{Account}
 use Rattle.circle.specs.declared.directory.Person.{Person}
 use Rattle.circle.specs.declared.command.CircleCommand.{CircleCommand}
-use Rattle.circle.specs.declared.command.CircleCommand.TheVariants.{AddOrg, AddPerson, SuspendPerson, AddClient, RemoveClient, AddCommunity, Join, Leave, Link, Unlink, NewGroup, GroupAdd, GroupRemove, GroupActive, Arrange, CancelArrange, Nominate, Unnominate}
+use Rattle.circle.specs.declared.command.CircleCommand.TheVariants.{AddOrg, AddPerson, SuspendPerson, AddClient, RemoveClient, AddCommunity, Join, Leave, Link, Unlink, NewGroup, GroupAdd, GroupRemove, GroupActive, Arrange, CancelArrange, Nominate, Unnominate, NewKey}
 use Rattle.circle.specs.declared.refusal.Refusal.{Refusal}
 use Rattle.circle.specs.declared.directory.Group.{Group}
 use Rattle.circle.specs.declared.directory.GroupMember.{GroupMember}
@@ -18,13 +18,13 @@ use Rattle.circle.specs.declared.directory.Arrangement.{Arrangement}
 use Rattle.circle.specs.Directory.{Directory, account_number, group_number, group_member_key, arrangement_key, has_person_of, has_group_of, has_extender}
 use Rattle.circle.specs.Ordered.{put_by, by_number, by_pair}
 use Rattle.circle.specs.Refusals.{grounds, refusal_of}
-use Rattle.circle.specs.Aftermath.{changed, unless_refused, exchange_account, exchange_group, next_in}
+use Rattle.circle.specs.Aftermath.{changed, unless_refused, exchange_account, exchange_key, exchange_group, next_in}
 use Rattle.circle.specs.Sound.{IsSound, CountsFrom, Each, Pairwise}
 use Rattle.circle.specs.Others.{nominated_of, groups_owned, members_in, ExtendsBy, LeavesTheirs}
 use Rattle.circle.specs.Laws.{OrganisationsKeepApart}
 use Rattle.circle.proofs.Judged.{passed, next_number}
 use Rattle.std.proofs.lemmas.Cmp.{on_total}
-use Rattle.circle.proofs.Keeping.{each_weaker, each_left, found_then, pair_total}
+use Rattle.circle.proofs.Keeping.{past, each_weaker, each_left, found_then, pair_total}
 use Rattle.circle.proofs.Kept.{yes, same_when}
 
 -- ---- rows that are looked for, and rows put in, taken out or exchanged
@@ -98,7 +98,7 @@ shown_exchanged show p f (x ∷ xs) all = split (p x) refl (shown_exchanged show
         ∙ (rest ∙ sym (ap (λ t. map show (if t then x ∷ filter p xs else filter p xs)) is))
 
 -- rows of which only dropped ones are changed
-kept_exchanged : {X : Type 0} (p : X → Bool) (f : X → X) (xs : List X) → Each (λ x. (f x ≡ x) ⊎ ((p x ≡ false) × (p (f x) ≡ false))) xs → filter p (map f xs) ≡ filter p xs
+pub kept_exchanged : {X : Type 0} (p : X → Bool) (f : X → X) (xs : List X) → Each (λ x. (f x ≡ x) ⊎ ((p x ≡ false) × (p (f x) ≡ false))) xs → filter p (map f xs) ≡ filter p xs
 kept_exchanged p f [] all = refl
 kept_exchanged p f (x ∷ xs) all = split all.0 (kept_exchanged p f xs all.1)
   where
@@ -107,12 +107,6 @@ kept_exchanged p f (x ∷ xs) all = split all.0 (kept_exchanged p f xs all.1)
     split (inr out) rest = ap (λ t. if t then f x ∷ filter p (map f xs) else filter p (map f xs)) out.1 ∙ (rest ∙ sym (ap (λ t. if t then x ∷ filter p xs else filter p xs) out.0))
 
 -- ---- numbers without gaps
-
-past : {X : Type 0} (number : X → ℕ) (n : ℕ) (xs : List X) → CountsFrom number n xs → Each (λ x. n < number x) xs
-past number n [] h = tt
-past number n (x ∷ xs) h =
-    let first : number x ≡ n + 1 = h.0 in
-    (omega arith, each_weaker (λ y. n + 1 < number y) (λ y. n < number y) xs (λ y low. omega arith) (past number (n + 1) xs h.1))
 
 within : {X : Type 0} (number : X → ℕ) (n : ℕ) (xs : List X) → CountsFrom number n xs → Each (λ x. number x ≤ n + length xs) xs
 within number n [] h = tt
@@ -189,7 +183,7 @@ nominated_exchanged d n own other f number org sound apart of_own =
     dropped : (a : Account) → a.person.org ≡ own → theirs (record a { person = f a.person }) ≡ theirs a
     dropped a is = not_theirs (f a.person).org own other (f a.person).nominated apart (org a.person ∙ is) ∙ sym (not_theirs a.person.org own other a.person.nominated apart is)
 
-each_of : {X : Type 0} (P : X → Type 0) (xs : List X) → ((x : X) → P x) → Each P xs
+pub each_of : {X : Type 0} (P : X → Type 0) (xs : List X) → ((x : X) → P x) → Each P xs
 each_of P [] go = tt
 each_of P (x ∷ xs) go = (go x, each_of P xs go)
 
@@ -200,6 +194,17 @@ suspended_shows d n other =
       same_when (λ (x : Account). x.person.org == other && x.person.nominated) (a.person.number == n) (record a { person = record a.person { active = false } }) a refl,
       same_when account_number (a.person.number == n) (record a { person = record a.person { active = false } }) a refl,
     )))
+
+keyed_shows : (d : Directory) (n other : ℕ) (key : List ℕ) → nominated_of other (record d { accounts = exchange_key n key d.accounts }) ≡ nominated_of other d
+keyed_shows d n other key =
+    shown_exchanged account_number theirs (λ (a : Account). if a.person.number == n then record a { key = key } else a) d.accounts
+    (each_of _ d.accounts (λ a. (
+      same_when theirs (a.person.number == n) (record a { key = key }) a refl,
+      same_when account_number (a.person.number == n) (record a { key = key }) a refl,
+    )))
+  where
+    theirs : Account → Bool
+    theirs a = a.person.org == other && a.person.nominated
 
 groups_exchanged : (d : Directory) (n own other : ℕ) (active : Bool) → IsSound d → other ≢ own → has_group_of n own d ≡ true → filter (λ (g : Group). g.owner == other) (exchange_group n (λ (g : Group). record g { active = active }) d.groups) ≡ groups_owned other d
 groups_exchanged d n own other active sound apart of_own =
@@ -296,6 +301,8 @@ apart_changed d a (Arrange org handling) other sound apart fine = record { arran
 apart_changed d a (CancelArrange org) other sound apart fine = record { arrangements = filter_left (λ (r : Arrangement). r.source == other) _ d.arrangements (λ r here. cancelled_elsewhere a.org other org r apart here); nominations = refl; groups = refl; members = λ group theirs. inl refl }
 apart_changed d a (Nominate person) other sound apart fine = let p = passed (grounds d a (Nominate person)) fine in record { arrangements = refl; nominations = nominated_exchanged d person a.org other (λ (p : Person). record p { nominated = true }) (λ p. refl) (λ p. refl) sound apart (yes (has_person_of person a.org d) p.1.1.0); groups = refl; members = λ group theirs. inl refl }
 apart_changed d a (Unnominate person) other sound apart fine = let p = passed (grounds d a (Unnominate person)) fine in record { arrangements = refl; nominations = nominated_exchanged d person a.org other (λ (p : Person). record p { nominated = false }) (λ p. refl) (λ p. refl) sound apart (yes (has_person_of person a.org d) p.1.1.0); groups = refl; members = λ group theirs. inl refl }
+apart_changed d a (NewKey key) other sound apart fine =
+    record { arrangements = refl; nominations = keyed_shows d a.number other key; groups = refl; members = λ group theirs. inl refl }
 
 pub apart_after : OrganisationsKeepApart
 apart_after d a c other sound apart = split (refusal_of d a c) refl

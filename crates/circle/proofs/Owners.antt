@@ -8,7 +8,7 @@ use Rattle.circle.specs.declared.directory.Person.{Person}
 use Rattle.circle.specs.declared.directory.Group.{Group}
 use Rattle.circle.specs.declared.directory.GroupMember.{GroupMember}
 use Rattle.circle.specs.declared.command.CircleCommand.{CircleCommand}
-use Rattle.circle.specs.declared.command.CircleCommand.TheVariants.{AddOrg, AddPerson, SuspendPerson, AddClient, RemoveClient, AddCommunity, Join, Leave, Link, Unlink, NewGroup, GroupAdd, GroupRemove, GroupActive, Arrange, CancelArrange, Nominate, Unnominate}
+use Rattle.circle.specs.declared.command.CircleCommand.TheVariants.{AddOrg, AddPerson, SuspendPerson, AddClient, RemoveClient, AddCommunity, Join, Leave, Link, Unlink, NewGroup, GroupAdd, GroupRemove, GroupActive, Arrange, CancelArrange, Nominate, Unnominate, NewKey}
 use Rattle.circle.specs.declared.refusal.Refusal.{Refusal}
 use Rattle.circle.specs.Directory.{Directory, group_number, group_member_key, has_extender, has_group_of}
 use Rattle.circle.specs.Ordered.{put_by, by_number, by_pair}
@@ -94,6 +94,7 @@ owners_changed d a (Arrange org handling) h fine = h
 owners_changed d a (CancelArrange org) h fine = h
 owners_changed d a (Nominate person) h fine = h
 owners_changed d a (Unnominate person) h fine = h
+owners_changed d a (NewKey key) h fine = h
 
 pub owners_after : OwnersStay
 owners_after d a c h = split (refusal_of d a c) refl

@@ -4,12 +4,12 @@ use Rattle.std.specs.List.{list_any}
 use Rattle.circle.specs.declared.directory.Account.{Account}
 use Rattle.circle.specs.declared.directory.Person.{Person}
 use Rattle.circle.specs.declared.command.CircleCommand.{CircleCommand}
-use Rattle.circle.specs.declared.command.CircleCommand.TheVariants.{AddOrg, AddPerson, SuspendPerson, AddClient, RemoveClient, AddCommunity, Join, Leave, Link, Unlink, NewGroup, GroupAdd, GroupRemove, GroupActive, Arrange, CancelArrange, Nominate, Unnominate}
+use Rattle.circle.specs.declared.command.CircleCommand.TheVariants.{AddOrg, AddPerson, SuspendPerson, AddClient, RemoveClient, AddCommunity, Join, Leave, Link, Unlink, NewGroup, GroupAdd, GroupRemove, GroupActive, Arrange, CancelArrange, Nominate, Unnominate, NewKey}
 use Rattle.circle.specs.declared.refusal.Refusal.{Refusal}
 use Rattle.circle.specs.Directory.{Directory, account_number, has_suspended}
 use Rattle.circle.specs.Ordered.{by_number}
 use Rattle.circle.specs.Refusals.{refusal_of}
-use Rattle.circle.specs.Aftermath.{changed, unless_refused, exchange_account}
+use Rattle.circle.specs.Aftermath.{changed, unless_refused, exchange_account, exchange_key}
 use Rattle.circle.specs.Laws.{RefusalsLeaveAll, SuspendedStays}
 use Rattle.circle.proofs.Keeping.{any_put}
 
@@ -41,6 +41,14 @@ first_holds : (a b : Bool) → (a && b) ≡ true → (a && true) ≡ true
 first_holds true b h = refl
 first_holds false b h = h
 
+suspended_keyed : (d : Directory) (n person : ℕ) (key : List ℕ) → IsTrue (has_suspended person d) → IsTrue (has_suspended person (record d { accounts = exchange_key n key d.accounts }))
+suspended_keyed d n person key h =
+    any_map suspended (λ (a : Account). if a.person.number == n then record a { key = key } else a) d.accounts
+    (λ a here. either_way suspended (a.person.number == n) a (record a { key = key }) here here) h
+  where
+    suspended : Account → Bool
+    suspended a = a.person.number == person && not a.person.active
+
 suspended_changed : (d : Directory) (a : Person) (c : CircleCommand) (person : ℕ) → IsTrue (has_suspended person d) → IsTrue (has_suspended person (changed d a c))
 suspended_changed d a (AddOrg name) person h = h
 suspended_changed d a (AddPerson org name role key) person h = any_put (λ (x : Account). x.person.number == person && not x.person.active) (by_number account_number) _ d.accounts h
@@ -60,6 +68,7 @@ suspended_changed d a (Arrange org handling) person h = h
 suspended_changed d a (CancelArrange org) person h = h
 suspended_changed d a (Nominate who) person h = suspended_exchanged d who person (λ (p : Person). record p { nominated = true }) (λ p here. here) h
 suspended_changed d a (Unnominate who) person h = suspended_exchanged d who person (λ (p : Person). record p { nominated = false }) (λ p here. here) h
+suspended_changed d a (NewKey key) person h = suspended_keyed d a.number person key h
 
 pub suspended_after : SuspendedStays
 suspended_after d a c person h = split (refusal_of d a c)

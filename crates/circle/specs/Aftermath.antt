@@ -9,11 +9,11 @@ use Rattle.circle.specs.declared.directory.Group.{Group}
 use Rattle.circle.specs.declared.directory.GroupMember.{GroupMember}
 use Rattle.circle.specs.declared.directory.Arrangement.{Arrangement}
 use Rattle.circle.specs.declared.command.CircleCommand.{CircleCommand}
-use Rattle.circle.specs.declared.command.CircleCommand.TheVariants.{AddOrg, AddPerson, SuspendPerson, AddClient, RemoveClient, AddCommunity, Join, Leave, Link, Unlink, NewGroup, GroupAdd, GroupRemove, GroupActive, Arrange, CancelArrange, Nominate, Unnominate}
+use Rattle.circle.specs.declared.command.CircleCommand.TheVariants.{AddOrg, AddPerson, SuspendPerson, AddClient, RemoveClient, AddCommunity, Join, Leave, Link, Unlink, NewGroup, GroupAdd, GroupRemove, GroupActive, Arrange, CancelArrange, Nominate, Unnominate, NewKey}
 use Rattle.circle.specs.declared.command.Edit.{Edit}
 use Rattle.circle.specs.declared.command.Edit.TheVariants.{Row, Found}
 use Rattle.circle.specs.declared.command.RowEdit.{RowEdit}
-use Rattle.circle.specs.declared.command.RowEdit.TheVariants.{PutOrg, PutAccount, Suspend, PutClient, TakeClient, PutCommunity, PutMembership, TakeMembership, PutConnection, TakeConnection, PutGroup, PutGroupMember, TakeGroupMember, SetGroupActive, PutArrangement, TakeArrangement, SetNominated}
+use Rattle.circle.specs.declared.command.RowEdit.TheVariants.{PutOrg, PutAccount, Suspend, PutClient, TakeClient, PutCommunity, PutMembership, TakeMembership, PutConnection, TakeConnection, PutGroup, PutGroupMember, TakeGroupMember, SetGroupActive, PutArrangement, TakeArrangement, SetNominated, SetKey}
 use Rattle.circle.specs.declared.refusal.Refusal.{Refusal}
 use Rattle.circle.specs.Ordered.{put_by, by_number, by_pair}
 use Rattle.circle.specs.Directory.{Directory, org_number, account_number, community_number, group_number, client_key, membership_key, connection_key, group_member_key, arrangement_key}
@@ -24,6 +24,10 @@ use Rattle.circle.specs.Refusals.{refusal_of}
 -- the accounts, with the person of this number changed by f
 abbrev pub exchange_account : ℕ → (Person → Person) → List Account → List Account
 exchange_account n f = map (λ (a : Account). if a.person.number == n then record a { person = f a.person } else a)
+
+-- the accounts, with another key for the person of this number
+abbrev pub exchange_key : ℕ → List ℕ → List Account → List Account
+exchange_key n key = map (λ (a : Account). if a.person.number == n then record a { key = key } else a)
 
 -- the groups, with the group of this number changed by f
 abbrev pub exchange_group : ℕ → (Group → Group) → List Group → List Group
@@ -40,6 +44,7 @@ edited_row (PutOrg org) d = record d { orgs = put_by (by_number org_number) org 
 edited_row (PutAccount account) d = record d { accounts = put_by (by_number account_number) account d.accounts }
 edited_row (Suspend person) d = record d { accounts = exchange_account person (λ (p : Person). record p { active = false }) d.accounts }
 edited_row (SetNominated person nominated) d = record d { accounts = exchange_account person (λ (p : Person). record p { nominated = nominated }) d.accounts }
+edited_row (SetKey person key) d = record d { accounts = exchange_key person key d.accounts }
 edited_row (PutClient client) d = record d { clients = put_by (by_pair client_key) client d.clients }
 edited_row (TakeClient client) d = record d { clients = filter (λ (c : Client). not (c.org == client.org && c.client == client.client)) d.clients }
 edited_row (PutCommunity community) d = record d { communities = put_by (by_number community_number) community d.communities }
@@ -108,6 +113,7 @@ edit_of n a (Arrange org handling) = Row (PutArrangement (record { source = a.or
 edit_of n a (CancelArrange org) = Row (TakeArrangement a.org org)
 edit_of n a (Nominate person) = Row (SetNominated person true)
 edit_of n a (Unnominate person) = Row (SetNominated person false)
+edit_of n a (NewKey key) = Row (SetKey a.number key)
 
 -- the directory after a command that nothing refuses
 abbrev pub changed : Directory → Person → CircleCommand → Directory

@@ -3,7 +3,7 @@
 use Rattle.std.specs.Prelude.{ℕ, Bool, true, false, ◌&&◌, length, min, max}
 use Rattle.circle.specs.declared.directory.Person.{Person}
 use Rattle.circle.specs.declared.command.CircleCommand.{CircleCommand}
-use Rattle.circle.specs.declared.command.CircleCommand.TheVariants.{AddOrg, AddPerson, SuspendPerson, AddClient, RemoveClient, AddCommunity, Join, Leave, Link, Unlink, NewGroup, GroupAdd, GroupRemove, GroupActive, Arrange, CancelArrange, Nominate, Unnominate}
+use Rattle.circle.specs.declared.command.CircleCommand.TheVariants.{AddOrg, AddPerson, SuspendPerson, AddClient, RemoveClient, AddCommunity, Join, Leave, Link, Unlink, NewGroup, GroupAdd, GroupRemove, GroupActive, Arrange, CancelArrange, Nominate, Unnominate, NewKey}
 use Rattle.circle.specs.declared.command.CircleFacts.{CircleFacts}
 use Rattle.circle.specs.Directory.{Directory, has_org, has_org_named, has_person, has_key, has_suspended, has_nominated, has_person_of, has_client, has_community, has_community_named, has_membership, has_connection, has_group_named, has_group_of, has_group_being, has_group_member, has_extender, has_arrangement}
 
@@ -73,6 +73,7 @@ stands_in d a (Arrange org handling) = has_arrangement a.org org d
 stands_in d a (CancelArrange org) = has_arrangement a.org org d
 stands_in d a (Nominate person) = has_nominated person d
 stands_in d a (Unnominate person) = has_nominated person d
+stands_in d a (NewKey key) = has_key key d
 
 -- how many rows there are of the kind that the command numbers
 abbrev pub count_in : Directory → CircleCommand → ℕ

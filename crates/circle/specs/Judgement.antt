@@ -4,7 +4,7 @@ use Rattle.circle.specs.declared.TheConstants.{ORG_LIMIT, PERSON_LIMIT, COMMUNIT
 use Rattle.circle.specs.declared.directory.Role.{Role}
 use Rattle.circle.specs.declared.directory.Person.{Person}
 use Rattle.circle.specs.declared.command.CircleCommand.{CircleCommand}
-use Rattle.circle.specs.declared.command.CircleCommand.TheVariants.{AddOrg, AddPerson, SuspendPerson, AddClient, RemoveClient, AddCommunity, Join, Leave, Link, Unlink, NewGroup, GroupAdd, GroupRemove, GroupActive, Arrange, CancelArrange, Nominate, Unnominate}
+use Rattle.circle.specs.declared.command.CircleCommand.TheVariants.{AddOrg, AddPerson, SuspendPerson, AddClient, RemoveClient, AddCommunity, Join, Leave, Link, Unlink, NewGroup, GroupAdd, GroupRemove, GroupActive, Arrange, CancelArrange, Nominate, Unnominate, NewKey}
 use Rattle.circle.specs.declared.command.CircleFacts.{CircleFacts}
 use Rattle.circle.specs.declared.refusal.Code.TheVariants.{W1, B1, N2, W2, W3, S1, S2, L1}
 use Rattle.circle.specs.declared.refusal.Refusal.{Refusal}
@@ -12,7 +12,7 @@ use Rattle.circle.specs.Outcomes.{bare}
 use Rattle.circle.specs.Texts.{is_name, is_releasability}
 use Rattle.circle.specs.Refusals.{is_administrator, is_coordinator}
 
--- whether a role allows the command: an administrator's or a coordinator's
+-- whether a role allows the command: an administrator's, a coordinator's or each
 abbrev pub is_allowed : CircleCommand → Role → Bool
 is_allowed (AddOrg name) = is_administrator
 is_allowed (AddPerson org name role key) = is_administrator
@@ -24,6 +24,7 @@ is_allowed (Join community org) = is_administrator
 is_allowed (Leave community org) = is_administrator
 is_allowed (Link community other) = is_administrator
 is_allowed (Unlink community other) = is_administrator
+is_allowed (NewKey key) = λ (role : Role). true
 is_allowed _ = is_coordinator
 
 -- this field if it is bad, else the other answer

@@ -1,7 +1,8 @@
 -- The laws of every command.
-use Rattle.std.specs.Prelude.{◌≡◌, ◌≢◌, ℕ, Some, IsTrue}
+use Rattle.std.specs.Prelude.{◌≡◌, ◌≢◌, ℕ, List, Some, IsTrue}
 use Rattle.circle.specs.declared.directory.Person.{Person}
 use Rattle.circle.specs.declared.command.CircleCommand.{CircleCommand}
+use Rattle.circle.specs.declared.command.CircleCommand.TheVariants.{NewKey}
 use Rattle.circle.specs.declared.refusal.Refusal.{Refusal}
 use Rattle.circle.specs.Directory.{Directory, empty, has_suspended}
 use Rattle.circle.specs.Refusals.{refusal_of}
@@ -10,6 +11,7 @@ use Rattle.circle.specs.Aftermath.{edited, edited_rows, rows_of, state_after}
 use Rattle.circle.specs.Sound.{IsSound, IsOrg, OwnersExtend}
 use Rattle.circle.specs.Others.{LeavesTheirs}
 use Rattle.circle.specs.Growth.{Grows}
+use Rattle.circle.specs.NewKeys.{ChangesKeyOf}
 
 -- A command of a person of a sound directory leaves the directory sound.
 abbrev pub StaysSound : Type 0
@@ -39,6 +41,10 @@ SuspendedStays = (d : Directory) (actor : Person) (command : CircleCommand) (per
 -- No organisation, person, community or group goes away.
 abbrev pub NothingVanishes : Type 0
 NothingVanishes = (d : Directory) (actor : Person) (command : CircleCommand) → Grows d (state_after d actor command)
+
+-- A new key changes nothing but the key of the actor, of any role.
+abbrev pub NewKeysChangeOne : Type 0
+NewKeysChangeOne = (d : Directory) (actor : Person) (key : List ℕ) → ChangesKeyOf actor.number d (state_after d actor (NewKey key))
 
 -- An edit is the edits of its rows, one after another.
 abbrev pub EditsAreRows : Type 0

@@ -12,6 +12,7 @@ pub mod Judgement
 pub mod Order
 pub mod Others
 pub mod Growth
+pub mod NewKeys
 pub mod Laws
 pub mod Reads
 pub mod inner

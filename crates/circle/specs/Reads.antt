@@ -1,11 +1,12 @@
 -- What is asked of a directory besides its commands.
-use Rattle.std.specs.Prelude.{ℕ, Bool, true, ◌&&◌, ◌||◌, ◌==◌, List, map, filter, find, Option, option_map}
+use Rattle.std.specs.Prelude.{ℕ, Bool, true, ◌&&◌, ◌||◌, ◌==◌, List, ◌++◌, map, filter, find, Option, option_map}
 use Rattle.std.specs.List.{list_any}
 use Rattle.std.specs.Str.{bytes_eq}
 use Rattle.circle.specs.declared.directory.Handling.{Handling}
 use Rattle.circle.specs.declared.directory.Person.{Person}
 use Rattle.circle.specs.declared.directory.Account.{Account}
 use Rattle.circle.specs.declared.directory.Client.{Client}
+use Rattle.circle.specs.declared.directory.Community.{Community}
 use Rattle.circle.specs.declared.directory.Membership.{Membership}
 use Rattle.circle.specs.declared.directory.Connection.{Connection}
 use Rattle.circle.specs.declared.directory.Group.{Group}
@@ -30,6 +31,23 @@ person_of n d = option_map person_in (find (λ (a : Account). a.person.number ==
 -- the group with this number
 abbrev pub group_of : ℕ → Directory → Option Group
 group_of n d = find (λ (g : Group). g.number == n) d.groups
+
+-- the community with this number
+abbrev pub community_of : ℕ → Directory → Option Community
+community_of n d = find (λ (c : Community). c.number == n) d.communities
+
+-- ---- what a community is made of, by number
+
+-- the organisations that are members of the community, by number
+abbrev pub members_of : ℕ → Directory → List ℕ
+members_of community d = map (λ (m : Membership). m.org) (filter (λ (m : Membership). m.community == community) d.memberships)
+
+-- The communities that are connected to this one, by number: a connection has the smaller number first, so those below
+-- this one come first.
+abbrev pub connected_to : ℕ → Directory → List ℕ
+connected_to community d =
+    map (λ (l : Connection). l.low) (filter (λ (l : Connection). l.high == community) d.connections)
+    ++ map (λ (l : Connection). l.high) (filter (λ (l : Connection). l.low == community) d.connections)
 
 -- ---- what an organisation is part of, by number
 

@@ -5,7 +5,7 @@ use Rattle.circle.specs.declared.directory.Role.{Role}
 use Rattle.circle.specs.declared.directory.Role.TheVariants.{Administrator, Coordinator}
 use Rattle.circle.specs.declared.directory.Person.{Person}
 use Rattle.circle.specs.declared.command.CircleCommand.{CircleCommand}
-use Rattle.circle.specs.declared.command.CircleCommand.TheVariants.{AddOrg, AddPerson, SuspendPerson, AddClient, RemoveClient, AddCommunity, Join, Leave, Link, Unlink, NewGroup, GroupAdd, GroupRemove, GroupActive, Arrange, CancelArrange, Nominate, Unnominate}
+use Rattle.circle.specs.declared.command.CircleCommand.TheVariants.{AddOrg, AddPerson, SuspendPerson, AddClient, RemoveClient, AddCommunity, Join, Leave, Link, Unlink, NewGroup, GroupAdd, GroupRemove, GroupActive, Arrange, CancelArrange, Nominate, Unnominate, NewKey}
 use Rattle.circle.specs.declared.refusal.Code.{Code}
 use Rattle.circle.specs.declared.refusal.Code.TheVariants.{W1, B1, N2, W2, W3, S1, S2, L1}
 use Rattle.circle.specs.declared.refusal.Refusal.{Refusal}
@@ -115,6 +115,8 @@ grounds d a (Nominate person) =
     unless_coordinator a ∷ unknown_unless (has_person person d) ∷ stranger_unless (has_person_of person a.org d) ∷ already (has_nominated person d) ∷ []
 grounds d a (Unnominate person) =
     unless_coordinator a ∷ unknown_unless (has_person person d) ∷ stranger_unless (has_person_of person a.org d) ∷ not_so_unless (has_nominated person d) ∷ []
+grounds d a (NewKey key) =
+    already (has_key key d) ∷ []
 
 -- the refusal of the actor's command: the answer of the first ground that holds, if one holds
 abbrev pub refusal_of : Directory → Person → CircleCommand → Option Refusal

@@ -6,7 +6,7 @@ use crate::directory::{
 use crate::text::Text;
 use std::alloc::AllocError;
 
-/// A command. An administrator gives those from `AddOrg` to `Unlink`, a coordinator the others.
+/// A command. An administrator gives those from `AddOrg` to `Unlink`, every person `NewKey`, a coordinator the others.
 #[derive(Drop)]
 pub enum CircleCommand {
     /// Adds an organisation with this name.
@@ -96,6 +96,10 @@ pub enum CircleCommand {
     Unnominate {
         person: u32,
     },
+    /// Exchanges the actor's key for the one with this SHA-256.
+    NewKey {
+        key: [u8; 32],
+    },
 }
 
 /// The facts of a command. A fact that the command doesn't ask for is true for `exists`, and false or 0 for the
@@ -166,6 +170,8 @@ pub enum RowEdit {
     TakeArrangement { source: u32, org: u32 },
     /// Sets whether a person is nominated.
     SetNominated { person: u32, nominated: bool },
+    /// Exchanges a person's key for the one with this SHA-256.
+    SetKey { person: u32, key: [u8; 32] },
 }
 
 // Written by hand: derived, it would fail for want of memory in each variant, and only four hold a text.
@@ -204,6 +210,10 @@ impl Clone for RowEdit {
             RowEdit::SetNominated { person, nominated } => RowEdit::SetNominated {
                 person: *person,
                 nominated: *nominated,
+            },
+            RowEdit::SetKey { person, key } => RowEdit::SetKey {
+                person: *person,
+                key: *key,
             },
         })
     }

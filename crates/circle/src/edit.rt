@@ -104,6 +104,10 @@ impl CircleCommand {
                 person,
                 nominated: false,
             }),
+            CircleCommand::NewKey { key } => row(RowEdit::SetKey {
+                person: actor.number,
+                key,
+            }),
         }
     }
 }

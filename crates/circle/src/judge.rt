@@ -85,6 +85,7 @@ impl CircleCommand {
             | CircleCommand::Leave { .. }
             | CircleCommand::Link { .. }
             | CircleCommand::Unlink { .. } => matches!(role, Role::Administrator),
+            CircleCommand::NewKey { .. } => true,
             _ => matches!(role, Role::Coordinator),
         }
     }

@@ -1,5 +1,5 @@
 //! Laws of the definitions. Each law is the contract of a function that does nothing.
-ghost use Rattle.circle.specs.Laws.{EditsAreRows, EmptyIsSound, NothingVanishes, OrganisationsKeepApart, OwnersStay, RefusalsLeaveAll, StaysSound, SuspendedStays};
+ghost use Rattle.circle.specs.Laws.{EditsAreRows, EmptyIsSound, NewKeysChangeOne, NothingVanishes, OrganisationsKeepApart, OwnersStay, RefusalsLeaveAll, StaysSound, SuspendedStays};
 ghost use Rattle.circle.specs.Order.{GroundsAscend};
 ghost use Rattle.circle.specs.declared.TheConstants.{ORG_LIMIT, PERSON_LIMIT, COMMUNITY_LIMIT, GROUP_LIMIT, NAME_LIMIT, RELEASABILITY_LIMIT};
 ghost use Rattle.std.specs.Prelude.{◌≡◌};
@@ -43,6 +43,11 @@ pub fn suspended_stays()
 /// No organisation, person, community or group goes away.
 pub fn nothing_vanishes()
     ensures { NothingVanishes }
+{}
+
+/// A new key changes nothing but the key of the actor, of any role.
+pub fn new_keys_change_one()
+    ensures { NewKeysChangeOne }
 {}
 
 /// An edit is the edits of its rows, one after another.

@@ -81,7 +81,7 @@ fn memberships(alloc: Global, rows: &DirectoryRows, org: u32) -> Result<String, 
     told::rows(alloc, rows.memberships_in_groups(alloc, org)?.as_slice())
 }
 
-/// Returns the communities, groups, sponsors or memberships of an organisation.
+/// Returns the communities, groups, sponsors or memberships of an organisation, or what a community is made of.
 fn parts_of(
     alloc: Global,
     rows: &DirectoryRows,
@@ -94,6 +94,8 @@ fn parts_of(
         "active_groups_joined" => Some(numbers(alloc, rows.active_groups_joined(alloc, org))),
         "orgs_whose_client" => Some(numbers(alloc, rows.orgs_whose_client(alloc, org))),
         "memberships_in_groups" => Some(memberships(alloc, rows, org)),
+        "members_of" => Some(numbers(alloc, rows.members_of(alloc, org))),
+        "connected_to" => Some(numbers(alloc, rows.connected_to(alloc, org))),
         _ => None,
     }
 }
@@ -112,6 +114,7 @@ fn row(
         "person_of" => told::row_if_any(alloc, rows.person_of(one)),
         "person_of_key" => told::row_if_any(alloc, rows.person_of_key(&key)),
         "group_of" => told::row_if_any(alloc, rows.group_of(one)),
+        "community_of" => told::row_if_any(alloc, rows.community_of(one)),
         _ => String::from_str(alloc, "no question"),
     }
 }

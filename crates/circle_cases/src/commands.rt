@@ -93,7 +93,7 @@ fn of_administrators(case: &Named<'_>) -> Option<CircleCommand> {
     }
 }
 
-/// Returns a coordinator's command of numbers and a flag.
+/// Returns a coordinator's command of numbers and a flag, or everybody's.
 fn of_coordinators(case: &Named<'_>) -> Option<CircleCommand> {
     let one = case.one;
     let other = case.other;
@@ -118,6 +118,9 @@ fn of_coordinators(case: &Named<'_>) -> Option<CircleCommand> {
         "CancelArrange" => Some(CircleCommand::CancelArrange { org: one }),
         "Nominate" => Some(CircleCommand::Nominate { person: one }),
         "Unnominate" => Some(CircleCommand::Unnominate { person: one }),
+        "NewKey" => Some(CircleCommand::NewKey {
+            key: [u8::try_from(other).unwrap_or(0); 32],
+        }),
         _ => None,
     }
 }

@@ -226,5 +226,9 @@ fn row_edit(alloc: Global, edit: &RowEdit) -> Result<String, AllocError> {
             };
             format!(in alloc; "set person {person} {nominated}")
         }
+        RowEdit::SetKey { person, key } => {
+            let key = key_text(alloc, key)?;
+            format!(in alloc; "set person {person} key {key}")
+        }
     }
 }

@@ -26,6 +26,14 @@ fn switch(world: &mut World, group: u32, active: bool) {
     }
 }
 
+fn exchange_key(world: &mut World, person: u32, key: [u8; 32]) {
+    for account in world.accounts.iter_mut() {
+        if account.person.number == person {
+            account.key = key;
+        }
+    }
+}
+
 fn nominate(world: &mut World, person: u32, nominated: bool) {
     for account in world.accounts.iter_mut() {
         if account.person.number == person {
@@ -34,17 +42,26 @@ fn nominate(world: &mut World, person: u32, nominated: bool) {
     }
 }
 
-/// Changes the rows as the command of a person of this organisation says, without an edit. A text outside the limits
-/// adds nothing.
+/// Who gives a command: a person, and its organisation.
+#[derive(Clone, Copy)]
+pub struct Actor {
+    pub person: u32,
+    pub org: u32,
+}
+
+/// Changes the rows as the command of this person says, without an edit. A text outside the limits adds nothing.
 pub fn obey(
     world: &mut World,
     alloc: Global,
-    own: u32,
+    actor: Actor,
     command: &CircleCommand,
 ) -> Result<(), AllocError> {
-    add(world, alloc, own, command)?;
+    add(world, alloc, actor.org, command)?;
     relate(world, command)?;
-    coordinate(world, own, command)
+    if let CircleCommand::NewKey { key } = command {
+        exchange_key(world, actor.person, *key);
+    }
+    coordinate(world, actor.org, command)
 }
 
 /// Adds the numbered rows.

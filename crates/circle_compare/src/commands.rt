@@ -6,7 +6,7 @@ use std::alloc::{AllocError, Global};
 use trying::Dice;
 
 /// How many kinds of commands there are.
-pub const KINDS: u32 = 18;
+pub const KINDS: u32 = 19;
 
 /// How many of them are an administrator's.
 pub const ADMINISTRATORS: u32 = 10;
@@ -62,6 +62,15 @@ fn any_releasability(alloc: Global, dice: &mut Dice) -> Result<Text, AllocError>
     Ok(Text::new(text))
 }
 
+/// Returns a key, in one of two the same one.
+fn any_key(dice: &mut Dice) -> [u8; 32] {
+    [if dice.once_in(2) {
+        7
+    } else {
+        u8::try_from(dice.roll(256)).unwrap_or(0)
+    }; 32]
+}
+
 /// Returns a command of this kind.
 pub fn any_command(alloc: Global, dice: &mut Dice, kind: u32) -> Result<CircleCommand, AllocError> {
     match kind {
@@ -72,15 +81,12 @@ pub fn any_command(alloc: Global, dice: &mut Dice, kind: u32) -> Result<CircleCo
             org: dice.roll(7),
             name: Text::of(alloc, any_name(dice))?,
             role: any_role(dice),
-            key: [if dice.once_in(2) {
-                7
-            } else {
-                u8::try_from(dice.roll(256)).unwrap_or(0)
-            }; 32],
+            key: any_key(dice),
         }),
         5 => Ok(CircleCommand::AddCommunity {
             name: Text::of(alloc, any_name(dice))?,
         }),
+        18 => Ok(CircleCommand::NewKey { key: any_key(dice) }),
         10 => Ok(CircleCommand::NewGroup {
             name: Text::of(alloc, any_name(dice))?,
             releasability: any_releasability(alloc, dice)?,

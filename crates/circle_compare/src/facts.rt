@@ -62,7 +62,7 @@ impl World {
         }
     }
 
-    /// Finds the facts of a coordinator's command.
+    /// Finds the facts of a coordinator's command, and of everybody's.
     fn find_of_coordinators(
         &self,
         facts: &mut CircleFacts,
@@ -99,6 +99,7 @@ impl World {
                 facts.own_person = self.is_person_of(*person, actor.org);
                 facts.stands = self.is_nominated(*person);
             }
+            CircleCommand::NewKey { key } => facts.stands = self.has_key(key),
             _ => {}
         }
     }

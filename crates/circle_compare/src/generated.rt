@@ -1,5 +1,5 @@
 //! Generated commands over a directory that they change.
-use crate::changes::obey;
+use crate::changes::{Actor, obey};
 use crate::commands::{ADMINISTRATORS, KINDS, any_command, any_role};
 use crate::reads::agree_on_reads;
 use crate::refusals::code_of;
@@ -49,7 +49,7 @@ impl Pair {
     fn change(
         &mut self,
         alloc: Global,
-        org: u32,
+        actor: Actor,
         command: &CircleCommand,
         answer: Result<Edit, Refusal>,
     ) -> Result<bool, AllocError> {
@@ -57,7 +57,7 @@ impl Pair {
             return Ok(false);
         };
         self.judged.apply(edit.into_rows(alloc)?)?;
-        obey(&mut self.plain, alloc, org, command)?;
+        obey(&mut self.plain, alloc, actor, command)?;
         Ok(true)
     }
 }
@@ -84,7 +84,7 @@ fn begin_by(
     match setter(alloc, role, org)? {
         Some(actor) => {
             let answer = pair.answer(alloc, &actor, command);
-            pair.change(alloc, org, command, answer)
+            pair.change(alloc, Actor { person: 0, org }, command, answer)
         }
         None => Ok(false),
     }
@@ -202,7 +202,11 @@ fn agree_on_command(
     note(tally, kind, code_of(wanted))?;
     let answer = pair.answer(alloc, actor, command);
     let is_same = is_answer(&answer, wanted);
-    pair.change(alloc, actor.org, command, answer)?;
+    let by = Actor {
+        person: actor.number,
+        org: actor.org,
+    };
+    pair.change(alloc, by, command, answer)?;
     Ok(is_same)
 }
 

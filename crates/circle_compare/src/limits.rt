@@ -1,5 +1,5 @@
 //! The last numbered row of each kind, and the next one.
-use crate::changes::obey;
+use crate::changes::{Actor, obey};
 use crate::refusals::code_of;
 use crate::rows::World;
 use circle::command::{CircleCommand, Edit, RowEdit};
@@ -62,7 +62,11 @@ fn is_outcome(
     let plain = code_of(world.refusal(actor, command));
     let answer = answer_of(alloc, world, actor, command);
     if plain.is_none() {
-        obey(world, alloc, actor.org, command)?;
+        let by = Actor {
+            person: actor.number,
+            org: actor.org,
+        };
+        obey(world, alloc, by, command)?;
     }
     Ok(plain == wanted && is_answer(world, &answer, wanted))
 }
@@ -90,7 +94,7 @@ fn fill(world: &mut World, alloc: Global, kind: u32, count: u32) -> Result<(), A
     for number in 0..count {
         let text = format!(in alloc; "row {number}")?;
         let command = naming(alloc, kind, text.as_str(), 0)?;
-        obey(world, alloc, 1, &command)?;
+        obey(world, alloc, Actor { person: 1, org: 1 }, &command)?;
     }
     Ok(())
 }

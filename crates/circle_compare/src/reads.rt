@@ -1,6 +1,6 @@
 //! The questions to a directory beside its commands, by the plain program.
 use crate::rows::World;
-use circle::directory::{Group, GroupMember, Handling, Person};
+use circle::directory::{Community, Group, GroupMember, Handling, Person};
 use circle_rows::DirectoryRows;
 use std::alloc::{AllocError, Global};
 
@@ -25,6 +25,15 @@ impl World {
 
     fn group_of(&self, number: u32) -> Option<&Group> {
         for row in self.groups.iter() {
+            if row.number == number {
+                return Some(row);
+            }
+        }
+        None
+    }
+
+    fn community_of(&self, number: u32) -> Option<&Community> {
+        for row in self.communities.iter() {
             if row.number == number {
                 return Some(row);
             }
@@ -65,12 +74,15 @@ impl World {
         false
     }
 
-    /// Returns the communities, groups, active groups or sponsors of an organisation, by number.
+    /// Returns the communities, groups, active groups or sponsors of an organisation, or the members of a community or
+    /// those connected to it, by number.
     fn related(&self, alloc: Global, kind: u32, org: u32) -> Result<Vec<u32>, AllocError> {
         let mut found = Vec::new(alloc);
         for number in 0..32u32 {
             let is_one = match kind {
                 0 => self.has_membership(number, org),
+                4 => self.has_membership(org, number),
+                5 => self.are_connected(org, number),
                 1 => self.has_member(number, org),
                 2 => self.has_member(number, org) && self.is_switched(number, true),
                 _ => self.has_client(number, org),
@@ -116,7 +128,7 @@ fn agree_on_groups(
     )
 }
 
-/// Returns whether both give the same answers about an organisation's other rows.
+/// Returns whether both give the same answers about the other rows of an organisation or a community.
 fn agree_on_related(
     alloc: Global,
     rows: &DirectoryRows,
@@ -126,6 +138,8 @@ fn agree_on_related(
 ) -> Result<bool, AllocError> {
     let numbers = match kind {
         0 => rows.communities_of(alloc, org)?,
+        4 => rows.members_of(alloc, org)?,
+        5 => rows.connected_to(alloc, org)?,
         2 => rows.active_groups_joined(alloc, org)?,
         _ => rows.orgs_whose_client(alloc, org)?,
     };
@@ -139,7 +153,7 @@ fn agree_on_number(
     plain: &World,
     number: u32,
 ) -> Result<bool, AllocError> {
-    for kind in [0, 2, 3] {
+    for kind in [0, 2, 3, 4, 5] {
         if !agree_on_related(alloc, rows, plain, kind, number)? {
             return Ok(false);
         }
@@ -147,7 +161,8 @@ fn agree_on_number(
     Ok(
         agree_on_groups(alloc, rows, plain, number)?
             && rows.person_of(number) == plain.person_of(number)
-            && rows.group_of(number) == plain.group_of(number),
+            && rows.group_of(number) == plain.group_of(number)
+            && rows.community_of(number) == plain.community_of(number),
     )
 }
 

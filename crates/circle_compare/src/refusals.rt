@@ -205,6 +205,14 @@ impl World {
         }
     }
 
+    /// Returns why a new key is refused; each role may ask for one.
+    fn refusal_of_keys(&self, command: &CircleCommand) -> Option<(Code, &'static str)> {
+        match command {
+            CircleCommand::NewKey { key } => first(&[(self.has_key(key), Code::S1, "")]),
+            _ => None,
+        }
+    }
+
     /// Returns why the command is refused, from the rows only: the code and its detail.
     pub fn refusal(&self, actor: &Person, command: &CircleCommand) -> Option<(Code, &'static str)> {
         self.refusal_of_members(actor, command)
@@ -212,5 +220,6 @@ impl World {
             .or(self.refusal_of_communities(actor, command))
             .or(self.refusal_of_groups(actor, command))
             .or(self.refusal_of_trust(actor, command))
+            .or(self.refusal_of_keys(command))
     }
 }

@@ -5,7 +5,7 @@ use std::alloc::{AllocError, Global};
 use trying::Tally;
 
 /// The kinds, in the order of their numbers.
-const NAMES: [&str; 18] = [
+const NAMES: [&str; 19] = [
     "AddOrg",
     "AddPerson",
     "SuspendPerson",
@@ -24,6 +24,7 @@ const NAMES: [&str; 18] = [
     "CancelArrange",
     "Nominate",
     "Unnominate",
+    "NewKey",
 ];
 
 /// The outcomes that are printed, in this order.

@@ -5,7 +5,7 @@ use Rattle.std.proofs.lemmas.Bool.Decides.{nat_tests}
 use Rattle.circle.specs.declared.directory.Account.{Account}
 use Rattle.circle.specs.declared.directory.Group.{Group}
 use Rattle.circle.specs.declared.command.RowEdit.{RowEdit}
-use Rattle.circle.specs.declared.command.RowEdit.TheVariants.{PutOrg, PutAccount, Suspend, PutClient, TakeClient, PutCommunity, PutMembership, TakeMembership, PutConnection, TakeConnection, PutGroup, PutGroupMember, TakeGroupMember, SetGroupActive, PutArrangement, TakeArrangement, SetNominated}
+use Rattle.circle.specs.declared.command.RowEdit.TheVariants.{PutOrg, PutAccount, Suspend, PutClient, TakeClient, PutCommunity, PutMembership, TakeMembership, PutConnection, TakeConnection, PutGroup, PutGroupMember, TakeGroupMember, SetGroupActive, PutArrangement, TakeArrangement, SetNominated, SetKey}
 use Rattle.circle.specs.Ordered.{put_by, pair_cmp, by_pair}
 use Rattle.circle.specs.Directory.{Directory, org_number, account_number, community_number, group_number, client_key, membership_key, connection_key, group_member_key, arrangement_key}
 use Rattle.circle.specs.Aftermath.{edited_row}
@@ -61,3 +61,15 @@ order_after (SetGroupActive n b) d h = record { orgs = h.orgs; accounts = h.acco
 order_after (PutArrangement x) d h = record { orgs = h.orgs; accounts = h.accounts; clients = h.clients; communities = h.communities; memberships = h.memberships; connections = h.connections; groups = h.groups; group_members = h.group_members; arrangements = ascend_put arrangement_key x d.arrangements h.arrangements }
 order_after (TakeArrangement x y) d h = record { orgs = h.orgs; accounts = h.accounts; clients = h.clients; communities = h.communities; memberships = h.memberships; connections = h.connections; groups = h.groups; group_members = h.group_members; arrangements = ascend_left arrangement_key _ d.arrangements h.arrangements }
 order_after (SetNominated n b) d h = record { orgs = h.orgs; accounts = ascend_map (numbered account_number) (λ (a : Account). if a.person.number == n then record a { person = record (a.person) { nominated = b } } else a) d.accounts (λ a. same_when (numbered account_number) (a.person.number == n) (record a { person = record (a.person) { nominated = b } }) a refl) h.accounts; clients = h.clients; communities = h.communities; memberships = h.memberships; connections = h.connections; groups = h.groups; group_members = h.group_members; arrangements = h.arrangements }
+order_after (SetKey n key) d h = record {
+  orgs = h.orgs;
+  accounts = ascend_map (numbered account_number) (λ (a : Account). if a.person.number == n then record a { key = key } else a) d.accounts
+      (λ a. same_when (numbered account_number) (a.person.number == n) (record a { key = key }) a refl) h.accounts;
+  clients = h.clients;
+  communities = h.communities;
+  memberships = h.memberships;
+  connections = h.connections;
+  groups = h.groups;
+  group_members = h.group_members;
+  arrangements = h.arrangements;
+}

@@ -58,7 +58,8 @@ impl DirectoryRows {
             }
             CircleCommand::AddOrg { .. }
             | CircleCommand::AddCommunity { .. }
-            | CircleCommand::NewGroup { .. } => true,
+            | CircleCommand::NewGroup { .. }
+            | CircleCommand::NewKey { .. } => true,
         }
     }
 
@@ -114,7 +115,9 @@ impl DirectoryRows {
     {
         match command {
             CircleCommand::AddOrg { name } => self.has_org_named(name.as_str()),
-            CircleCommand::AddPerson { key, .. } => self.has_key(key),
+            CircleCommand::AddPerson { key, .. } | CircleCommand::NewKey { key } => {
+                self.has_key(key)
+            }
             CircleCommand::SuspendPerson { person } => self.has_suspended(*person),
             CircleCommand::AddClient { org, client }
             | CircleCommand::RemoveClient { org, client } => self.has_client(*org, *client),

@@ -1,7 +1,7 @@
 //! What is asked of a directory in memory besides the facts of commands.
-ghost use Rattle.std.specs.Prelude.{◌≡◌, IfOk};
+ghost use Rattle.std.specs.Prelude.{◌≡◌, ◌==◌, IfOk, filter, map};
 ghost use Rattle.std.specs.Option.{option_copied};
-ghost use Rattle.circle.specs.Reads.{person_of_key, person_of, group_of, communities_of, memberships_in_groups, groups_joined, active_groups_joined, orgs_whose_client, share_community, joins, are_connected, arranged};
+ghost use Rattle.circle.specs.Reads.{person_of_key, person_of, group_of, community_of, members_of, connected_to, communities_of, memberships_in_groups, groups_joined, active_groups_joined, orgs_whose_client, share_community, joins, are_connected, arranged};
 
 use crate::keyed::row_of;
 use crate::rows::DirectoryRows;
@@ -35,6 +35,61 @@ impl DirectoryRows {
         ensures { option_copied result ≡ group_of number self.now }
     {
         row_of(self.sets.groups.as_slice(), (0, number))
+    }
+
+    /// Returns the community with this number.
+    pub fn community_of(&self, number: u32) -> Option<&Community>
+        ensures { option_copied result ≡ community_of number self.now }
+    {
+        row_of(self.sets.communities.as_slice(), (0, number))
+    }
+
+    /// Returns the organisations that are members of the community, by number. Fails if memory runs out.
+    pub fn members_of(&self, alloc: Global, community: u32) -> Result<Vec<u32>, AllocError>
+        ensures { IfOk result (λ found. found.items ≡ members_of community self.now) }
+    {
+        self.sets
+            .memberships
+            .iter()
+            .filter(|row| row.community == community)
+            .map(|row| row.org)
+            .collect(alloc)
+    }
+
+    /// Returns the communities that are connected to this one and have a smaller number. Fails if memory runs out.
+    fn connected_below(&self, alloc: Global, community: u32) -> Result<Vec<u32>, AllocError>
+        ensures { IfOk result (λ found. found.items ≡
+            map (λ l. l.low) (filter (λ l. l.high == community) self.now.connections)) }
+    {
+        self.sets
+            .connections
+            .iter()
+            .filter(|row| row.high == community)
+            .map(|row| row.low)
+            .collect(alloc)
+    }
+
+    /// Returns the communities that are connected to this one and have a greater number. Fails if memory runs out.
+    fn connected_above(&self, alloc: Global, community: u32) -> Result<Vec<u32>, AllocError>
+        ensures { IfOk result (λ found. found.items ≡
+            map (λ l. l.high) (filter (λ l. l.low == community) self.now.connections)) }
+    {
+        self.sets
+            .connections
+            .iter()
+            .filter(|row| row.low == community)
+            .map(|row| row.high)
+            .collect(alloc)
+    }
+
+    /// Returns the communities that are connected to this one, by number. Fails if memory runs out.
+    pub fn connected_to(&self, alloc: Global, community: u32) -> Result<Vec<u32>, AllocError>
+        ensures { IfOk result (λ found. found.items ≡ connected_to community self.now) }
+    {
+        let mut found = self.connected_below(alloc, community)?;
+        let above = self.connected_above(alloc, community)?;
+        found.extend_from_slice(above.as_slice())?;
+        Ok(found)
     }
 
     /// Returns how the source arranged that the organisation handles the label `default`, if it did.

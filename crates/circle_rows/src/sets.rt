@@ -2,7 +2,7 @@
 ghost use Rattle.std.specs.Prelude.{◌≡◌, ◌+◌, ◌==◌, ℕ, false, OnOk, if◌then◌else◌, length};
 ghost use Rattle.std.specs.Vec.{vec_len, vec_capacity};
 ghost use Rattle.circle.specs.Directory.{empty};
-ghost use Rattle.circle.specs.Aftermath.{edited_row, exchange_account, exchange_group};
+ghost use Rattle.circle.specs.Aftermath.{edited_row, exchange_account, exchange_group, exchange_key};
 
 use crate::keyed::{Keyed, put_row, take_rows};
 use circle::command::RowEdit;
@@ -94,6 +94,7 @@ impl Sets {
             RowEdit::SetNominated { person, nominated } => {
                 nominate(&mut self.accounts, person, nominated)
             }
+            RowEdit::SetKey { person, key } => set_key(&mut self.accounts, person, key),
         }
     }
 }
@@ -156,6 +157,27 @@ fn nominate_row(row: &mut Account, person: u32, nominated: bool)
 {
     if row.person.number == person {
         row.person.nominated = nominated;
+    }
+}
+
+/// Exchanges the key of the person.
+fn set_key(rows: &mut Vec<Account>, person: u32, key: [u8; 32])
+    ensures items { rows.new.items ≡ exchange_key person key rows.old.items }
+    ensures len { vec_len rows.new ≡ vec_len rows.old }
+    ensures capacity { vec_capacity rows.new ≡ vec_capacity rows.old }
+{
+    for row in rows.iter_mut() {
+        set_row_key(row, person, key);
+    }
+}
+
+/// The same of the person of the row, if it is this one.
+fn set_row_key(row: &mut Account, person: u32, key: [u8; 32])
+    ensures { row.new ≡ (if row.old.person.number == person then record
+        (row.old) { key = key } else row.old) }
+{
+    if row.person.number == person {
+        row.key = key;
     }
 }
 

@@ -14,10 +14,12 @@ fn readings(alloc: Global) -> Result<Vec<Request>, AllocError> {
     let mut all = Vec::new(alloc);
     all.push(Request::WhoAmI)?;
     all.push(Request::MyGroups)?;
+    all.push(Request::MyCommunities)?;
     all.push(Request::List { after: 0 })?;
     all.push(Request::Addressed { after: 0 })?;
     for incident in 1..=INCIDENTS {
         all.push(Request::View { incident })?;
+        all.push(Request::Sharing { incident })?;
     }
     Ok(all)
 }

@@ -7,12 +7,13 @@ use Rattle.hub.proofs.ToldSame.{StepsTellSame, chain-same}
 use Rattle.hub.proofs.OtherUnseen.{unseen-told}
 use Rattle.hub.proofs.OtherLines.{plain-step, hidden-step}
 use Rattle.hub.proofs.OtherRows.{rows-step}
+use Rattle.hub.proofs.SharedSteps.{plain-shared, hidden-shared, unseen-shared, other-rows-shared}
 
 steps : (now : ℤ) (a : Account) → StepsTellSame now a
-steps now a s t ss st there (inl h) = plain-step now a s t ss st there h
-steps now a s t ss st there (inr (inl h)) = hidden-step now a s t ss st there h
-steps now a s t ss st there (inr (inr (inl h))) = unseen-told now a s t ss st there h
-steps now a s t ss st there (inr (inr (inr h))) = rows-step now a s t ss st there h
+steps now a s t ss st there (inl h) = let one = plain-step now a s t ss st there h in (one.0, plain-shared now a s t h, one.1)
+steps now a s t ss st there (inr (inl h)) = let one = hidden-step now a s t ss st there h in (one.0, hidden-shared now a s t h, one.1)
+steps now a s t ss st there (inr (inr (inl h))) = let one = unseen-told now a s t ss st there h in (one.0, unseen-shared now a s t h, one.1)
+steps now a s t ss st there (inr (inr (inr h))) = let one = rows-step now a s t ss st there h in (one.0, other-rows-shared now a s t h, one.1)
 
 pub answered-alike : AlikeIsAnsweredAlike
 answered-alike now a s t request h k = chain-same now a (steps now a) request k s h.between t h.sound h.there h.chain

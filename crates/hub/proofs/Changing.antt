@@ -12,7 +12,7 @@ use Rattle.circle.specs.Directory.{Directory}
 use Rattle.circle.specs.Aftermath.{next_in, edit_of, rows_of}
 use Rattle.circle.specs.declared.directory.Person.{Person}
 use Rattle.circle.specs.declared.command.CircleCommand.{CircleCommand}
-use Rattle.circle.specs.declared.command.CircleCommand.TheVariants.{AddOrg, AddPerson, SuspendPerson, AddClient, RemoveClient, AddCommunity, Join, Leave, Link, Unlink, NewGroup, GroupAdd, GroupRemove, GroupActive, Arrange, CancelArrange, Nominate, Unnominate}
+use Rattle.circle.specs.declared.command.CircleCommand.TheVariants.{AddOrg, AddPerson, SuspendPerson, AddClient, RemoveClient, AddCommunity, Join, Leave, Link, Unlink, NewGroup, GroupAdd, GroupRemove, GroupActive, Arrange, CancelArrange, Nominate, Unnominate, NewKey}
 use Rattle.hub_state.specs.declared.TheConstants.{REVISION_LIMIT}
 use Rattle.hub_core.specs.Documents.{Lines, documents_in, made_at}
 use Rattle.hub_core.specs.State.{State}
@@ -79,6 +79,7 @@ circle_numbers d a f (Arrange org handling) = refl
 circle_numbers d a f (CancelArrange org) = refl
 circle_numbers d a f (Nominate person) = refl
 circle_numbers d a f (Unnominate person) = refl
+circle_numbers d a f (NewKey key) = refl
 
 -- ---- revisions
 
@@ -105,11 +106,13 @@ reply_is s now a (ask.Unaddress r) h = refl
 reply_is s now a (ask.Grant r) h = refl
 reply_is s now a (ask.Withdraw r) h = refl
 reply_is s now a (ask.View n) h = absurd (true≢false h)
+reply_is s now a (ask.Sharing n) h = absurd (true≢false h)
 reply_is s now a (ask.Explain r) h = absurd (true≢false h)
 reply_is s now a (ask.List after) h = absurd (true≢false h)
 reply_is s now a (ask.Search r) h = absurd (true≢false h)
 reply_is s now a (ask.Addressed after) h = absurd (true≢false h)
 reply_is s now a ask.MyGroups h = absurd (true≢false h)
+reply_is s now a ask.MyCommunities h = absurd (true≢false h)
 reply_is s now a ask.WhoAmI h = absurd (true≢false h)
 
 -- ---- one edit more

@@ -18,6 +18,9 @@ pub mod OtherUnseen
 pub mod OtherDocument
 pub mod OtherLines
 pub mod OtherRows
+pub mod Shared
+pub mod SharedSteps
 pub mod OtherEnded
 pub mod AnsweredAlike
+pub mod NewKeys
 mod Worlds

@@ -1,9 +1,9 @@
--- Other permissions that have ended, also the person's own.
+-- Other permissions that have ended, also the person's own; and those at others' reports alone.
 use Rattle.std.proofs.Common.{◌≡◌, Bool, false, List, [], ◌∷◌, refl, sym, ◌∙◌, ap, subst, ◌&&◌, ◌||◌, ◌==◌, inr}
 use Rattle.std.specs.Prelude.{ℤ, None, Some, filter, map, Contains, option_map}
 use Rattle.std.specs.List.{AllByRecursion}
 use Rattle.std.proofs.lemmas.List.{map-id}
-use Rattle.std.proofs.lemmas.Bool.{and_right}
+use Rattle.std.proofs.lemmas.Bool.{and_right, or_parts}
 use Rattle.policy.specs.declared.standing.Standing.{Standing}
 use Rattle.policy.specs.Permissions.{includes, is_before, holds_for}
 use Rattle.redact.specs.Alike.{IsToldAlike}
@@ -18,13 +18,14 @@ use Rattle.hub_core.specs.Sound.{IsSound}
 use Rattle.hub_state.specs.declared.state.Incident.{Incident}
 use Rattle.hub_state.specs.declared.state.Permission.{Permission}
 use Rattle.hub.specs.Told.{standing_at, is_served, is_found, is_addressed, view_with}
-use Rattle.hub.specs.Alike.{report_of, live_permissions, EndedPermissionsAreNotFelt}
+use Rattle.hub.specs.Alike.{report_of, is_own, live_permissions, live_or_own_permissions, EndedPermissionsAreNotFelt, OthersEndedPermissionsAreNotFelt}
 use Rattle.hub.proofs.Numbered.{all_found}
 use Rattle.hub.proofs.Standings.{standing_at-is}
-use Rattle.hub.proofs.ToldSame.{TellsSame, reply-same}
+use Rattle.hub.proofs.ToldSame.{TellsSame, TellsShared, reply-same, reply-alike}
 use Rattle.hub.proofs.OtherUnseen.{known}
 use Rattle.hub.proofs.OtherDocument.{ToldOf, page-same, view-same}
 use Rattle.hub.proofs.OtherLines.{marked-document}
+use Rattle.hub.proofs.SharedSteps.{kept-in, ended-shared}
 
 module _ (now : ℤ) (a : Account) (s : State) (permissions : List Permission) where
   abbrev p : Person
@@ -92,4 +93,31 @@ pub ended-unfelt : EndedPermissionsAreNotFelt
 ended-unfelt now a s t request ss st there h told =
     reply-same now a s t
     (subst (λ x. TellsSame now a s x) (sym h.after) (ended-told now a s t.permissions (h.permissions ∙ ap (live_permissions now) h.after) ss (subst IsSound h.after st) there))
+    request told
+
+-- ---- at others' reports alone
+
+-- the permissions that haven't ended are the same if those and the own are
+live-kept : (now : ℤ) (a : Account) (s : State) (permissions : List Permission) →
+    live_or_own_permissions now a s ≡ live_or_own_permissions now a (record s { permissions = permissions }) →
+    live_permissions now s ≡ live_permissions now (record s { permissions = permissions })
+live-kept now a s permissions same = kept-in lives keeps keeps s.permissions permissions same gone gone
+  where
+    lives : Permission → Bool
+    lives x = is_before now x.permission.until
+
+    keeps : Permission → Bool
+    keeps x = is_before now x.permission.until || is_own now a s x.incident
+
+    gone : (x : Permission) → keeps x ≡ false → lives x ≡ false
+    gone x e = (or_parts (is_before now x.permission.until) (is_own now a s x.incident) e).0
+
+pub others-ended-unfelt : OthersEndedPermissionsAreNotFelt
+others-ended-unfelt now a s t request ss st there h told =
+    let same : live_or_own_permissions now a s ≡ live_or_own_permissions now a (record s { permissions = t.permissions }) =
+    h.permissions ∙ ap (live_or_own_permissions now a) h.after in
+    reply-alike now a s t
+    (subst (λ x. TellsSame now a s x) (sym h.after)
+    (ended-told now a s t.permissions (live-kept now a s t.permissions same) ss (subst IsSound h.after st) there))
+    (subst (λ x. TellsShared now a s x) (sym h.after) (ended-shared now a s t.permissions same))
     request told

@@ -59,7 +59,7 @@ told-of-same now p s t i stands cases =
       view = ap (λ x. option_map (view_with i) (excerpt_of i.document (case_for s i) x)) there ∙ ap (λ c. option_map (view_with i) (excerpt_of i.document c (standing_at t now p i))) (sym cases);
     }
 
-find-other : (n : ℕ) (doc : Lines) (xs : List Incident) → find (λ (i : Incident). i.naming.number == n) (map (other_of n doc) xs) ≡ option_map (redone doc) (find (λ (i : Incident). i.naming.number == n) xs)
+pub find-other : (n : ℕ) (doc : Lines) (xs : List Incident) → find (λ (i : Incident). i.naming.number == n) (map (other_of n doc) xs) ≡ option_map (redone doc) (find (λ (i : Incident). i.naming.number == n) xs)
 find-other n doc [] = refl
 find-other n doc (x ∷ xs) = by_test (x.naming.number == n) refl (find-other n doc xs)
   where
@@ -136,7 +136,7 @@ within-of {X} of within xs ys h = one xs ∙ ap (filter of) h ∙ sym (one ys)
     one zs = filter-both (λ x. not (within x)) of zs ∙ filter_agree (λ x. of x && not (within x)) (λ x. not (of x && within x) && of x) (λ x. of_then (of x) (within x)) zs
         ∙ sym (filter-both of (λ x. not (of x && within x)) zs)
 
-of-others : {X : Type 0} (number : X → ℕ) (within : X → Bool) (n m : ℕ) (xs ys : List X) → (m == n) ≡ false → filter (λ x. not (number x == n && within x)) xs ≡ filter (λ x. not (number x == n && within x)) ys →
+pub of-others : {X : Type 0} (number : X → ℕ) (within : X → Bool) (n m : ℕ) (xs ys : List X) → (m == n) ≡ false → filter (λ x. not (number x == n && within x)) xs ≡ filter (λ x. not (number x == n && within x)) ys →
     filter (λ x. number x == m) xs ≡ filter (λ x. number x == m) ys
 of-others {X} number within n m xs ys k h =
     let no : (x : X) → not (number x == n && within x) ≡ false → (number x == m) ≡ false = λ x gone. not_both (number x) n m (turned m n k) (of_gone (number x == n) (within x) gone) in

@@ -155,7 +155,7 @@ apart-from b [] a h k = absurd k
 apart-from b (c ∷ bs) a h (inl k) = subst (λ y. b.key ≢ y.key) k h.0
 apart-from b (c ∷ bs) a h (inr k) = apart-from b bs a h.1 k
 
-found-by-key : (bs : List Account) (a : Account) → Pairwise (λ (x y : Account). x.key ≢ y.key) bs → In bs a → find (λ (b : Account). bytes_eq b.key a.key) bs ≡ Some a
+pub found-by-key : (bs : List Account) (a : Account) → Pairwise (λ (x y : Account). x.key ≢ y.key) bs → In bs a → find (λ (b : Account). bytes_eq b.key a.key) bs ≡ Some a
 found-by-key [] a h k = absurd k
 found-by-key (b ∷ bs) a h (inl k) =
     ap (λ t. cond t (Some b) (find (λ (x : Account). bytes_eq x.key a.key) bs)) (subst (λ y. bytes_eq b.key y.key ≡ true) k (bytes_eq-refl b.key)) ∙ ap Some k

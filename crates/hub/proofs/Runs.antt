@@ -12,7 +12,7 @@ use Rattle.hub.specs.Machine.{Asked, IsStep, IsRun, left_by, state_left}
 use Rattle.hub.specs.declared.key.Key.{Key}
 use Rattle.hub.proofs.Served.{caller_org}
 
-left_sound : (s : State) (key : Key) (r : Request) → IsSound s → IsSound (state_left s key r)
+pub left_sound : (s : State) (key : Key) (r : Request) → IsSound s → IsSound (state_left s key r)
 left_sound s key r sound = by_caller (caller_of s key) refl
   where
     by_caller : (o : Option Person) → caller_of s key ≡ o → IsSound (left_by s o r)

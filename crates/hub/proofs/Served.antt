@@ -12,7 +12,7 @@ use Rattle.circle.specs.Sound.{IsOrg}
 use Rattle.circle.specs.declared.directory.Account.{Account}
 use Rattle.circle.specs.declared.directory.Person.{Person}
 use Rattle.circle.specs.declared.command.CircleCommand.{CircleCommand}
-use Rattle.circle.specs.declared.command.CircleCommand.TheVariants.{AddOrg, AddPerson, SuspendPerson, AddClient, RemoveClient, AddCommunity, Join, Leave, Link, Unlink, NewGroup, GroupAdd, GroupRemove, GroupActive, Arrange, CancelArrange, Nominate, Unnominate}
+use Rattle.circle.specs.declared.command.CircleCommand.TheVariants.{AddOrg, AddPerson, SuspendPerson, AddClient, RemoveClient, AddCommunity, Join, Leave, Link, Unlink, NewGroup, GroupAdd, GroupRemove, GroupActive, Arrange, CancelArrange, Nominate, Unnominate, NewKey}
 use Rattle.circle.specs.declared.refusal.Code.TheVariants.{F1, F2}
 use Rattle.circle.specs.declared.refusal.Refusal.{Refusal}
 use Rattle.hub_core.specs.State.{State, incident_of}
@@ -25,14 +25,15 @@ use Rattle.hub_state.specs.declared.state.Incident.{Incident}
 use Rattle.hub_state.specs.declared.reply.Reply.{Reply}
 use Rattle.hub_state.specs.declared.reply.Reply.TheVariants.{Refused}
 use Rattle.hub_state.specs.declared.reply.View.{View as ViewOf}
+use Rattle.hub_state.specs.declared.reply.Sharing.{Sharing as SharingOf}
 use Rattle.hub_state.specs.declared.request.Request.{Request}
 use Rattle.hub_state.specs.declared.request.Request.TheVariants as ask
 use Rattle.hub_state.specs.declared.shelf.ShelfFault.{ShelfFault}
 use Rattle.hub_state.specs.declared.shelf.ShelfFault.TheVariants.{NoMemory, Failed}
 use Rattle.hub_state.proofs.Keeping.{found_each}
 use Rattle.hub.specs.Faults.{code_told, is_failure, tells_failure}
-use Rattle.hub.specs.Told.{view_of}
-use Rattle.hub.specs.Replies.{if_active, caller_of, view_or_nothing, viewed, circle_reply, refused_or, answer_to, reply_by, reply_of}
+use Rattle.hub.specs.Told.{shared_at, view_of}
+use Rattle.hub.specs.Replies.{if_active, caller_of, view_or_nothing, sharing_or_nothing, viewed, circle_reply, refused_or, answer_to, reply_by, reply_of}
 use Rattle.hub.specs.Machine.{Asked, IsGivenUp, IsStep, left_by}
 use Rattle.hub_core.specs.Shelves.{IsKept}
 use Rattle.hub.specs.inner.Asking.{IsThere}
@@ -43,7 +44,7 @@ use Rattle.hub.proofs.Numbered.{all_found}
 
 -- ---- the caller
 
-same_person : (a : Account) (p : Person) → if_active (Some a.person) ≡ Some p → a.person ≡ p
+pub same_person : (a : Account) (p : Person) → if_active (Some a.person) ≡ Some p → a.person ≡ p
 same_person a p h = by_case a.person.active h
   where
     by_case : (b : Bool) → cond b (Some a.person) None ≡ Some p → a.person ≡ p
@@ -77,11 +78,13 @@ unless_same (Some refusal) s = refl
 
 reads_leave : (s : State) (p : Person) (r : Request) → is_reading r ≡ true → state_after s p r ≡ s
 reads_leave s p (ask.View n) h = refl
+reads_leave s p (ask.Sharing n) h = unless_same (refusal_of s p (ask.Sharing n)) s
 reads_leave s p (ask.Explain r) h = unless_same (refusal_of s p (ask.Explain r)) s
 reads_leave s p (ask.List after) h = refl
 reads_leave s p (ask.Search r) h = unless_same (refusal_of s p (ask.Search r)) s
 reads_leave s p (ask.Addressed after) h = refl
 reads_leave s p ask.MyGroups h = refl
+reads_leave s p ask.MyCommunities h = refl
 reads_leave s p ask.WhoAmI h = refl
 reads_leave s p (ask.Circle command) h = absurd (true≢false (sym h))
 reads_leave s p (ask.Post r) h = absurd (true≢false (sym h))
@@ -99,17 +102,23 @@ view_unmade s now p o = by_case (option_and_then (view_of s now p) o)
     by_case None = refl
     by_case (Some v) = refl
 
+sharing_unmade : (o : Option SharingOf) → is_made (sharing_or_nothing o) ≡ false
+sharing_unmade None = refl
+sharing_unmade (Some sharing) = refl
+
 search_unmade : (o : Option Refusal) (r : Reply) → is_made r ≡ false → is_made (refused_or o r) ≡ false
 search_unmade None r h = h
 search_unmade (Some refusal) r h = refl
 
 reads_unmade : (s : State) (now : ℤ) (p : Person) (r : Request) → is_reading r ≡ true → is_made (due_to s now p r) ≡ false
 reads_unmade s now p (ask.View n) h = view_unmade s now p (incident_of n s)
+reads_unmade s now p (ask.Sharing n) h = search_unmade (refusal_of s p (ask.Sharing n)) _ (sharing_unmade (option_map (shared_at s now) (incident_of n s)))
 reads_unmade s now p (ask.Explain r) h = search_unmade (refusal_of s p (ask.Explain r)) _ refl
 reads_unmade s now p (ask.List after) h = refl
 reads_unmade s now p (ask.Search r) h = search_unmade (refusal_of s p (ask.Search r)) _ refl
 reads_unmade s now p (ask.Addressed after) h = refl
 reads_unmade s now p ask.MyGroups h = refl
+reads_unmade s now p ask.MyCommunities h = refl
 reads_unmade s now p ask.WhoAmI h = refl
 reads_unmade s now p (ask.Circle command) h = absurd (true≢false (sym h))
 reads_unmade s now p (ask.Post r) h = absurd (true≢false (sym h))
@@ -200,6 +209,7 @@ circle_tells s a (Arrange org handling) = refl
 circle_tells s a (CancelArrange org) = refl
 circle_tells s a (Nominate person) = refl
 circle_tells s a (Unnominate person) = refl
+circle_tells s a (NewKey key) = refl
 
 grounds_tell : (s : State) (a : Person) (r : Request) → tells_none (grounds s a r) ≡ true
 grounds_tell s a (ask.Circle command) = circle_tells s a command
@@ -211,11 +221,13 @@ grounds_tell s a (ask.Unaddress r) = refl
 grounds_tell s a (ask.Grant r) = refl
 grounds_tell s a (ask.Withdraw r) = refl
 grounds_tell s a (ask.View n) = refl
+grounds_tell s a (ask.Sharing n) = refl
 grounds_tell s a (ask.Explain r) = refl
 grounds_tell s a (ask.List after) = refl
 grounds_tell s a (ask.Search r) = refl
 grounds_tell s a (ask.Addressed after) = refl
 grounds_tell s a ask.MyGroups = refl
+grounds_tell s a ask.MyCommunities = refl
 grounds_tell s a ask.WhoAmI = refl
 
 view_untold : (s : State) (now : ℤ) (p : Person) (o : Option Incident) → tells_failure (viewed s now p o) ≡ false
@@ -224,6 +236,10 @@ view_untold s now p o = by_case (option_and_then (view_of s now p) o)
     by_case : (v : Option ViewOf) → tells_failure (view_or_nothing v) ≡ false
     by_case None = refl
     by_case (Some v) = refl
+
+sharing_untold : (o : Option SharingOf) → tells_failure (sharing_or_nothing o) ≡ false
+sharing_untold None = refl
+sharing_untold (Some sharing) = refl
 
 command_untold : (s : State) (c : CircleCommand) → tells_failure (circle_reply s.directory c) ≡ false
 command_untold s (AddOrg name) = refl
@@ -244,6 +260,7 @@ command_untold s (Arrange org handling) = refl
 command_untold s (CancelArrange org) = refl
 command_untold s (Nominate person) = refl
 command_untold s (Unnominate person) = refl
+command_untold s (NewKey key) = refl
 
 answer_untold : (s : State) (now : ℤ) (p : Person) (r : Request) → tells_failure (answer_to s now p r) ≡ false
 answer_untold s now p (ask.Circle command) = command_untold s command
@@ -255,11 +272,13 @@ answer_untold s now p (ask.Unaddress r) = refl
 answer_untold s now p (ask.Grant r) = refl
 answer_untold s now p (ask.Withdraw r) = refl
 answer_untold s now p (ask.View n) = view_untold s now p (incident_of n s)
+answer_untold s now p (ask.Sharing n) = sharing_untold (option_map (shared_at s now) (incident_of n s))
 answer_untold s now p (ask.Explain r) = refl
 answer_untold s now p (ask.List after) = refl
 answer_untold s now p (ask.Search r) = refl
 answer_untold s now p (ask.Addressed after) = refl
 answer_untold s now p ask.MyGroups = refl
+answer_untold s now p ask.MyCommunities = refl
 answer_untold s now p ask.WhoAmI = refl
 
 pub due_untold : (s : State) (now : ℤ) (key : Key) (r : Request) → tells_failure (reply_of s now key r) ≡ false
@@ -296,6 +315,7 @@ command_made s (Arrange org handling) = refl
 command_made s (CancelArrange org) = refl
 command_made s (Nominate person) = refl
 command_made s (Unnominate person) = refl
+command_made s (NewKey key) = refl
 
 unmade_reads : (s : State) (now : ℤ) (p : Person) (r : Request) → is_made (answer_to s now p r) ≡ false → is_reading r ≡ true
 unmade_reads s now p (ask.Circle command) h = absurd (true≢false (sym (command_made s command) ∙ h))
@@ -307,11 +327,13 @@ unmade_reads s now p (ask.Unaddress r) h = absurd (true≢false h)
 unmade_reads s now p (ask.Grant r) h = absurd (true≢false h)
 unmade_reads s now p (ask.Withdraw r) h = absurd (true≢false h)
 unmade_reads s now p (ask.View n) h = refl
+unmade_reads s now p (ask.Sharing n) h = refl
 unmade_reads s now p (ask.Explain r) h = refl
 unmade_reads s now p (ask.List after) h = refl
 unmade_reads s now p (ask.Search r) h = refl
 unmade_reads s now p (ask.Addressed after) h = refl
 unmade_reads s now p ask.MyGroups h = refl
+unmade_reads s now p ask.MyCommunities h = refl
 unmade_reads s now p ask.WhoAmI h = refl
 
 pub left_unmade : (s left : State) (asked : Asked) (reply : Reply) → IsStep s asked reply left → is_made reply ≡ false → left ≡ s

@@ -6,17 +6,18 @@ use Rattle.circle.specs.declared.directory.Person.{Person}
 use Rattle.circle.specs.declared.directory.Account.{Account}
 use Rattle.hub_core.specs.State.{State, incident_of}
 use Rattle.hub_core.specs.Sound.{IsSound}
-use Rattle.hub_core.specs.Reads.{groups_of}
+use Rattle.hub_core.specs.Reads.{groups_of, joined_communities}
 use Rattle.hub_core.specs.Refusals.{refusal_of}
 use Rattle.hub_state.specs.declared.state.Incident.{Incident}
-use Rattle.hub_state.specs.declared.reply.Reply.TheVariants.{Incidents, Groups}
+use Rattle.hub_state.specs.declared.reply.Reply.TheVariants.{Incidents, Groups, Communities}
 use Rattle.iodef_tree.specs.Text.{Bytes}
 use Rattle.hub_state.specs.declared.request.Request.{Request}
 use Rattle.hub_state.specs.declared.request.Request.TheVariants as ask
 use Rattle.hub.specs.Told.{is_served, is_found, is_addressed}
-use Rattle.hub.specs.Replies.{caller_of, if_active, page_of, viewed, answer_to, refused_or, reply_by, reply_of}
+use Rattle.hub.specs.Replies.{caller_of, if_active, page_of, viewed, refused_or, reply_by, reply_of}
 use Rattle.hub.specs.declared.key.Key.TheVariants.{Digest}
-use Rattle.hub.specs.Alike.{is_told, IsAlikeStep, IsChain}
+use Rattle.hub.specs.Serving.{due_to}
+use Rattle.hub.specs.Alike.{is_told, is_answered_alike, IsAlikeStep, IsChain}
 
 module _ (now : ℤ) (a : Account) where
   abbrev p : Person
@@ -32,8 +33,13 @@ module _ (now : ℤ) (a : Account) where
     pub found : (needle : Bytes) (class : Option Bytes) (n : ℕ) → page_of (λ (i : Incident). is_found s now p i needle class) n s ≡ page_of (λ (i : Incident). is_found t now p i needle class) n t
     pub addressed : (n : ℕ) → page_of (λ (i : Incident). is_addressed s now p i && is_served s now p i) n s ≡ page_of (λ (i : Incident). is_addressed t now p i && is_served t now p i) n t
 
+  -- what the person learns beside that: its communities, and how each own report is shared
+  pub record TellsShared (s t : State) : Type 0 where
+    pub communities : joined_communities p s ≡ joined_communities p t
+    pub sharing : (n : ℕ) → due_to s now p (ask.Sharing n) ≡ due_to t now p (ask.Sharing n)
+
   module _ (s t : State) (h : TellsSame s t) where
-    due-same : (r : Request) → is_told r ≡ true → refused_or (refusal_of s p r) (answer_to s now p r) ≡ refused_or (refusal_of t p r) (answer_to t now p r)
+    due-same : (r : Request) → is_told r ≡ true → due_to s now p r ≡ due_to t now p r
     due-same (ask.View n) k = h.view n
     due-same (ask.List n) k = ap Incidents (h.listed n)
     due-same (ask.Search r) k = ap (λ es. refused_or (refusal_of t p (ask.Search r)) (Incidents es)) (h.found r.needle r.class r.after)
@@ -48,23 +54,52 @@ module _ (now : ℤ) (a : Account) where
     due-same (ask.Unaddress r) k = absurd (false≢true k)
     due-same (ask.Grant r) k = absurd (false≢true k)
     due-same (ask.Withdraw r) k = absurd (false≢true k)
+    due-same (ask.Sharing n) k = absurd (false≢true k)
     due-same (ask.Explain r) k = absurd (false≢true k)
+    due-same ask.MyCommunities k = absurd (false≢true k)
 
-    pub reply-same : (r : Request) → is_told r ≡ true → reply_of s now (Digest a.key) r ≡ reply_of t now (Digest a.key) r
-    reply-same r k = ap (λ c. reply_by s now c r) h.first ∙ by_active p.active ∙ sym (ap (λ c. reply_by t now c r) h.second)
+    reply-due : (r : Request) → due_to s now p r ≡ due_to t now p r → reply_of s now (Digest a.key) r ≡ reply_of t now (Digest a.key) r
+    reply-due r due = ap (λ c. reply_by s now c r) h.first ∙ by_active p.active ∙ sym (ap (λ c. reply_by t now c r) h.second)
       where
         by_active : (b : Bool) → reply_by s now (if b then Some p else None) r ≡ reply_by t now (if b then Some p else None) r
-        by_active true = due-same r k
+        by_active true = due
         by_active false = refl
+
+    pub reply-same : (r : Request) → is_told r ≡ true → reply_of s now (Digest a.key) r ≡ reply_of t now (Digest a.key) r
+    reply-same r k = reply-due r (due-same r k)
+
+    module _ (more : TellsShared s t) where
+      due-alike : (r : Request) → is_answered_alike r ≡ true → due_to s now p r ≡ due_to t now p r
+      due-alike (ask.Sharing n) k = more.sharing n
+      due-alike ask.MyCommunities k = ap Communities more.communities
+      due-alike (ask.View n) k = due-same (ask.View n) k
+      due-alike (ask.List n) k = due-same (ask.List n) k
+      due-alike (ask.Search r) k = due-same (ask.Search r) k
+      due-alike (ask.Addressed n) k = due-same (ask.Addressed n) k
+      due-alike ask.MyGroups k = due-same ask.MyGroups k
+      due-alike ask.WhoAmI k = refl
+      due-alike (ask.Circle c) k = absurd (false≢true k)
+      due-alike (ask.Post r) k = absurd (false≢true k)
+      due-alike (ask.Replace r) k = absurd (false≢true k)
+      due-alike (ask.Redistribute r) k = absurd (false≢true k)
+      due-alike (ask.Address r) k = absurd (false≢true k)
+      due-alike (ask.Unaddress r) k = absurd (false≢true k)
+      due-alike (ask.Grant r) k = absurd (false≢true k)
+      due-alike (ask.Withdraw r) k = absurd (false≢true k)
+      due-alike (ask.Explain r) k = absurd (false≢true k)
+
+      pub reply-alike : (r : Request) → is_answered_alike r ≡ true → reply_of s now (Digest a.key) r ≡ reply_of t now (Digest a.key) r
+      reply-alike r k = reply-due r (due-alike r k)
 
   -- a step between sound states changes nothing that the person learns, and keeps the person
   abbrev pub StepsTellSame : Type 0
-  StepsTellSame = (s t : State) → IsSound s → IsSound t → Contains s.directory.accounts a → IsAlikeStep now a s t → TellsSame s t × Contains t.directory.accounts a
+  StepsTellSame = (s t : State) → IsSound s → IsSound t → Contains s.directory.accounts a → IsAlikeStep now a s t →
+      TellsSame s t × TellsShared s t × Contains t.directory.accounts a
 
   -- the same over a chain
-  pub chain-same : StepsTellSame → (r : Request) → is_told r ≡ true → (s : State) (between : List State) (t : State) →
+  pub chain-same : StepsTellSame → (r : Request) → is_answered_alike r ≡ true → (s : State) (between : List State) (t : State) →
       IsSound s → Contains s.directory.accounts a → IsChain now a s between t → reply_of s now (Digest a.key) r ≡ reply_of t now (Digest a.key) r
   chain-same step r k s [] t sound there c = ap (λ u. reply_of u now (Digest a.key) r) (sym c)
   chain-same step r k s (u ∷ us) t sound there c =
       let one = step s u sound c.1 there c.0 in
-      reply-same s u one.0 r k ∙ chain-same step r k u us t c.1 one.1 c.2
+      reply-alike s u one.0 one.1 r k ∙ chain-same step r k u us t c.1 one.2 c.2

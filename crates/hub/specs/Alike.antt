@@ -191,9 +191,16 @@ is_told ask.MyGroups = true
 is_told ask.WhoAmI = true
 is_told _ = false
 
+-- the request reads any of these, how an own report is shared, or the own communities: the six and `Sharing`,
+-- `MyCommunities`
+abbrev pub is_answered_alike : Request → Bool
+is_answered_alike (ask.Sharing n) = true
+is_answered_alike ask.MyCommunities = true
+is_answered_alike request = is_told request
+
 -- in two worlds that are alike for a person, the same reply is due to it at the same moment
 abbrev pub AlikeIsAnsweredAlike : Type 0
-AlikeIsAnsweredAlike = (now : ℤ) (a : Account) (s t : State) (request : Request) → IsAlike now a s t → is_told request ≡ true →
+AlikeIsAnsweredAlike = (now : ℤ) (a : Account) (s t : State) (request : Request) → IsAlike now a s t → is_answered_alike request ≡ true →
     reply_of s now (Digest a.key) request ≡ reply_of t now (Digest a.key) request
 
 -- ---- permissions that have ended
@@ -211,4 +218,20 @@ pub record HasOtherEndedPermissions (now : ℤ) (s t : State) : Type 0 where
 abbrev pub EndedPermissionsAreNotFelt : Type 0
 EndedPermissionsAreNotFelt = (now : ℤ) (a : Account) (s t : State) (request : Request) → IsSound s → IsSound t →
     Contains s.directory.accounts a → HasOtherEndedPermissions now s t → is_told request ≡ true →
+    reply_of s now (Digest a.key) request ≡ reply_of t now (Digest a.key) request
+
+-- the permissions that haven't ended at this moment, and those of the incidents of the person's organisation
+abbrev pub live_or_own_permissions : ℤ → Account → State → List Permission
+live_or_own_permissions now a s =
+    filter (λ (x : Permission). is_before now x.permission.until || is_own now a s x.incident) s.permissions
+
+-- The states differ only in permissions at incidents of other organisations that have ended at this moment.
+pub record HasOthersEndedPermissions (now : ℤ) (a : Account) (s t : State) : Type 0 where
+  pub permissions : live_or_own_permissions now a s ≡ live_or_own_permissions now a t
+  pub after : t ≡ record s { permissions = t.permissions }
+
+-- In two such sound states the same reply is due to the person, also to how an own report is shared.
+abbrev pub OthersEndedPermissionsAreNotFelt : Type 0
+OthersEndedPermissionsAreNotFelt = (now : ℤ) (a : Account) (s t : State) (request : Request) → IsSound s → IsSound t →
+    Contains s.directory.accounts a → HasOthersEndedPermissions now a s t → is_answered_alike request ≡ true →
     reply_of s now (Digest a.key) request ≡ reply_of t now (Digest a.key) request

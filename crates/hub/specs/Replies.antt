@@ -1,5 +1,5 @@
 -- The reply to a request.
-use Rattle.std.specs.Prelude.{ℕ, ◌+◌, ℤ, Bool, ◌&&◌, List, [], ◌∷◌, map, filter, take, Option, Some, None, option_and_then, if◌then◌else◌}
+use Rattle.std.specs.Prelude.{ℕ, ◌+◌, ℤ, Bool, ◌&&◌, List, [], ◌∷◌, map, filter, take, Option, Some, None, option_map, option_and_then, if◌then◌else◌}
 use Rattle.circle.specs.Outcomes.{bare}
 use Rattle.circle.specs.Aftermath.{next_in}
 use Rattle.circle.specs.Directory.{Directory}
@@ -16,16 +16,17 @@ use Rattle.hub_core.specs.Aftermath.{next_incident}
 use Rattle.hub_core.specs.Requests.{known_of}
 use Rattle.hub_core.specs.Refusals.{refusal_of}
 use Rattle.hub_core.specs.Judgement.{next_revision}
-use Rattle.hub_core.specs.Reads.{person_by_key, entry_of, incidents_above, groups_of}
+use Rattle.hub_core.specs.Reads.{person_by_key, entry_of, incidents_above, groups_of, joined_communities}
 use Rattle.hub_state.specs.declared.state.Incident.{Incident}
 use Rattle.hub_state.specs.declared.reply.Entry.{Entry}
 use Rattle.hub_state.specs.declared.reply.View.{View as ViewOf}
+use Rattle.hub_state.specs.declared.reply.Sharing.{Sharing as SharingOf}
 use Rattle.hub_state.specs.declared.reply.Reply.{Reply}
-use Rattle.hub_state.specs.declared.reply.Reply.TheVariants.{Done, Numbers, Revision, View, Incidents, Groups, Caller, Trace, Refused}
+use Rattle.hub_state.specs.declared.reply.Reply.TheVariants.{Done, Numbers, Revision, View, Incidents, Groups, Communities, Sharing, Caller, Trace, Refused}
 use Rattle.hub_state.specs.declared.request.Request.{Request}
 use Rattle.hub_state.specs.declared.request.Request.TheVariants as ask
 use Rattle.hub.specs.declared.TheConstants.{PAGE_LIMIT}
-use Rattle.hub.specs.Told.{is_served, is_found, is_addressed, view_of, trace_of}
+use Rattle.hub.specs.Told.{is_served, is_found, is_addressed, view_of, shared_at, trace_of}
 use Rattle.hub.specs.declared.key.Key.{Key}
 use Rattle.hub.specs.declared.key.Key.TheVariants.{Absent, Digest}
 
@@ -77,6 +78,13 @@ view_or_nothing (Some view) = View view
 abbrev pub viewed : State → ℤ → Person → Option Incident → Reply
 viewed s now p i = view_or_nothing (option_and_then (view_of s now p) i)
 
+-- ---- what is shared of an own report
+
+-- how the incident is shared, or N1 if there is none
+abbrev pub sharing_or_nothing : Option SharingOf → Reply
+sharing_or_nothing None = nothing_for_you
+sharing_or_nothing (Some sharing) = Sharing sharing
+
 -- ---- replies
 
 -- the reply to a person's request if nothing refuses it
@@ -90,6 +98,7 @@ answer_to s now p (ask.Unaddress r) = Done
 answer_to s now p (ask.Grant r) = Done
 answer_to s now p (ask.Withdraw r) = Done
 answer_to s now p (ask.View n) = viewed s now p (incident_of n s)
+answer_to s now p (ask.Sharing n) = sharing_or_nothing (option_map (shared_at s now) (incident_of n s))
 answer_to s now p (ask.Explain r) =
     Trace (trace_of s now (person_of r.person s.directory) (incident_of r.incident s) (pointer_tokens r.path))
 answer_to s now p (ask.List after) = Incidents (page_of (is_served s now p) after s)
@@ -97,6 +106,7 @@ answer_to s now p (ask.Search r) = Incidents (page_of (λ (i : Incident). is_fou
 answer_to s now p (ask.Addressed after) =
     Incidents (page_of (λ (i : Incident). is_addressed s now p i && is_served s now p i) after s)
 answer_to s now p ask.MyGroups = Groups (groups_of p s)
+answer_to s now p ask.MyCommunities = Communities (joined_communities p s)
 answer_to s now p ask.WhoAmI = Caller p
 
 -- the refusal if there is one, and otherwise the reply

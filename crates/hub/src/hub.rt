@@ -7,7 +7,7 @@ ghost use Rattle.hub_core.specs.State.{State};
 ghost use Rattle.hub_core.specs.Sound.{IsSound};
 ghost use Rattle.hub_state.specs.declared.reply.Reply.TheVariants.{Refused};
 ghost use Rattle.hub_core.specs.Shelves.{HasFailed, KeepsContent};
-ghost use Rattle.hub.specs.Alike.{IsAlike, is_told};
+ghost use Rattle.hub.specs.Alike.{IsAlike, is_answered_alike};
 ghost use Rattle.hub.specs.Faults.{AreCounted, failures_told};
 ghost use Rattle.hub.specs.Machine.{IsGivenUp, IsRun, IsStep, state_left};
 ghost use Rattle.hub.specs.Replies.{reply_of};
@@ -61,8 +61,8 @@ impl<Sh: Shelf> Hub<Sh> {
     ///
     /// A request whose reply isn't a change that was made leaves the content of the shelf, whatever it is.
     ///
-    /// The reply to a request that reads incidents, groups or the caller is the one that is due in every world that is
-    /// alike for the caller, unless the request is given up.
+    /// The reply to a request that reads incidents, groups, communities, the caller or how an own report is shared is
+    /// the one that is due in every world that is alike for the caller, unless the request is given up.
     pub fn answer(&mut self, alloc: Global, now: i64, key: &Key, request: &Request) -> Reply
         ensures kept { is_made result ≡ false →
             KeepsContent Sh.has Sh.doubts Sh.failed Sh.may_remain self.old self.new }
@@ -70,7 +70,7 @@ impl<Sh: Shelf> Hub<Sh> {
             (left : State) × IsStep s (now, key.now, request.now) result left ×
             Sh.has self.new left }
         ensures alike { Sh.doubts self.new ≡ 0 → (s t : State) (a : Account) → Sh.has self.old s →
-            IsAlike now a s t → key.now ≡ Digest a.key → is_told request.now ≡ true →
+            IsAlike now a s t → key.now ≡ Digest a.key → is_answered_alike request.now ≡ true →
             (result ≡ reply_of t now key.now request.now) ⊎ IsGivenUp result }
         ensures cause { Sh.doubts self.new ≡ 0 → (s : State) → Sh.has self.old s → IsSound s →
             result ≡ Refused (bare F1) → HasFailed (Sh.failed self.old) (Sh.failed self.new) }

@@ -18,8 +18,9 @@
 //!
 //! - `hub`: [`Hub`], one request and a list of them; `key`: [`Key`], the key of a caller;
 //! - `answers`: finding the caller, and answering;
-//! - `reads`: requests that only read: a page by `pages` (`page_filter`: what it lists), a view by `view`, an
-//!   explanation by `explanations`; `root_gate`: what pages and views ask before a line is read;
+//! - `reads`: requests that only read: a page by `pages` (`page_filter`: what it lists), a view by `view`, how an own
+//!   report is shared by `sharing`, an explanation by `explanations`; `root_gate`: what pages and views ask before a
+//!   line is read;
 //! - `change`: a change is judged, its reply is made, and only then the shelf makes it;
 //! - `asker`: the reads of the shelf that several of these need; `fault`: why a request is given up;
 //! - [`laws`]: a run keeps a state sound; [`examples`], worlds written by hand that are alike for a reader.
@@ -38,6 +39,7 @@ mod page_filter;
 mod pages;
 mod reads;
 mod root_gate;
+mod sharing;
 mod view;
 
 pub use hub::Hub;

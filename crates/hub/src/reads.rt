@@ -5,7 +5,7 @@ ghost use Rattle.hub_core.specs.Sound.{IsSound};
 ghost use Rattle.hub_core.specs.Refusals.{refusal_of};
 ghost use Rattle.hub_state.specs.declared.reply.Reply.TheVariants.{Incidents, Refused};
 ghost use Rattle.hub_core.specs.Reads as spec;
-ghost use Rattle.hub_state.specs.declared.reply.Reply.TheVariants.{Groups, View};
+ghost use Rattle.hub_state.specs.declared.reply.Reply.TheVariants.{Communities, Groups, View};
 ghost use Rattle.hub_core.specs.State.{incident_of};
 ghost use Rattle.hub_state.specs.declared.state.Incident.{Incident};
 ghost use Rattle.hub.specs.Told.{is_served, is_addressed};
@@ -20,10 +20,12 @@ use crate::explanations::explain_to;
 use crate::fault::{ample, refuse};
 use crate::page_filter::PageFilter;
 use crate::pages::page;
+use crate::sharing::sharing;
 use crate::view::view;
 use circle::text::Text;
 use hub_core::{
-    Code, Entries, JoinedGroups, Refusal, Reply, Request, Search, Shelf, ShelfFault, judge,
+    Code, Entries, JoinedCommunities, JoinedGroups, Refusal, Reply, Request, Search, Shelf,
+    ShelfFault, judge,
 };
 use redact::Want;
 use std::alloc::Global;
@@ -156,6 +158,15 @@ fn groups<Sh: Shelf>(shelf: &mut Sh, asker: Asker<'_>) -> Result<Reply, ShelfFau
     Ok(Reply::Groups(JoinedGroups::new(groups)))
 }
 
+fn communities<Sh: Shelf>(shelf: &mut Sh, asker: Asker<'_>) -> Result<Reply, ShelfFault>
+    ensures { Finds Sh.has Sh.doubts Sh.failed Sh.may_remain shelf.old shelf.new result (λ s.
+        IfOk result (λ reply. reply ≡
+        Communities (spec.joined_communities asker.entry.person.now s))) }
+{
+    let communities = shelf.joined_communities(asker.person)?;
+    Ok(Reply::Communities(JoinedCommunities::new(communities)))
+}
+
 /// Answers a request that only reads. None for one that changes something.
 pub fn read<Sh: Shelf>(
     shelf: &mut Sh,
@@ -174,7 +185,9 @@ pub fn read<Sh: Shelf>(
         Request::Search(asked) => search(shelf, alloc, asker, request, asked)?,
         Request::Addressed { after } => list_shown(shelf, alloc, asker, true, *after)?,
         Request::Explain(asked) => explain_to(shelf, alloc, asker, request, asked)?,
+        Request::Sharing { incident } => sharing(shelf, alloc, asker, *incident)?,
         Request::MyGroups => groups(shelf, asker)?,
+        Request::MyCommunities => communities(shelf, asker)?,
         Request::WhoAmI => Reply::Caller(ample(asker.person.clone())?),
         _ => return Ok(None),
     };

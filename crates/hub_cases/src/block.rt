@@ -15,6 +15,8 @@ pub struct Block {
     pub limits: bool,
     /// Whether each page is printed with how many reports the shelf was asked about.
     pub counts: bool,
+    /// Whether each page is printed with how many reports were asked for below kept rows.
+    pub below: bool,
 }
 
 impl Block {
@@ -25,6 +27,7 @@ impl Block {
             fails: false,
             limits: false,
             counts: false,
+            below: false,
         }
     }
 
@@ -32,18 +35,21 @@ impl Block {
         self.lines.is_empty()
     }
 
+    /// Sets what a line says of the whole block. Returns false for a line of requests.
+    fn is_set_by(&mut self, line: &str) -> bool {
+        match line {
+            "every call fails" => self.fails = true,
+            "steps are limited" => self.limits = true,
+            "searches are counted" => self.counts = true,
+            "searches below the rows are counted" => self.below = true,
+            _ => return false,
+        }
+        true
+    }
+
     /// Adds the requests of a line.
     pub fn add(&mut self, line: &str) -> Result<(), AllocError> {
-        if line == "every call fails" {
-            self.fails = true;
-            return Ok(());
-        }
-        if line == "steps are limited" {
-            self.limits = true;
-            return Ok(());
-        }
-        if line == "searches are counted" {
-            self.counts = true;
+        if self.is_set_by(line) {
             return Ok(());
         }
         let (times, request) = line.split_once(" times ").unwrap_or(("1", line));

@@ -29,8 +29,13 @@
 //!
 //! A block with a line `searches are counted` prints for each of its pages how many reports the shelf was asked about,
 //! whether they meet the want.
+//!
+//! A block with a line `searches below the rows are counted` prints for each of its pages how many reports the tables
+//! below kept rows were asked for: with a sketch of each report that was drawn with its edit, with one that was drawn
+//! of the stored document, and without sketches.
 #![tactic(auto)]
 
+mod below;
 mod block;
 mod counted;
 mod missing_row;

@@ -1,5 +1,6 @@
 //! Runs the requests of a block.
 
+use crate::below::counts_below;
 use crate::block::Block;
 use crate::counted::counts;
 use crate::steps::limit_steps;
@@ -186,6 +187,9 @@ fn push_outcomes(
     }
     if block.counts {
         answers.push(counts(alloc, lines, world)?)?;
+    }
+    if block.below {
+        answers.append(&mut counts_below(alloc, lines, world)?)?;
     }
     Ok(())
 }

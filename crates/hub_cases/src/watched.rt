@@ -1,29 +1,50 @@
-//! A shelf that counts how often it is asked whether a report meets a want. One of its calls may fail.
+//! A shelf that counts how often it is asked for a report. One of its calls may fail.
 
 ghost use Rattle.std.specs.Prelude.{◌≡◌, ◌<◌, ◌+◌, IfErr, OnOk};
 ghost use Rattle.hub_core.specs.Shelves.{HasCause, last_count};
 
 use circle::directory::Person;
 use hub::Hub;
-use hub_core::{Edit, Entry, Facts, JoinedGroup, ListShelf, Reply, Request, Shelf, ShelfFault};
+use hub_core::{
+    Edit, Entry, Facts, IncidentSharing, JoinedCommunity, JoinedGroup, ListShelf, Reply, Request,
+    Shelf, ShelfFault,
+};
+use hub_state::{StateRows, WholeRows};
 use iodef_tree::Document;
 use policy::{Case, Standing};
 use redact::{Excerpt, Want};
 use std::alloc::Global;
+use std::cell::Cell;
 use trying_shelves::{Asked, answer_over, run_over};
 
 /// A shelf that has its calls answered by another one. After so many calls, one fails and does nothing.
 #[derive(Drop)]
-struct Watched<Sh: Shelf> {
+pub struct Watched<'a, Sh: Shelf> {
     shelf: Sh,
     /// How many calls are answered before the one that fails.
     calls: u64,
     failures: u64,
-    /// How often it was asked whether an incident meets a want.
-    searches: u64,
+    /// How often it was asked for a document, an excerpt, or whether a report meets a want.
+    reports: &'a Cell<u64>,
 }
 
-impl<Sh: Shelf> Watched<Sh> {
+impl<'a, Sh: Shelf> Watched<'a, Sh> {
+    /// Watches a shelf of which no call is made to fail. Counts in the cell how often it is asked for a document, an
+    /// excerpt, or whether a report meets a want.
+    pub fn over(shelf: Sh, reports: &'a Cell<u64>) -> Watched<'a, Sh> {
+        Watched {
+            shelf,
+            calls: u64::MAX,
+            failures: 0,
+            reports,
+        }
+    }
+
+    /// Counts that it is asked for a report.
+    fn count_report(&self) {
+        self.reports.set(self.reports.get().saturating_add(1));
+    }
+
     /// Counts down to the call that fails. Fails for that one, and for every call at the last value of the count.
     fn ask(&mut self) -> Result<(), ShelfFault>
         ensures shelf { self.new.shelf ≡ self.old.shelf }
@@ -58,7 +79,7 @@ impl<Sh: Shelf> Watched<Sh> {
     }
 }
 
-impl<Sh: Shelf> Shelf for Watched<Sh> {
+impl<'a, Sh: Shelf> Shelf for Watched<'a, Sh> {
     ghost use Rattle.std.specs.Prelude.{◌≡◌};
 
     ghost has = { λ f s. Sh.has f.shelf s };
@@ -96,7 +117,14 @@ impl<Sh: Shelf> Shelf for Watched<Sh> {
         self.count_failure(found)
     }
 
+    fn incident_sharing(&mut self, incident: u32) -> Result<Option<IncidentSharing>, ShelfFault> {
+        self.ask()?;
+        let found = self.shelf.incident_sharing(incident);
+        self.count_failure(found)
+    }
+
     fn document(&mut self, incident: u32) -> Result<Option<Document>, ShelfFault> {
+        self.count_report();
         self.ask()?;
         let found = self.shelf.document(incident);
         self.count_failure(found)
@@ -108,6 +136,7 @@ impl<Sh: Shelf> Shelf for Watched<Sh> {
         case: Case,
         standing: Standing,
     ) -> Result<Option<Excerpt>, ShelfFault> {
+        self.count_report();
         self.ask()?;
         let found = self.shelf.excerpt(incident, case, standing);
         self.count_failure(found)
@@ -120,7 +149,7 @@ impl<Sh: Shelf> Shelf for Watched<Sh> {
         standing: Standing,
         want: Want,
     ) -> Result<bool, ShelfFault> {
-        self.searches = self.searches.saturating_add(1);
+        self.count_report();
         self.ask()?;
         let met = self.shelf.meets(incident, case, standing, want);
         self.count_failure(met)
@@ -138,6 +167,12 @@ impl<Sh: Shelf> Shelf for Watched<Sh> {
         self.count_failure(found)
     }
 
+    fn joined_communities(&mut self, person: &Person) -> Result<Vec<JoinedCommunity>, ShelfFault> {
+        self.ask()?;
+        let found = self.shelf.joined_communities(person);
+        self.count_failure(found)
+    }
+
     fn facts(&mut self, actor: &Person, request: &Request) -> Result<Facts, ShelfFault> {
         self.ask()?;
         let found = self.shelf.facts(actor, request);
@@ -151,6 +186,14 @@ impl<Sh: Shelf> Shelf for Watched<Sh> {
     }
 }
 
+impl<'a, Sh: WholeRows> WholeRows for Watched<'a, Sh> {
+    fn rows(&mut self) -> Result<StateRows, ShelfFault> {
+        self.ask()?;
+        let found = self.shelf.rows();
+        self.count_failure(found)
+    }
+}
+
 /// Fails one call of the shelf, after so many others. Returns the replies to the requests, or none if no call failed or
 /// the memory doesn't suffice.
 pub fn run_failing(
@@ -159,11 +202,12 @@ pub fn run_failing(
     asked: &[Asked],
     calls: u64,
 ) -> Option<Vec<Reply>> {
+    let reports = Cell::new(0);
     let mut hub = Hub::new(Watched {
         shelf,
         calls,
         failures: 0,
-        searches: 0,
+        reports: &reports,
     });
     let outcome = run_over(&mut hub, alloc, asked);
     if hub.into_shelf().failures == 0 {
@@ -172,20 +216,15 @@ pub fn run_failing(
     outcome.ok()
 }
 
-/// Returns for how many reports the request asks the shelf whether they meet a want, and the shelf.
-pub fn searches_of(alloc: Global, shelf: ListShelf, asked: &Asked) -> (u64, ListShelf) {
-    let mut hub = Hub::new(Watched {
-        shelf,
-        calls: u64::MAX,
-        failures: 0,
-        searches: 0,
-    });
+/// Answers a request. Returns how often it asks the watched shelf for a report, which counts in this cell.
+pub fn reports_of<Sh: Shelf>(
+    alloc: Global,
+    hub: &mut Hub<Sh>,
+    reports: &Cell<u64>,
+    asked: &Asked,
+) -> u64 {
+    let before = reports.get();
     let (now, key, request) = asked;
-    answer_over(&mut hub, alloc, *now, key, request);
-    let Watched {
-        shelf,
-        searches,
-        ..
-    } = hub.into_shelf();
-    (searches, shelf)
+    answer_over(hub, alloc, *now, key, request);
+    reports.get().saturating_sub(before)
 }

@@ -19,7 +19,9 @@ pub fn request_name(request: &Request) -> &'static str {
         Request::List { .. } => "List",
         Request::Search(_) => "Search",
         Request::Addressed { .. } => "Addressed",
+        Request::Sharing { .. } => "Sharing",
         Request::MyGroups => "MyGroups",
+        Request::MyCommunities => "MyCommunities",
         Request::WhoAmI => "WhoAmI",
         Request::Explain(_) => "Explain",
     }
@@ -35,6 +37,8 @@ pub fn reply_name(reply: &Reply) -> &'static str {
         Reply::Incidents(entries) if entries.as_slice().is_empty() => "empty page",
         Reply::Incidents(_) => "Incidents",
         Reply::Groups(_) => "Groups",
+        Reply::Communities(_) => "Communities",
+        Reply::Sharing(_) => "Sharing",
         Reply::Caller(_) => "Caller",
         Reply::Trace(_) => "Trace",
         Reply::Refused(_) => "Refused",

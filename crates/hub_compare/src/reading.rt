@@ -1,9 +1,10 @@
-//! Generated requests that change nothing.
+//! Generated requests that each role may make: those that change nothing, and a new key.
 
 use crate::asked::Asker;
 use crate::commands::long;
 use crate::sharing::any_permission;
-use crate::world::{World, count_of};
+use crate::world::{KEYS, World, count_of, key_of};
+use circle::command::CircleCommand;
 use circle::text::Text;
 use hub_core::{Explain, Recipient, Request, Search, Target};
 use policy::Grantee;
@@ -47,13 +48,18 @@ fn any_page(dice: &mut Dice, alloc: Global) -> Result<Request, AllocError> {
 
 /// Returns a request that anybody may make, mostly a view.
 pub fn any_reading(dice: &mut Dice, alloc: Global, incident: u32) -> Result<Request, AllocError> {
-    match dice.roll(12) {
+    match dice.roll(18) {
         0..=2 => any_page(dice, alloc),
         3 => Ok(Request::Addressed {
             after: dice.roll(2),
         }),
         4 => Ok(Request::MyGroups),
         5 => Ok(Request::WhoAmI),
+        6 => Ok(Request::MyCommunities),
+        7 => Ok(Request::Circle(CircleCommand::NewKey {
+            key: key_of(dice.roll(KEYS)),
+        })),
+        8..=10 => Ok(Request::Sharing { incident }),
         _ => Ok(Request::View { incident }),
     }
 }

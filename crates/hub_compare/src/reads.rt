@@ -1,12 +1,15 @@
 //! The contents of the shelves, read by each of the shelf's reads.
 
 use crate::fault::{Fault, agree};
-use crate::replies::{same_document, same_excerpt, same_groups};
+use crate::replies::{
+    same_communities, same_document, same_excerpt, same_gates, same_groups, same_naming,
+    same_permissions,
+};
 use crate::world::{KEYS, key_of};
 use circle::directory::Person;
-use hub_core::{Shelf, ShelfFault};
+use hub_core::{IncidentSharing, Shelf, ShelfFault};
 use iodef_tree::Document;
-use policy::{Case, Gate, Permission, Standing};
+use policy::{Case, Standing};
 use redact::Excerpt;
 use std::alloc::Global;
 
@@ -14,20 +17,6 @@ use std::alloc::Global;
 const INCIDENTS: usize = 6;
 
 const PERSONS: u32 = 6;
-
-fn same_gates(one: &[Gate], other: &[Gate]) -> bool {
-    one.len() == other.len()
-        && one.iter().zip(other.iter()).all(|(a, b)| a.path == b.path
-            && a.level == b.level
-            && a.group == b.group)
-}
-
-fn same_permissions(one: &[Permission], other: &[Permission]) -> bool {
-    one.len() == other.len()
-        && one.iter().zip(other.iter()).all(|(a, b)| a.path == b.path
-            && a.grantee == b.grantee
-            && a.until == b.until)
-}
 
 fn same_case(one: &Case, other: &Case) -> bool {
     one.source == other.source
@@ -68,7 +57,21 @@ fn agree_on_groups<A: Shelf, B: Shelf>(
     )
 }
 
-/// Compares the person of this key, and its groups.
+/// Compares the communities of the person.
+fn agree_on_communities<A: Shelf, B: Shelf>(
+    lists: &mut A,
+    tables: &mut B,
+    person: &Person,
+) -> Result<(), Fault> {
+    let communities = lists.joined_communities(person)?;
+    let others = tables.joined_communities(person)?;
+    agree(
+        same_communities(communities.as_slice(), others.as_slice()),
+        "the communities of a person",
+    )
+}
+
+/// Compares the person of this key, its groups and its communities.
 fn agree_on_key<A: Shelf, B: Shelf>(
     lists: &mut A,
     tables: &mut B,
@@ -78,7 +81,10 @@ fn agree_on_key<A: Shelf, B: Shelf>(
     let other = tables.person_by_key(key)?;
     agree(found == other, "the person of a key")?;
     match &found {
-        Some(person) => agree_on_groups(lists, tables, person),
+        Some(person) => {
+            agree_on_groups(lists, tables, person)?;
+            agree_on_communities(lists, tables, person)
+        }
         None => Ok(()),
     }
 }
@@ -120,6 +126,27 @@ fn agree_on_case<A: Shelf, B: Shelf>(
     }
 }
 
+fn same_sharing(one: &IncidentSharing, other: &IncidentSharing) -> bool {
+    same_naming(&one.naming, &other.naming)
+        && same_gates(one.gates.as_slice(), other.gates.as_slice())
+        && one.recipients.as_slice() == other.recipients.as_slice()
+        && same_permissions(one.permissions.as_slice(), other.permissions.as_slice())
+}
+
+/// Compares how the incident is shared.
+fn agree_on_sharing<A: Shelf, B: Shelf>(
+    lists: &mut A,
+    tables: &mut B,
+    incident: u32,
+) -> Result<(), Fault> {
+    let one = lists.incident_sharing(incident)?;
+    let other = tables.incident_sharing(incident)?;
+    match (&one, &other) {
+        (Some(one), Some(other)) => agree(same_sharing(one, other), "how an incident is shared"),
+        _ => Err(Fault::Differs("a missing incident's sharing")),
+    }
+}
+
 /// Compares the document of the incident.
 fn agree_on_document<A: Shelf, B: Shelf>(
     alloc: Global,
@@ -139,7 +166,7 @@ fn agree_on_lines(alloc: Global, one: &Document, other: &Document) -> Result<(),
     agree(same_document(alloc, one, other)?, "a document")
 }
 
-/// Compares the case of the incident, its document, and the standings of persons to it.
+/// Compares the case of the incident, how it is shared, its document, and the standings of persons to it.
 fn agree_on_incident<A: Shelf, B: Shelf>(
     alloc: Global,
     lists: &mut A,
@@ -147,6 +174,7 @@ fn agree_on_incident<A: Shelf, B: Shelf>(
     incident: u32,
 ) -> Result<(), Fault> {
     agree_on_case(lists, tables, incident)?;
+    agree_on_sharing(lists, tables, incident)?;
     agree_on_document(alloc, lists, tables, incident)?;
     for person in 0..PERSONS {
         agree_on_standing(lists, tables, person, incident)?;

@@ -7,7 +7,7 @@ use trying::Tally;
 
 /// The rows of the tally. Each kind of request has the outcomes that it may have if the caller is known. The other rows
 /// are whether the caller is known, the kinds of replies, and the rules by which classes are withheld and explained.
-const KINDS: [(&str, &str); 36] = [
+const KINDS: [(&str, &str); 39] = [
     ("AddOrg", "done,W1,B1 name,S1,L1"),
     ("AddPerson", "done,W1,B1 name,N2,S1"),
     ("SuspendPerson", "done,W1,B1 person,N2,S1"),
@@ -26,6 +26,7 @@ const KINDS: [(&str, &str); 36] = [
     ("CancelArrange", "done,W1,N2,S2"),
     ("Nominate", "done,W1,N2,W3,S1"),
     ("Unnominate", "done,W1,N2,W3,S2"),
+    ("NewKey", "done,S1"),
     (
         "Post",
         "done,W1,B1 level,B1 group,B1 gates,B1 NotJson,B1 NotDocument,B1 Missing,B1 NotWhole,B1 NestedClass,B1 TooDeep,B1 TooManyLines,B1 IncidentID,B1 BadMarking,N2,N3,S1,L1",
@@ -46,13 +47,15 @@ const KINDS: [(&str, &str); 36] = [
     ("List", "done"),
     ("Search", "done,B1 needle,B1 class"),
     ("Addressed", "done"),
+    ("Sharing", "done,N1"),
     ("MyGroups", "done"),
+    ("MyCommunities", "done"),
     ("WhoAmI", "done"),
     ("Explain", "done,W1,B1 path,N1,N2,N3"),
     ("callers", "known,unknown"),
     (
         "replies",
-        "Done,Numbers,Revision,View,Incidents,empty page,Groups,Caller,Trace,Refused",
+        "Done,Numbers,Revision,View,Incidents,empty page,Groups,Communities,Sharing,Caller,Trace,Refused",
     ),
     (
         "withheld by",

@@ -385,6 +385,9 @@ unaddress s a r =
     first_alike (grounds_by (facts_of s a (ask.Unaddress r)) a (ask.Unaddress r)) (grounds s a (ask.Unaddress r))
     (refl, λ _. (ours s a r.incident, λ _. (refl, λ _. tt)))
 
+pub sharing : (s : State) (a : Person) (n : ℕ) → first_answer (grounds_by (facts_of s a (ask.Sharing n)) a (ask.Sharing n)) ≡ first_answer (grounds s a (ask.Sharing n))
+sharing s a n = first_alike (grounds_by (facts_of s a (ask.Sharing n)) a (ask.Sharing n)) (grounds s a (ask.Sharing n)) (ours s a n, λ _. tt)
+
 pub grant : (s : State) (a : Person) (r : Grant) → first_answer (grounds_by (facts_of s a (ask.Grant r)) a (ask.Grant r)) ≡ first_answer (grounds s a (ask.Grant r))
 grant s a r =
     let n = r.incident in

@@ -114,11 +114,13 @@ kept s a (ask.Unaddress r) h known fine = unaddress_kept s a r h
 kept s a (ask.Grant r) h known fine = grant_kept s a r h fine
 kept s a (ask.Withdraw r) h known fine = withdraw_kept s a r h
 kept s a (ask.View n) h known fine = h
+kept s a (ask.Sharing n) h known fine = h
 kept s a (ask.Explain r) h known fine = h
 kept s a (ask.List after) h known fine = h
 kept s a (ask.Search r) h known fine = h
 kept s a (ask.Addressed after) h known fine = h
 kept s a ask.MyGroups h known fine = h
+kept s a ask.MyCommunities h known fine = h
 kept s a ask.WhoAmI h known fine = h
 
 pub stays_sound : StaysSound

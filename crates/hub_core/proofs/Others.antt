@@ -172,11 +172,13 @@ all_spared s a (ask.Withdraw r) i h found other fine =
     let apart : (r.incident == i.naming.number) ≡ false = not_theirs s a r.incident i found other p.1.1.0 in
     each_made (Spares i.naming.number) (λ p. TakePermission (record { incident = r.incident; path = p; grantee = r.grantee }) ∷ []) (pointer_tokens r.path) (λ q. (apart, tt))
 all_spared s a (ask.View n) i h found other fine = tt
+all_spared s a (ask.Sharing n) i h found other fine = tt
 all_spared s a (ask.Explain r) i h found other fine = tt
 all_spared s a (ask.List after) i h found other fine = tt
 all_spared s a (ask.Search r) i h found other fine = tt
 all_spared s a (ask.Addressed after) i h found other fine = tt
 all_spared s a ask.MyGroups i h found other fine = tt
+all_spared s a ask.MyCommunities i h found other fine = tt
 all_spared s a ask.WhoAmI i h found other fine = tt
 
 pub others_stay : OthersStay

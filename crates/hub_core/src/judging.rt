@@ -22,6 +22,7 @@ mod posted;
 mod replace;
 mod role;
 mod search;
+mod sharing;
 mod stop;
 
 use change::{address, grant, redistribute, unaddress, withdraw};
@@ -34,6 +35,7 @@ use post::post;
 use replace::replace;
 pub use role::lacks_role;
 use search::search;
+use sharing::sharing;
 use std::alloc::Global;
 use stop::Stop;
 
@@ -86,6 +88,9 @@ fn judge_by_facts(
         Request::Grant(asked) => stop_as_refusal(alloc, grant(alloc, actor, facts, asked)),
         Request::Withdraw(asked) => stop_as_refusal(alloc, withdraw(alloc, actor, facts, asked)),
         Request::Explain(asked) => stop_as_refusal(alloc, explain(alloc, actor, facts, asked)),
+        Request::Sharing { incident } => {
+            stop_as_refusal(alloc, sharing(alloc, actor, facts, *incident))
+        }
         Request::Search(asked) => stop_as_refusal(alloc, search(alloc, actor, facts, asked)),
         _ => Ok(Vec::new(alloc)),
     }

@@ -9,3 +9,4 @@ pub mod Replied
 pub mod WrittenAlike
 pub mod Statuses
 mod Messages
+mod Arrays

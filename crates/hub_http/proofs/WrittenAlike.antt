@@ -4,7 +4,7 @@ use Rattle.circle.specs.declared.directory.Account.{Account}
 use Rattle.hub_core.specs.State.{State}
 use Rattle.hub_state.specs.declared.reply.Reply.{Reply}
 use Rattle.hub_state.specs.declared.request.Request.{Request}
-use Rattle.hub.specs.Alike.{IsAlike, is_told}
+use Rattle.hub.specs.Alike.{IsAlike, is_answered_alike}
 use Rattle.hub.specs.Machine.{IsGivenUp, IsStep}
 use Rattle.hub.specs.Replies.{reply_of}
 use Rattle.hub.specs.declared.key.Key.{Key}
@@ -18,7 +18,7 @@ given-up-text r (inl h) = inl (ap reply_text h)
 given-up-text r (inr h) = inr (ap reply_text h)
 
 module _ (now : ℤ) (a : Account) (s t u v : State) (key : Key) (request : Request) (one other : Reply) where
-  pub written-alike : IsAlike now a s t → key ≡ Digest a.key → is_told request ≡ true → IsStep s (now, key, request) one u → IsStep t (now, key, request) other v →
+  pub written-alike : IsAlike now a s t → key ≡ Digest a.key → is_answered_alike request ≡ true → IsStep s (now, key, request) one u → IsStep t (now, key, request) other v →
       IsWrittenAlike (reply_text one) (reply_text other)
   written-alike alike known told (inr given) second = inr (inl (given-up-text one given.0))
   written-alike alike known told (inl x) (inr given) = inr (inr (given-up-text other given.0))

@@ -162,7 +162,13 @@ arrangement_in pairs = do
   handling ← mandatory (codes "handling") pairs >>= handling_named
   Ok (command.Arrange org handling)
 
--- the command of a POST to a collection
+-- the key with this SHA-256, with no parameter beside it
+unfoldable pub key_alone : List Pair → Read (List ℕ)
+key_alone pairs = do
+  _ ← only (codes "key" ∷ []) pairs
+  mandatory (codes "key") pairs >>= digest
+
+-- the command of a POST to a collection or to the own key
 unfoldable pub circle_command : CircleChange → List Pair → Read CircleCommand
 circle_command circle.AddOrg pairs = name_alone pairs >>= λ name. Ok (command.AddOrg name)
 circle_command circle.AddPerson pairs = person_in pairs
@@ -170,6 +176,7 @@ circle_command circle.AddCommunity pairs = name_alone pairs >>= λ name. Ok (com
 circle_command circle.NewGroup pairs = group_in pairs
 circle_command circle.Arrange pairs = arrangement_in pairs
 circle_command circle.CancelArrange pairs = number_alone (codes "org") pairs >>= λ org. Ok (command.CancelArrange org)
+circle_command circle.NewKey pairs = key_alone pairs >>= λ key. Ok (command.NewKey key)
 
 -- the GroupAdd to a group with these parameters
 unfoldable pub member_in : ℕ → List Pair → Read CircleCommand
@@ -212,9 +219,11 @@ part_command part.GroupActive n pairs = active_in n pairs
 unfoldable pub request_in : Route → List Pair → List ℕ → Read Request
 request_in route.WhoAmI pairs body = nothing_beside pairs request.WhoAmI
 request_in route.MyGroups pairs body = nothing_beside pairs request.MyGroups
+request_in route.MyCommunities pairs body = nothing_beside pairs request.MyCommunities
 request_in route.Addressed pairs body = after_alone pairs >>= λ after. Ok (request.Addressed after)
 request_in route.List pairs body = after_alone pairs >>= λ after. Ok (request.List after)
 request_in (route.View n) pairs body = nothing_beside pairs (request.View n)
+request_in (route.Sharing n) pairs body = nothing_beside pairs (request.Sharing n)
 request_in route.Search pairs body = search_in pairs
 request_in route.Explain pairs body = explain_in pairs
 request_in route.Post pairs body = post_in pairs body

@@ -28,9 +28,12 @@ abbrev pub entries : List (List ℕ × Resource)
 entries =
     (codes "/me", resource.Me)
     ∷ (codes "/me/groups", resource.MyGroups)
+    ∷ (codes "/me/communities", resource.MyCommunities)
     ∷ (codes "/me/addressed", resource.MyAddressed)
+    ∷ (codes "/me/key", resource.OfCircle circle.NewKey)
     ∷ (codes "/incidents", resource.Incidents)
     ∷ (codes "/incidents/{n}", resource.Incident)
+    ∷ (codes "/incidents/{n}/sharing", resource.Sharing)
     ∷ (codes "/incidents/{n}/gate", resource.OfIncident incident.Redistribute)
     ∷ (codes "/incidents/{n}/address", resource.OfIncident incident.Address)
     ∷ (codes "/incidents/{n}/unaddress", resource.OfIncident incident.Unaddress)
@@ -131,9 +134,11 @@ number_in path = above_zero (number (second_part path))
 unfoldable pub read_at : Resource → List ℕ → Read Route
 read_at resource.Me path = Ok route.WhoAmI
 read_at resource.MyGroups path = Ok route.MyGroups
+read_at resource.MyCommunities path = Ok route.MyCommunities
 read_at resource.MyAddressed path = Ok route.Addressed
 read_at resource.Incidents path = Ok route.List
 read_at resource.Incident path = number_in path >>= λ n. Ok (route.View n)
+read_at resource.Sharing path = number_in path >>= λ n. Ok (route.Sharing n)
 read_at resource.Search path = Ok route.Search
 read_at resource.Explain path = Ok route.Explain
 read_at (resource.OfCircle change) path = Err NoRoute

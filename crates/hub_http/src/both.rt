@@ -4,7 +4,7 @@ ghost use Rattle.circle.specs.declared.directory.Account.{Account};
 ghost use Rattle.hub_core.specs.State.{State};
 ghost use Rattle.hub_core.specs.Shelves.{HasFailed};
 ghost use Rattle.hub_core.specs.Sound.{IsSound};
-ghost use Rattle.hub.specs.Alike.{IsAlike, is_told};
+ghost use Rattle.hub.specs.Alike.{IsAlike, is_answered_alike};
 ghost use Rattle.hub.specs.declared.key.Key.TheVariants.{Digest};
 ghost use Rattle.hub_state.specs.declared.reply.Reply.{Reply as TheReply};
 ghost use Rattle.hub_http.specs.Alike.{HasStepped, IsWrittenAlike};
@@ -41,7 +41,7 @@ pub fn told_by_both<A: Shelf, B: Shelf>(
     ensures alike { A.doubts first.new ≡ 0 → B.doubts second.new ≡ 0 → (s t : State) (a : Account) →
         A.has first.old s → B.has second.old t →
         IsSound s → IsSound t → IsAlike now a s t → key.now ≡ Digest a.key →
-        is_told request.now ≡ true →
+        is_answered_alike request.now ≡ true →
         IfOk result (λ both. IsWrittenAlike both.0.items both.1.items) }
     ensures first { A.doubts first.new ≡ 0 → (s : State) → A.has first.old s → IsSound s →
         (reply : TheReply) ×

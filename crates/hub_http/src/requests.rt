@@ -300,7 +300,16 @@ fn read_name(alloc: Global, pairs: &Parameters<'_>) -> Result<Text, RequestFault
     pairs.mandatory_text(alloc, "name")
 }
 
-/// The command of a POST to a collection.
+/// The digest of a key, with no parameter beside it.
+#[tactic(auto, unfolding(crate::specs::Requests::key_alone))]
+fn read_key(pairs: &Parameters<'_>) -> Result<[u8; 32], RequestFault>
+    ensures { Yields result (spec.key_alone pairs.now) }
+{
+    pairs.only(&["key"])?;
+    read_digest(pairs.mandatory("key")?)
+}
+
+/// The command of a POST to a collection, or to the own key.
 #[tactic(auto, unfolding(crate::specs::Requests::circle_command))]
 fn read_circle_command(
     alloc: Global,
@@ -324,6 +333,10 @@ fn read_circle_command(
         CircleChange::CancelArrange => {
             let org = pairs.number_alone("org")?;
             Ok(CircleCommand::CancelArrange { org })
+        }
+        CircleChange::NewKey => {
+            let key = read_key(pairs)?;
+            Ok(CircleCommand::NewKey { key })
         }
     }
 }
@@ -429,6 +442,10 @@ fn read_request_in(
             pairs.only(&[])?;
             Ok(Request::MyGroups)
         }
+        Route::MyCommunities => {
+            pairs.only(&[])?;
+            Ok(Request::MyCommunities)
+        }
         Route::Addressed => {
             let after = read_after(pairs)?;
             Ok(Request::Addressed { after })
@@ -440,6 +457,10 @@ fn read_request_in(
         Route::View(incident) => {
             pairs.only(&[])?;
             Ok(Request::View { incident })
+        }
+        Route::Sharing(incident) => {
+            pairs.only(&[])?;
+            Ok(Request::Sharing { incident })
         }
         Route::Search => read_search(alloc, pairs),
         Route::Explain => read_explain(alloc, pairs),

@@ -29,6 +29,7 @@ pub(crate) enum CircleChange {
     NewGroup,
     Arrange,
     CancelArrange,
+    NewKey,
 }
 
 /// A change at the organisation, person, community or group of a number.
@@ -63,9 +64,11 @@ pub(crate) enum IncidentChange {
 pub(crate) enum Resource {
     Me,
     MyGroups,
+    MyCommunities,
     MyAddressed,
     Incidents,
     Incident,
+    Sharing,
     Search,
     Explain,
     OfCircle(CircleChange),
@@ -78,9 +81,11 @@ pub(crate) enum Resource {
 pub(crate) enum Route {
     WhoAmI,
     MyGroups,
+    MyCommunities,
     Addressed,
     List,
     View(u32),
+    Sharing(u32),
     Search,
     Explain,
     Post,
@@ -91,12 +96,15 @@ pub(crate) enum Route {
 }
 
 /// The patterns of the paths, each with the resource that it names.
-const ENTRIES: [(&str, Resource); 30] = [
+const ENTRIES: [(&str, Resource); 33] = [
     ("/me", Resource::Me),
     ("/me/groups", Resource::MyGroups),
+    ("/me/communities", Resource::MyCommunities),
     ("/me/addressed", Resource::MyAddressed),
+    ("/me/key", Resource::OfCircle(CircleChange::NewKey)),
     ("/incidents", Resource::Incidents),
     ("/incidents/{n}", Resource::Incident),
+    ("/incidents/{n}/sharing", Resource::Sharing),
     (
         "/incidents/{n}/gate",
         Resource::OfIncident(IncidentChange::Redistribute),
@@ -277,9 +285,11 @@ fn read_at(resource: Resource, path: &str) -> Result<Route, RequestFault>
     match resource {
         Resource::Me => Ok(Route::WhoAmI),
         Resource::MyGroups => Ok(Route::MyGroups),
+        Resource::MyCommunities => Ok(Route::MyCommunities),
         Resource::MyAddressed => Ok(Route::Addressed),
         Resource::Incidents => Ok(Route::List),
         Resource::Incident => Ok(Route::View(read_path_number(path)?)),
+        Resource::Sharing => Ok(Route::Sharing(read_path_number(path)?)),
         Resource::Search => Ok(Route::Search),
         Resource::Explain => Ok(Route::Explain),
         Resource::OfCircle(_) | Resource::OfPart(_) | Resource::OfIncident(_) => {

@@ -81,7 +81,9 @@ fn reading(alloc: Global, request: &Request) -> Result<Option<String>, AllocErro
             format!(in alloc; "Explain to {person} of {incident} at {path:?}")?
         }
         Request::Addressed { after } => format!(in alloc; "Addressed after {after}")?,
+        Request::Sharing { incident } => format!(in alloc; "Sharing {incident}")?,
         Request::MyGroups => String::from_str(alloc, "MyGroups")?,
+        Request::MyCommunities => String::from_str(alloc, "MyCommunities")?,
         Request::WhoAmI => String::from_str(alloc, "WhoAmI")?,
         _ => return Ok(None),
     };

@@ -9,7 +9,8 @@ fn numbers_of(command: &CircleCommand) -> [Option<u32>; 2] {
     match *command {
         CircleCommand::AddOrg { .. }
         | CircleCommand::AddCommunity { .. }
-        | CircleCommand::NewGroup { .. } => [None, None],
+        | CircleCommand::NewGroup { .. }
+        | CircleCommand::NewKey { .. } => [None, None],
         CircleCommand::AddPerson { org: one, .. }
         | CircleCommand::SuspendPerson { person: one }
         | CircleCommand::GroupActive { group: one, .. }
@@ -105,7 +106,7 @@ pub fn command(alloc: Global, command: &CircleCommand) -> Result<String, AllocEr
         all.push(' ')?;
         all.push_str(setting)?;
     }
-    if let CircleCommand::AddPerson { key, .. } = command {
+    if let CircleCommand::AddPerson { key, .. } | CircleCommand::NewKey { key } = command {
         let key = hex::encode(alloc, key.as_slice())?;
         all.push(' ')?;
         all.push_str(key.as_str())?;

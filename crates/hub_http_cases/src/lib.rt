@@ -39,6 +39,7 @@ mod commands;
 mod content;
 mod replies;
 mod serving;
+mod sharings;
 mod streams;
 mod views;
 mod written;

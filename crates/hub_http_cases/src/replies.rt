@@ -1,22 +1,33 @@
 //! The reply that a line names.
 
+use crate::sharings::sharing_of;
 use crate::views::view_of;
 use circle::directory::Person;
 use circle::name::Name;
 use circle::releasability::Releasability;
 use circle::text::Text;
-use hub_core::{Code, Entries, Entry, JoinedGroup, JoinedGroups, Refusal, Reply};
+use hub_core::{
+    Code, Entries, Entry, JoinedCommunities, JoinedCommunity, JoinedGroup, JoinedGroups, Refusal,
+    Reply,
+};
 use policy::Numbers;
 use std::alloc::{AllocError, Global};
 use trying::number_of;
 use trying_hub::role_of;
 
 fn numbers_of(alloc: Global, words: &str) -> Result<Reply, AllocError> {
+    Ok(Reply::Numbers(numbers_between(alloc, words, ',')?))
+}
+
+/// Returns the numbers of a text, none of an empty one.
+fn numbers_between(alloc: Global, words: &str, separator: char) -> Result<Numbers, AllocError> {
     let mut list = Vec::new(alloc);
-    for word in words.split(',') {
-        list.push(number_of(word))?;
+    if !words.is_empty() {
+        for word in words.split(separator) {
+            list.push(number_of(word))?;
+        }
     }
-    Ok(Reply::Numbers(Numbers::new(list)))
+    Ok(Numbers::new(list))
 }
 
 fn entry_of(words: &str) -> Option<Entry> {
@@ -67,6 +78,32 @@ fn groups_of(alloc: Global, words: &str) -> Result<Reply, AllocError> {
         }
     }
     Ok(Reply::Groups(JoinedGroups::new(list)))
+}
+
+fn community_of(alloc: Global, words: &str) -> Result<Option<JoinedCommunity>, AllocError> {
+    let mut parts = words.split(':');
+    let number = number_of(parts.next().unwrap_or(""));
+    let Some(name) = Name::of(alloc, parts.next().unwrap_or(""))? else {
+        return Ok(None);
+    };
+    let members = numbers_between(alloc, parts.next().unwrap_or(""), ' ')?;
+    let connected = numbers_between(alloc, parts.next().unwrap_or(""), ' ')?;
+    Ok(Some(JoinedCommunity {
+        number,
+        name,
+        members,
+        connected,
+    }))
+}
+
+fn communities_of(alloc: Global, words: &str) -> Result<Reply, AllocError> {
+    let mut list = Vec::new(alloc);
+    for word in words.split(',') {
+        if let Some(community) = community_of(alloc, word)? {
+            list.push(community)?;
+        }
+    }
+    Ok(Reply::Communities(JoinedCommunities::new(list)))
 }
 
 fn caller_of(alloc: Global, fields: &str) -> Result<Option<Reply>, AllocError> {
@@ -122,6 +159,8 @@ pub fn reply_of(alloc: Global, line: &str) -> Result<Option<Reply>, AllocError> 
         "view" => view_of(alloc, fields),
         "incidents" => Ok(Some(entries_of(alloc, fields)?)),
         "groups" => Ok(Some(groups_of(alloc, fields)?)),
+        "communities" => Ok(Some(communities_of(alloc, fields)?)),
+        "sharing" => sharing_of(alloc, fields),
         "caller" => caller_of(alloc, fields),
         "trace" => Ok(Some(Reply::Trace(Text::of(alloc, fields)?))),
         "refused" => Ok(Some(refused_of(alloc, fields))),

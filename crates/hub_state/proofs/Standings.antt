@@ -1,7 +1,9 @@
 -- How a standing is made of the results of look-ups.
-use Rattle.std.proofs.Common.{◌≡◌, ℕ, List, ◌==◌, ◌||◌, Bool, filter, Option, ap, ◌∙◌}
+use Rattle.std.proofs.Common.{◌≡◌, ℕ, List, ◌==◌, ◌||◌, Bool, filter, Option, None, ap, ◌∙◌}
 use Rattle.std.specs.Prelude.{ℤ, option_map}
 use Rattle.std.specs.List.{list_any}
+use Rattle.std.specs.Option.{option_map_or}
+use Rattle.circle.specs.Directory.{has_membership}
 use Rattle.circle.specs.Reads.{orgs_whose_client}
 use Rattle.circle.specs.declared.directory.Client.{Client}
 use Rattle.circle.specs.declared.directory.Person.{Person}
@@ -10,24 +12,33 @@ use Rattle.policy.specs.declared.standing.Standing.{Standing}
 use Rattle.circle.proofs.Lookup.{any_having}
 use Rattle.hub_state.specs.Handlings.{handling_in}
 use Rattle.hub_state.specs.inner.Questions.{is_target_among}
+use Rattle.hub_state.specs.KeptReaders.{IsReader}
 use Rattle.hub_state.specs.Reads.{is_client_for, its_recipients, reader_with, shared_as, standing_for, ties_of}
 use Rattle.hub_state.specs.State.{State, has_recipient}
+use Rattle.hub_state.specs.declared.kept_reader.KeptReader.{KeptReader}
 use Rattle.hub_state.specs.declared.look_ups.Reader.{Reader}
 use Rattle.hub_state.specs.declared.look_ups.Shared.{Shared}
 use Rattle.hub_state.specs.declared.look_ups.Ties.{Ties}
 use Rattle.hub_state.specs.declared.request.Target.{Target}
 use Rattle.hub_state.specs.declared.request.Target.TheVariants as target
 use Rattle.hub_state.specs.declared.state.Incident.{Incident}
+use Rattle.hub_state.specs.declared.state.Naming.{Naming}
 use Rattle.hub_state.proofs.Counted.{any_same, target_among}
 use Rattle.hub_state.proofs.Keeping.{any_map}
 
--- an organisation whose client it is is the source or a recipient
+-- one of the organisations whose client it is is the source or a recipient
+client_there : (s : State) (i : Incident) (org : ℕ) →
+    list_any (λ o. o == i.naming.source || has_recipient i.naming.number (target.Org o) s) (orgs_whose_client org s.directory) ≡ is_client_for s i org
+client_there s i org =
+    any_map (λ o. o == i.naming.source || has_recipient i.naming.number (target.Org o) s) (λ (c : Client). c.org) (filter (λ (c : Client). c.client == org) s.directory.clients)
+    ∙ any_having (λ (c : Client). c.client == org) (λ (c : Client). c.org == i.naming.source || has_recipient i.naming.number (target.Org c.org) s) s.directory.clients
+
+-- the same by copies of the recipients
 client_is : (s : State) (i : Incident) (org : ℕ) →
     list_any (λ o. o == i.naming.source || is_target_among (target.Org o) (its_recipients i.naming.number s.recipients)) (orgs_whose_client org s.directory) ≡ is_client_for s i org
 client_is s i org =
     any_same (λ o. o == i.naming.source || is_target_among (target.Org o) (its_recipients i.naming.number s.recipients)) (λ o. o == i.naming.source || has_recipient i.naming.number (target.Org o) s) (orgs_whose_client org s.directory) (λ o. ap (λ b. o == i.naming.source || b) (target_among i.naming.number (target.Org o) s))
-    ∙ (any_map (λ o. o == i.naming.source || has_recipient i.naming.number (target.Org o) s) (λ (c : Client). c.org) (filter (λ (c : Client). c.client == org) s.directory.clients)
-    ∙ any_having (λ (c : Client). c.client == org) (λ (c : Client). c.org == i.naming.source || has_recipient i.naming.number (target.Org c.org) s) s.directory.clients)
+    ∙ client_there s i org
 
 -- the standing made of the results of look-ups and of these four values
 abbrev made_with : ℤ → Reader → Shared → Ties → Bool → Bool → Bool → Option Handling → Standing
@@ -84,3 +95,52 @@ made_for s now r k t p i targets served person addressed client arrangement read
     ∙ ap (list_any (λ o. o == k.naming.source || is_target_among (target.Org o) k.recipients)) serves))
     ∙ (ap (made_with now r k t (is_target_among (target.Person r.person.number) k.recipients) (is_target_among (target.Org r.person.org) k.recipients) (list_any (λ o. o == k.naming.source || is_target_among (target.Org o) k.recipients) r.served)) arranged
     ∙ made_is s now r k t p i reader shared ties)))
+
+-- ---- a kept reader
+
+-- the standing that is set for an incident is the person's, if the reader is the person
+pub set_is : (s : State) (t : ℤ) (k : KeptReader) (named : Naming) (ties : Ties) (p : Person) (i : Incident) (person addressed client peer : Bool) (arrangement : Option Handling) (served : List ℕ) (now : ℤ) →
+    IsReader k p s → named ≡ i.naming → ties ≡ ties_of p.org i.naming.source None s →
+    person ≡ has_recipient named.number (target.Person k.standing.who) s →
+    addressed ≡ has_recipient named.number (target.Org k.standing.org) s →
+    served ≡ k.served →
+    client ≡ list_any (λ o. o == named.source || has_recipient named.number (target.Org o) s) served →
+    peer ≡ option_map_or (λ c. has_membership c k.standing.org s.directory) named.community ties.community →
+    arrangement ≡ option_map handling_in ties.arrangement →
+    now ≡ t →
+    record {
+      source = k.standing.org == named.source;
+      person = person;
+      nominated = k.standing.nominated;
+      addressed = addressed;
+      client = client;
+      community = ties.community;
+      peer = peer;
+      connected = ties.connected;
+      arrangement = arrangement;
+      who = k.standing.who;
+      org = k.standing.org;
+      groups = k.standing.groups;
+      active_groups = k.standing.active_groups;
+      communities = k.standing.communities;
+      now = now;
+    } ≡ standing_for s t p i
+set_is s t k named ties p i person addressed client peer arrangement served now is there tied told org serves serving peers arranged moment = λ j. record {
+  source = is.org j == (there j).source;
+  person = (told ∙ (λ l. has_recipient ((there l).number) (target.Person (is.who l)) s)) j;
+  nominated = is.nominated j;
+  addressed = (org ∙ (λ l. has_recipient ((there l).number) (target.Org (is.org l)) s)) j;
+  client = (serving
+      ∙ ((λ l. list_any (λ o. o == (there l).source || has_recipient ((there l).number) (target.Org o) s) ((serves ∙ is.served) l))
+      ∙ client_there s i p.org)) j;
+  community = (tied j).community;
+  peer = (peers ∙ (λ l. option_map_or (λ c. has_membership c (is.org l) s.directory) ((there l).community) ((tied l).community))) j;
+  connected = (tied j).connected;
+  arrangement = (arranged ∙ (λ l. option_map handling_in ((tied l).arrangement))) j;
+  who = is.who j;
+  org = is.org j;
+  groups = is.groups j;
+  active_groups = is.active_groups j;
+  communities = is.communities j;
+  now = moment j;
+}

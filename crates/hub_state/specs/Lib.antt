@@ -10,6 +10,7 @@ pub mod Requests
 pub mod Aftermath
 pub mod Facts
 pub mod Reads
+pub mod KeptReaders
 pub mod Sound
 pub mod Shelves
 pub mod inner

@@ -15,9 +15,10 @@ use Rattle.redact.specs.Excerpts.{served_of}
 use Rattle.redact.specs.Wants.{meets}
 use Rattle.redact.specs.declared.want.Want.{Want}
 use Rattle.circle.specs.Directory.{Directory, has_membership}
-use Rattle.circle.specs.Reads.{person_of_key, person_of, group_of, communities_of, memberships_in_groups, groups_joined, active_groups_joined, orgs_whose_client, share_community, are_connected, arranged as arranged_with}
+use Rattle.circle.specs.Reads.{person_of_key, person_of, group_of, community_of, members_of, connected_to, communities_of, memberships_in_groups, groups_joined, active_groups_joined, orgs_whose_client, share_community, are_connected, arranged as arranged_with}
 use Rattle.circle.specs.declared.directory.Person.{Person}
 use Rattle.circle.specs.declared.directory.Client.{Client}
+use Rattle.circle.specs.declared.directory.Community.{Community}
 use Rattle.circle.specs.declared.directory.Group.{Group}
 use Rattle.circle.specs.declared.directory.GroupMember.{GroupMember}
 use Rattle.hub_state.specs.Documents.{Lines}
@@ -33,8 +34,10 @@ use Rattle.hub_state.specs.declared.state.Permission.{Permission}
 use Rattle.hub_state.specs.declared.look_ups.Reader.{Reader}
 use Rattle.hub_state.specs.declared.look_ups.Ties.{Ties}
 use Rattle.hub_state.specs.declared.look_ups.Shared.{Shared}
+use Rattle.hub_state.specs.declared.look_ups.IncidentSharing.{IncidentSharing}
 use Rattle.hub_state.specs.declared.reply.Entry.{Entry}
 use Rattle.hub_state.specs.declared.reply.JoinedGroup.{JoinedGroup}
+use Rattle.hub_state.specs.declared.reply.JoinedCommunity.{JoinedCommunity}
 
 -- the person with this key, active or suspended
 abbrev pub person_by_key : Bytes → State → Option Person
@@ -150,6 +153,19 @@ case_for s i = record {
 abbrev pub case_of : ℕ → State → Option Case
 case_of n s = option_map (case_for s) (incident_of n s)
 
+-- how an incident is shared: its naming, its gates, its recipients and its permissions, ended ones included
+abbrev pub sharing_for : State → Incident → IncidentSharing
+sharing_for s i = record {
+  naming = i.naming;
+  gates = its_gates i.naming.number s.gates;
+  recipients = its_recipients i.naming.number s.recipients;
+  permissions = its_permissions i.naming.number s.permissions;
+}
+
+-- how the incident of this number is shared, all but its document; none if it is missing
+abbrev pub incident_sharing : ℕ → State → Option IncidentSharing
+incident_sharing n s = option_map (sharing_for s) (incident_of n s)
+
 -- the document of the incident of this number; none if it is missing
 abbrev pub document_of : ℕ → State → Option Lines
 document_of n s = option_map (λ (i : Incident). i.document) (incident_of n s)
@@ -196,3 +212,15 @@ abbrev pub groups_of : Person → State → List JoinedGroup
 groups_of p s =
     filter_map (λ (m : GroupMember). option_map (joined m) (group_of m.group s.directory))
     (memberships_in_groups p.org s.directory)
+
+-- ---- communities
+
+-- a community as it is listed for one of its members: its members, and the communities that are connected to it
+abbrev pub joined_community : Directory → Community → JoinedCommunity
+joined_community d c = record { number = c.number; name = c.name; members = members_of c.number d; connected = connected_to c.number d }
+
+-- the communities of which the person's organisation is a member, in the order of their numbers
+abbrev pub joined_communities : Person → State → List JoinedCommunity
+joined_communities p s =
+    filter_map (λ (n : ℕ). option_map (joined_community s.directory) (community_of n s.directory))
+    (communities_of p.org s.directory)

@@ -28,6 +28,7 @@ incident_asked (ask.Unaddress r) = Some r.incident
 incident_asked (ask.Grant r) = Some r.incident
 incident_asked (ask.Withdraw r) = Some r.incident
 incident_asked (ask.View n) = Some n
+incident_asked (ask.Sharing n) = Some n
 incident_asked (ask.Explain r) = Some r.incident
 incident_asked _ = None
 

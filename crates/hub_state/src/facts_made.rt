@@ -38,6 +38,7 @@ fn incident_asked(request: &Request) -> Option<u32>
         | Request::Grant(Grant { incident, .. })
         | Request::Withdraw(Withdraw { incident, .. })
         | Request::View { incident }
+        | Request::Sharing { incident }
         | Request::Explain(Explain { incident, .. }) => Some(*incident),
         _ => None,
     }

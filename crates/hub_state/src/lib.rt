@@ -15,12 +15,14 @@
 //! - `shelf`: [`Shelf`], what every shelf promises; `look_ups`: [`LookUps`], what it looks up in its rows; `questions`:
 //!   tests and counts on an incident's gates, recipients and permissions;
 //! - made of look-ups, once for every shelf: `standing`, how a person stands to an incident, of three ([`Reader`],
-//!   [`Shared`], [`Ties`]); `facts_made`, the `facts` of a request, by what it names (`named_there`), how its incident
+//!   [`Shared`], [`Ties`]); `incident_sharing`, how an incident is shared ([`IncidentSharing`]); `facts_made`, the `facts` of a request, by what it names (`named_there`), how its incident
 //!   is shared (`sharing`), what was posted before (`posted_earlier`) and how many rows there would be
 //!   (`counts_then`);
 //! - `state_rows`: [`StateRows`], the rows of a state in memory, and [`ReadyState`], with edits for which the memory is
 //!   taken; `state_reads`, what is read of them; `lists`, their lists, how these are read (`of_incident`) and changed
 //!   (`change`); `rows`, their rows, and `sorted_rows`, how rows in order are found, put and taken;
+//! - `kept_reader`: [`KeptReader`], a reader for whom one incident after another is judged by the rows where they lie
+//!   (`judged_rows`);
 //! - `list_shelf`: [`ListShelf`], the shelf in memory, by `list_reads` and `list_look_ups`;
 //! - [`laws`]: the value of each limit.
 #![tactic(auto)]
@@ -33,6 +35,9 @@ mod edit;
 mod facts;
 mod facts_made;
 mod handling;
+mod incident_sharing;
+mod judged_rows;
+mod kept_reader;
 pub mod laws;
 mod list_look_ups;
 mod list_reads;
@@ -64,10 +69,15 @@ pub use edit::Edit;
 pub use facts::{Facts, IncidentFacts};
 pub use facts_made::facts_by;
 pub use handling::handling_in;
+pub use incident_sharing::incident_sharing_by;
+pub use kept_reader::KeptReader;
 pub use list_shelf::ListShelf;
-pub use look_ups::{LookUps, Reader, Shared, Ties};
+pub use look_ups::{IncidentSharing, LookUps, Reader, Shared, Ties};
 pub use recipients::Recipients;
-pub use reply::{Entries, Entry, JoinedGroup, JoinedGroups, Reply, View, Withheld};
+pub use reply::{
+    Entries, Entry, JoinedCommunities, JoinedCommunity, JoinedGroup, JoinedGroups, Reply,
+    SharedPermission, SharedPermissions, Sharing, View, Withheld,
+};
 pub use request::{
     Address, Distribution, Explain, Grant, Post, Redistribute, Replace, Request, Search, Target,
     Unaddress, WantedGate, WantedGates, Withdraw,

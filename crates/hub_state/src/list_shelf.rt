@@ -7,7 +7,9 @@ ghost use Rattle.hub_state.specs.Shelves.{HasCause};
 use crate::edit::Edit;
 use crate::facts::Facts;
 use crate::facts_made::facts_by;
-use crate::reply::{Entry, JoinedGroup};
+use crate::incident_sharing::incident_sharing_by;
+use crate::look_ups::IncidentSharing;
+use crate::reply::{Entry, JoinedCommunity, JoinedGroup};
 use crate::request::Request;
 use crate::shelf::{Shelf, ShelfFault};
 use crate::standing::standing_by;
@@ -89,6 +91,10 @@ impl Shelf for ListShelf {
         Ok(self.rows.find_case(incident)?)
     }
 
+    fn incident_sharing(&mut self, incident: u32) -> Result<Option<IncidentSharing>, ShelfFault> {
+        incident_sharing_by(self, incident)
+    }
+
     fn document(&mut self, incident: u32) -> Result<Option<Document>, ShelfFault> {
         Ok(self.find_document(incident)?)
     }
@@ -118,6 +124,10 @@ impl Shelf for ListShelf {
 
     fn groups_of(&mut self, person: &Person) -> Result<Vec<JoinedGroup>, ShelfFault> {
         Ok(self.rows.joined_groups(person)?)
+    }
+
+    fn joined_communities(&mut self, person: &Person) -> Result<Vec<JoinedCommunity>, ShelfFault> {
+        Ok(self.rows.joined_communities(person)?)
     }
 
     fn facts(&mut self, actor: &Person, request: &Request) -> Result<Facts, ShelfFault> {

@@ -51,6 +51,16 @@ pub struct Shared {
     pub recipients: Recipients,
 }
 
+/// How an incident is shared: all that is known of it without its document.
+#[derive(Drop)]
+pub struct IncidentSharing {
+    pub naming: Naming,
+    pub gates: Gates,
+    pub recipients: Recipients,
+    /// Ended ones included.
+    pub permissions: Permissions,
+}
+
 /// What a shelf looks up in its rows. Standings and facts are made of these, in the same way over each shelf. Each
 /// look-up returns its function of the content and changes nothing. It fails with `NoMemory` if the memory doesn't
 /// suffice, and with `Failed` if the store failed.

@@ -1,13 +1,15 @@
 //! The replies.
 ghost use Rattle.std.specs.Prelude.{◌≡◌};
 
+use crate::recipients::Recipients;
+use crate::state::Naming;
 use circle::directory::Person;
 use circle::name::Name;
 use circle::refusal::Refusal;
 use circle::releasability::Releasability;
 use circle::text::Text;
 use iodef_tree::{Document, Path};
-use policy::{Numbers, Rule};
+use policy::{Gates, Numbers, Permission, Rule};
 use std::marker::Model;
 
 /// An incident as it is listed.
@@ -93,6 +95,98 @@ impl JoinedGroups {
     }
 }
 
+/// A community of which an organisation is a member.
+#[derive(Drop)]
+pub struct JoinedCommunity {
+    pub number: u32,
+    pub name: Name,
+    /// The organisations that are its members, in the order of their numbers.
+    pub members: Numbers,
+    /// The communities that are connected to it, in the order of their numbers.
+    pub connected: Numbers,
+}
+
+/// Communities of which an organisation is a member, in the order of their numbers. Contracts see a list.
+#[derive(Drop)]
+pub struct JoinedCommunities {
+    communities: Vec<JoinedCommunity>,
+}
+
+impl Model for JoinedCommunities {
+    ghost use Rattle.std.specs.Prelude.{List};
+    ghost use Rattle.hub_state.specs.declared.reply.JoinedCommunity.{JoinedCommunity};
+
+    ghost Value = { List JoinedCommunity };
+
+    ghost view = { λ c. c.communities.items };
+}
+
+impl JoinedCommunities {
+    /// Makes it of a vector. Takes no memory.
+    pub fn new(communities: Vec<JoinedCommunity>) -> JoinedCommunities
+        ensures { result ≡ communities.items }
+    {
+        JoinedCommunities { communities }
+    }
+
+    /// Returns the communities.
+    pub fn as_slice(&self) -> &[JoinedCommunity]
+        ensures { result.now ≡ self.now }
+    {
+        self.communities.as_slice()
+    }
+}
+
+/// A permission, and whether it has ended.
+#[derive(Drop)]
+pub struct SharedPermission {
+    pub permission: Permission,
+    /// At the moment of the request its end has come.
+    pub ended: bool,
+}
+
+/// The permissions of an incident, in the order of path and grantee. Contracts see a list.
+#[derive(Drop)]
+pub struct SharedPermissions {
+    permissions: Vec<SharedPermission>,
+}
+
+impl Model for SharedPermissions {
+    ghost use Rattle.std.specs.Prelude.{List};
+    ghost use Rattle.hub_state.specs.declared.reply.SharedPermission.{SharedPermission};
+
+    ghost Value = { List SharedPermission };
+
+    ghost view = { λ p. p.permissions.items };
+}
+
+impl SharedPermissions {
+    /// Makes it of a vector. Takes no memory.
+    pub fn new(permissions: Vec<SharedPermission>) -> SharedPermissions
+        ensures { result ≡ permissions.items }
+    {
+        SharedPermissions { permissions }
+    }
+
+    /// Returns the permissions, ended ones included.
+    pub fn as_slice(&self) -> &[SharedPermission]
+        ensures { result.now ≡ self.now }
+    {
+        self.permissions.as_slice()
+    }
+}
+
+/// How an incident is shared, as its source is answered.
+#[derive(Drop)]
+pub struct Sharing {
+    pub naming: Naming,
+    /// In the byte order of the path's pointer, so the gate at the root comes first.
+    pub gates: Gates,
+    /// In the order of kind and number.
+    pub recipients: Recipients,
+    pub permissions: SharedPermissions,
+}
+
 /// At which places of an excerpt something is withheld, and by which rule. Contracts see a list.
 #[derive(Drop)]
 pub struct Withheld {
@@ -150,6 +244,8 @@ pub enum Reply {
     View(View),
     Incidents(Entries),
     Groups(JoinedGroups),
+    Communities(JoinedCommunities),
+    Sharing(Sharing),
     Caller(Person),
     /// Why a person sees a class or doesn't, as text.
     Trace(Text),

@@ -155,10 +155,13 @@ pub enum Request {
     Grant(Grant),
     Withdraw(Withdraw),
     View { incident: u32 },
+    /// How an incident of the caller's organisation is shared.
+    Sharing { incident: u32 },
     Explain(Explain),
     List { after: u32 },
     Search(Search),
     Addressed { after: u32 },
     MyGroups,
+    MyCommunities,
     WhoAmI,
 }

@@ -38,7 +38,11 @@ fn nothing_shared(alloc: Global) -> Sharing
     }
 }
 
-fn find_sharing_named<L: LookUps>(shelf: &mut L, incident: u32) -> Result<Sharing, ShelfFault>
+/// The gates, recipients and permissions of an incident.
+pub(crate) fn find_sharing_named<L: LookUps>(
+    shelf: &mut L,
+    incident: u32,
+) -> Result<Sharing, ShelfFault>
     ensures { Finds L.has L.doubts L.failed L.may_remain shelf.old shelf.new result (λ s.
         IfOk result (λ found. found ≡ sharing_named incident s)) }
 {

@@ -11,7 +11,8 @@ ghost use Rattle.hub_state.specs.Shelves.{HasCause, Reads, KeepsContent};
 
 use crate::edit::Edit;
 use crate::facts::Facts;
-use crate::reply::{Entry, JoinedGroup};
+use crate::look_ups::IncidentSharing;
+use crate::reply::{Entry, JoinedCommunity, JoinedGroup};
 use crate::request::Request;
 use circle::directory::Person;
 use iodef_tree::Document;
@@ -68,6 +69,11 @@ pub trait Shelf {
     fn case(&mut self, incident: u32) -> Result<Option<Case>, ShelfFault>
         ensures { Reads has doubts failed may_remain self.old self.new (λ s found. found ≡
             case_of incident s) result };
+
+    /// How an incident is shared: all that is known of it without its document. None if it is missing.
+    fn incident_sharing(&mut self, incident: u32) -> Result<Option<IncidentSharing>, ShelfFault>
+        ensures { Reads has doubts failed may_remain self.old self.new (λ s found. found ≡
+            spec.incident_sharing incident s) result };
 
     /// The document of an incident. None if it is missing.
     fn document(&mut self, incident: u32) -> Result<Option<Document>, ShelfFault>
@@ -126,6 +132,11 @@ pub trait Shelf {
     fn groups_of(&mut self, person: &Person) -> Result<Vec<JoinedGroup>, ShelfFault>
         ensures { Reads has doubts failed may_remain self.old self.new (λ s found.
             found.items ≡ spec.groups_of person.now s) result };
+
+    /// The communities of which the person's organisation is a member, in the order of their numbers.
+    fn joined_communities(&mut self, person: &Person) -> Result<Vec<JoinedCommunity>, ShelfFault>
+        ensures { Reads has doubts failed may_remain self.old self.new (λ s found.
+            found.items ≡ spec.joined_communities person.now s) result };
 
     /// The facts of a person's request.
     fn facts(&mut self, actor: &Person, request: &Request) -> Result<Facts, ShelfFault>

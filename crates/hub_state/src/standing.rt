@@ -19,7 +19,7 @@ use circle::directory::Handling as Arranged;
 use marking::Handling;
 use policy::Standing;
 
-fn arrangement_in(arranged: Option<Arranged>) -> Option<Handling>
+pub(crate) fn arrangement_in(arranged: Option<Arranged>) -> Option<Handling>
     ensures { result ≡ option_map handlings.handling_in arranged }
 {
     match arranged {

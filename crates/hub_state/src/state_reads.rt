@@ -2,14 +2,14 @@
 ghost use Rattle.std.specs.Prelude.{◌≡◌, IfOk};
 ghost use Rattle.std.specs.Option.{option_copied};
 ghost use Rattle.circle.specs.Reads.{person_of};
-ghost use Rattle.hub_state.specs.Reads.{case_of, joined, naming_of, reader_of, reader_with, sharing_of, ties_of};
+ghost use Rattle.hub_state.specs.Reads.{case_of, joined, joined_community, naming_of, reader_of, reader_with, sharing_of, ties_of};
 ghost use Rattle.hub_state.specs.Reads as spec;
 
 use crate::look_ups::{Reader, Shared, Ties};
-use crate::reply::JoinedGroup;
+use crate::reply::{JoinedCommunity, JoinedGroup};
 use crate::state::Naming;
 use crate::state_rows::StateRows;
-use circle::directory::{Group, GroupMember, Person};
+use circle::directory::{Community, Group, GroupMember, Person};
 use policy::{Case, Numbers};
 use std::alloc::AllocError;
 
@@ -112,6 +112,16 @@ impl StateRows {
         }
     }
 
+    /// Returns the naming of an incident where it lies. None if it is missing.
+    pub fn naming_at(&self, incident: u32) -> Option<&Naming>
+        ensures { option_copied result ≡ naming_of incident self.now }
+    {
+        match self.incident(incident) {
+            None => None,
+            Some(incident) => Some(&incident.naming),
+        }
+    }
+
     /// Returns the groups of which the person's organisation is a member, in the order of their numbers. Fails if the memory doesn't suffice.
     pub fn joined_groups(&self, person: &Person) -> Result<Vec<JoinedGroup>, AllocError>
         ensures { IfOk result (λ found. found.items ≡ spec.groups_of person.now self.now) }
@@ -126,6 +136,36 @@ impl StateRows {
             }
         }
         Ok(groups)
+    }
+
+    fn joined_community(&self, community: &Community) -> Result<JoinedCommunity, AllocError>
+        ensures { IfOk result (λ row. row ≡ joined_community self.now.directory community.now) }
+    {
+        let directory = self.directory();
+        let alloc = self.alloc();
+        let name = community.name.clone()?;
+        let members = Numbers::new(directory.members_of(alloc, community.number)?);
+        let connected = Numbers::new(directory.connected_to(alloc, community.number)?);
+        Ok(JoinedCommunity {
+            number: community.number,
+            name,
+            members,
+            connected,
+        })
+    }
+
+    /// Returns the communities of which the person's organisation is a member, in the order of their numbers. Fails if the memory doesn't suffice.
+    pub fn joined_communities(&self, person: &Person) -> Result<Vec<JoinedCommunity>, AllocError>
+        ensures { IfOk result (λ found. found.items ≡ spec.joined_communities person.now self.now) }
+    {
+        let numbers = self.directory().communities_of(self.alloc(), person.org)?;
+        let mut communities = Vec::with_capacity(self.alloc(), numbers.len())?;
+        for number in &numbers {
+            if let Some(community) = self.directory().community_of(*number) {
+                communities.push(self.joined_community(community)?)?;
+            }
+        }
+        Ok(communities)
     }
 }
 

@@ -2,7 +2,8 @@
 ghost use Rattle.std.specs.Prelude.{◌≡◌, OnOk, OnErr, IfOk, IfErr, length, map, min, option_map, ℕ, List};
 ghost use Rattle.std.specs.Option.{option_copied};
 ghost use Rattle.circle.specs.Sound.{Differ};
-ghost use Rattle.hub_state.specs.State.{State, empty, incident_of, incident_named, incident_number};
+ghost use Rattle.policy.specs.Reach.{reach_of};
+ghost use Rattle.hub_state.specs.State.{State, empty, has_recipient, incident_of, incident_named, incident_number};
 ghost use Rattle.hub_state.specs.Reads.{its_gates, its_permissions, its_recipients, entries_after};
 ghost use Rattle.hub_state.specs.Bare.{bare_edit};
 ghost use Rattle.hub_state.specs.Edits as spec;
@@ -13,12 +14,13 @@ use crate::edit::Edit;
 use crate::lists::Lists;
 use crate::recipients::Recipients;
 use crate::reply::Entry;
+use crate::request::Target;
 use crate::rows::Named;
 use crate::small_counts::capped;
 use crate::state::Incident;
 use circle::text::Text;
 use circle_rows::{DirectoryRows, ReadyRows};
-use policy::{Gates, Permissions};
+use policy::{Gates, Permissions, Reach, Standing};
 use std::alloc::{AllocError, Global};
 use std::marker::Model;
 
@@ -122,6 +124,20 @@ impl StateRows {
         ensures { IfOk result (λ v. v ≡ its_permissions incident self.now.permissions) }
     {
         self.lists.case_permissions(self.alloc, incident)
+    }
+
+    /// Returns how the gates and the permissions of an incident stand to a reader. Allocates nothing.
+    pub fn reach(&self, incident: u32, standing: &Standing) -> Reach
+        ensures { result ≡ reach_of (its_gates incident self.now.gates)
+            (its_permissions incident self.now.permissions) standing.entry.now }
+    {
+        self.lists.reach(incident, standing)
+    }
+
+    pub(crate) fn is_addressed(&self, incident: u32, target: Target) -> bool
+        ensures { result ≡ has_recipient incident target self.now }
+    {
+        self.lists.is_addressed(incident, target)
     }
 
     /// Returns the first `most` incidents above a number, as they are listed. Fails if the memory doesn't suffice.

@@ -9,7 +9,7 @@ use Rattle.sqlite_trees.specs.Tree.{Trees}
 use Rattle.sqlite_sql.specs.Term.{Term, col}
 use Rattle.sqlite_sql.specs.Query.{IsAnswer}
 use Rattle.circle.specs.Directory.{has_org, has_community, org_number, community_number, account_number}
-use Rattle.circle.specs.Reads.{person_in, person_of}
+use Rattle.circle.specs.Reads.{person_in, person_of, community_of}
 use Rattle.circle.specs.Sound.{CountsFrom}
 use Rattle.hub_state.specs.State as core
 use Rattle.hub_state.specs.Sound.{IsSound}
@@ -17,6 +17,7 @@ use Rattle.hub_store.specs.Holdings.{IsHeld, holding_by_number}
 use Rattle.hub_store.specs.Means.{Means}
 use Rattle.hub_store.specs.Rows.{org_row, account_row, community_row}
 use Rattle.hub_store.specs.inner.Shown.{person_shown}
+use Rattle.hub_store.specs.inner.Adds.{community_shown}
 use Rattle.hub_store.proofs.Compare.{is_same, equal_numbers, and_true}
 use Rattle.hub_store.proofs.Forms.{one_table, is_param}
 use Rattle.hub_store.proofs.Statements.{keeps, shows, selected}
@@ -52,6 +53,13 @@ org_found db s n rows means a = any_shown _ _ s.directory.orgs rows (with_number
 
 pub community_found : (db : Trees) (s : core.State) (n : ℕ) (rows : List Row) → Means db s → IsAnswer (one_table community_tree (is_param 0 0 ∷ []) (col 1 0 ∷ [])) db (Int (pos n) ∷ []) rows → not (length rows == 0) ≡ has_community n s.directory
 community_found db s n rows means a = any_shown _ _ s.directory.communities rows (with_number db community_tree community_row community_number s.directory.communities (λ x. refl) n (col 1 0 ∷ []) rows (held_of s community_place _ refl means) a)
+
+pub community_and_name_found : (db : Trees) (s : core.State) (n : ℕ) (rows : List Row) → IsSound s → Means db s
+    → IsAnswer (one_table community_tree (is_param 0 0 ∷ []) (col 1 0 ∷ col 1 2 ∷ [])) db (Int (pos n) ∷ []) rows
+    → IsPermutation (map community_shown (option_to_list (community_of n s.directory))) rows
+community_and_name_found db s n rows sound means a =
+    one_with_number db community_tree community_row community_number s.directory.communities (λ x. refl) n (col 1 0 ∷ col 1 2 ∷ []) rows
+    (held_of s community_place _ refl means) a sound.directory.communities.numbered.0
 
 pub person_numbered_found : (db : Trees) (s : core.State) (n : ℕ) (rows : List Row) → IsSound s → Means db s → IsAnswer (one_table person_tree (is_param 0 0 ∷ []) (col 1 0 ∷ col 1 2 ∷ col 1 3 ∷ col 1 4 ∷ col 1 6 ∷ col 1 7 ∷ [])) db (Int (pos n) ∷ []) rows
     → IsPermutation (map person_shown (option_to_list (person_of n s.directory))) rows

@@ -25,7 +25,7 @@ use Rattle.circle.specs.declared.directory.Connection.{Connection}
 use Rattle.circle.specs.declared.directory.Group.{Group}
 use Rattle.circle.specs.declared.directory.GroupMember.{GroupMember}
 use Rattle.circle.specs.declared.directory.Arrangement.{Arrangement}
-use Rattle.circle.specs.declared.command.RowEdit.TheVariants.{PutOrg, PutAccount, Suspend, PutClient, TakeClient, PutCommunity, PutMembership, TakeMembership, PutConnection, TakeConnection, PutGroup, PutGroupMember, TakeGroupMember, SetGroupActive, PutArrangement, TakeArrangement, SetNominated}
+use Rattle.circle.specs.declared.command.RowEdit.TheVariants.{PutOrg, PutAccount, Suspend, PutClient, TakeClient, PutCommunity, PutMembership, TakeMembership, PutConnection, TakeConnection, PutGroup, PutGroupMember, TakeGroupMember, SetGroupActive, PutArrangement, TakeArrangement, SetNominated, SetKey}
 use Rattle.hub_state.specs.State as core
 use Rattle.hub_state.specs.State.{gate_cmp, recipient_cmp, permission_cmp, is_gate_at, is_recipient_being, is_permission_being, target_key, grantee_key}
 use Rattle.hub_state.specs.Edits.{edited}
@@ -58,7 +58,7 @@ use Rattle.hub_store.proofs.Lists.{flipped}
 use Rattle.hub_store.proofs.PairSets.{is_pair, pair_in, pair_out}
 use Rattle.hub_store.proofs.Puts as puts
 use Rattle.hub_store.proofs.Puts.{orgs, persons, communities, groups, pairs, gates, recipients, permissions, held_put, held_taken, held_exchanged, past_one, past_two, past_three, past_four}
-use Rattle.hub_store.proofs.Texts.{put_org, put_person, put_community, put_group, put_gate, put_recipient, put_permission, put_naming, put_line, take_lines, take_gate, take_gates, take_recipient, take_permission, take_permissions, take_incident, set_active, set_nominated, set_group_active}
+use Rattle.hub_store.proofs.Texts.{put_org, put_person, put_community, put_group, put_gate, put_recipient, put_permission, put_naming, put_line, take_lines, take_gate, take_gates, take_recipient, take_permission, take_permissions, take_incident, set_active, set_nominated, set_key, set_group_active}
 use Rattle.hub_store.proofs.Places.{community_place, gate_place, grp_place, incident_place, item_place, org_place, pair_place, permission_place, person_place, recipient_place}
 
 -- ---- lists
@@ -449,6 +449,31 @@ nominates old new person nominated count h s held =
       whole = exchanged.2.whole;
       means = held_exchanged account_row k f s.directory.accounts persons old new person_place (holdings s) (holdings (edited (Directory (SetNominated person nominated)) s)) refl refl held.means (is_param 0 0 ∷ []) (col 1 0 ∷ lit Null ∷ col 1 2 ∷ col 1 3 ∷ col 1 4 ∷ col 1 5 ∷ col 1 6 ∷ col 0 1 ∷ []) params refl
           (λ x. and_true _ ∙ equal_numbers (x.person.number) person) (λ x. rw (cast_int x.person.number, cast_null, cast_int x.person.org, cast_int (role_number x.person.role), cast_flag x.person.active, cast_flag nominated) refl) exchanged;
+      fit = record { orgs = held.fit.orgs; accounts = each_exchanged FitAccount k f (λ x h. h) s.directory.accounts held.fit.accounts; communities = held.fit.communities; groups = held.fit.groups; gates = held.fit.gates };
+    }
+
+pub sets_key : (old new : State) (person : ℕ) (key : List ℕ) (count : ℕ) → Executes set_key (Int (pos person) ∷ Blob key ∷ []) old new (Ok count)
+    → (s : core.State) → Holds old.now s → Holds new.now (edited (Directory (SetKey person key)) s)
+sets_key old new person key count h s held =
+    let params = Int (pos person) ∷ Blob key ∷ [] in
+    let exchanged = puts.sets_key old new params held.known count h in
+    let k : Account → Bool = λ x. x.person.number == person in
+    let f : Account → Account = λ x. record x { key = key } in
+    record {
+      known = exchanged.2.schema_is;
+      whole = exchanged.2.whole;
+      means = held_exchanged account_row k f s.directory.accounts persons old new person_place (holdings s)
+          (holdings (edited (Directory (SetKey person key)) s)) refl refl held.means
+          (is_param 0 0 ∷ []) (col 1 0 ∷ lit Null ∷ col 1 2 ∷ col 1 3 ∷ col 1 4 ∷ col 0 1 ∷ col 1 6 ∷ col 1 7 ∷ []) params refl
+          (λ x. and_true _ ∙ equal_numbers (x.person.number) person)
+          (λ x. rw (
+            cast_int x.person.number,
+            cast_null,
+            cast_int x.person.org,
+            cast_int (role_number x.person.role),
+            cast_flag x.person.active,
+            cast_flag x.person.nominated,
+          ) refl) exchanged;
       fit = record { orgs = held.fit.orgs; accounts = each_exchanged FitAccount k f (λ x h. h) s.directory.accounts held.fit.accounts; communities = held.fit.communities; groups = held.fit.groups; gates = held.fit.gates };
     }
 

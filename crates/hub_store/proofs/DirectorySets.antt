@@ -1,5 +1,5 @@
 -- Queries of the directory, by its pairs.
-use Rattle.std.proofs.Common.{◌≡◌, ℕ, ◌<◌, pos, List, [], ◌∷◌, map, filter, find, Bool, true, false, ◌&&◌, ◌||◌, ◌==◌, is_some, Option, Some, None, option_map, nat_cmp, refl, sym, ap, subst, ◌∙◌, arith}
+use Rattle.std.proofs.Common.{◌≡◌, ℕ, ◌<◌, pos, List, [], ◌∷◌, ◌++◌, map, filter, find, Bool, true, false, ◌&&◌, ◌||◌, ◌==◌, is_some, Option, Some, None, option_map, nat_cmp, refl, sym, ap, subst, ◌∙◌, arith}
 use Rattle.std.specs.List.{list_any}
 use Rattle.std.specs.Option.{option_to_list}
 use Rattle.std.specs.declared.cmp.Ordering.TheVariants.{Less}
@@ -14,7 +14,7 @@ use Rattle.circle.specs.declared.directory.Connection.{Connection}
 use Rattle.circle.specs.declared.directory.GroupMember.{GroupMember}
 use Rattle.circle.specs.declared.directory.Arrangement.{Arrangement}
 use Rattle.circle.specs.Directory.{Directory, has_membership, has_group_member}
-use Rattle.circle.specs.Reads.{communities_of, memberships_in_groups, share_community, joins, are_connected, arranged}
+use Rattle.circle.specs.Reads.{communities_of, members_of, connected_to, memberships_in_groups, share_community, joins, are_connected, arranged}
 use Rattle.circle.specs.Sound.{IsSound}
 use Rattle.circle.proofs.Lookup.{any_having}
 use Rattle.hub_state.proofs.Counted.{any_same}
@@ -70,6 +70,18 @@ firsts_rise k b d sound =
 
 pub communities_are : (org : ℕ) (d : Directory) → map (λ (p : Pair). p.0.0) (pairs_to kind.Membership org d) ≡ communities_of org d
 communities_are org d = viewed_pairs membership_pair (λ (p : Pair). p.0.0) (λ (p : Pair). p.0.1 == org) d.memberships
+
+pub members_are : (community : ℕ) (d : Directory) → map (λ (p : Pair). p.0.1) (pairs_from kind.Membership community d) ≡ members_of community d
+members_are community d = viewed_pairs membership_pair (λ (p : Pair). p.0.1) (λ (p : Pair). p.0.0 == community) d.memberships
+
+-- the communities below this one, then those above it
+pub connected_are : (n : ℕ) (d : Directory) (below above : List ℕ)
+    → below ≡ map (λ (p : Pair). p.0.0) (pairs_to kind.Connection n d) → above ≡ map (λ (p : Pair). p.0.1) (pairs_from kind.Connection n d)
+    → below ++ above ≡ connected_to n d
+connected_are n d below above is also =
+    ap (λ l. l ++ above) (is ∙ viewed_pairs connection_pair (λ (p : Pair). p.0.0) (λ (p : Pair). p.0.1 == n) d.connections)
+    ∙ ap (λ l. map (λ (c : Connection). c.low) (filter (λ (c : Connection). c.high == n) d.connections) ++ l)
+    (also ∙ viewed_pairs connection_pair (λ (p : Pair). p.0.1) (λ (p : Pair). p.0.0 == n) d.connections)
 
 pub communities_rise : (org : ℕ) (d : Directory) → IsSound d → AreRising (communities_of org d)
 communities_rise org d sound = subst AreRising (communities_are org d) (firsts_rise kind.Membership org d sound)

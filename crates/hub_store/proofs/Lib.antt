@@ -57,8 +57,6 @@ pub mod TextsHighest
 pub mod Highest
 pub mod Left
 pub mod Telling
-pub mod KeptReader
-pub mod KeptReads
 pub mod AnySchema
 pub mod AnyVersion
 pub mod VersionRows

@@ -30,7 +30,7 @@ use Rattle.hub_store.proofs.Exchanged.{exchanges}
 use Rattle.hub_store.proofs.Forms.{is_param, one_table}
 use Rattle.hub_store.proofs.Held.{AreHeld, is_other, one_changes, permuted, comes_in, goes_out}
 use Rattle.hub_store.proofs.Statements.{Changed, inserted, deleted, updated, keeps, shows}
-use Rattle.hub_store.proofs.Texts.{put_org, put_org_is, put_org_plain, put_person, put_person_is, put_person_plain, put_community, put_community_is, put_community_plain, put_group, put_group_is, put_group_plain, put_pair_is, put_pair_plain, put_gate, put_gate_is, put_gate_plain, put_recipient, put_recipient_is, put_recipient_plain, put_permission, put_permission_is, put_permission_plain, put_naming, put_naming_is, put_naming_plain, put_line, put_line_is, put_line_plain, take_pair_is, take_pair_plain, take_gate, take_gate_is, take_gate_plain, take_gates, take_gates_is, take_gates_plain, take_recipient, take_recipient_is, take_recipient_plain, take_permission, take_permission_is, take_permission_plain, take_permissions, take_permissions_is, take_permissions_plain, take_lines, take_lines_is, take_lines_plain, take_incident, take_incident_is, take_incident_plain, set_active, set_active_is, set_active_plain, set_nominated, set_nominated_is, set_nominated_plain, set_group_active, set_group_active_is, set_group_active_plain}
+use Rattle.hub_store.proofs.Texts.{put_org, put_org_is, put_org_plain, put_person, put_person_is, put_person_plain, put_community, put_community_is, put_community_plain, put_group, put_group_is, put_group_plain, put_pair_is, put_pair_plain, put_gate, put_gate_is, put_gate_plain, put_recipient, put_recipient_is, put_recipient_plain, put_permission, put_permission_is, put_permission_plain, put_naming, put_naming_is, put_naming_plain, put_line, put_line_is, put_line_plain, take_pair_is, take_pair_plain, take_gate, take_gate_is, take_gate_plain, take_gates, take_gates_is, take_gates_plain, take_recipient, take_recipient_is, take_recipient_plain, take_permission, take_permission_is, take_permission_plain, take_permissions, take_permissions_is, take_permissions_plain, take_lines, take_lines_is, take_lines_plain, take_incident, take_incident_is, take_incident_plain, set_active, set_active_is, set_active_plain, set_nominated, set_nominated_is, set_nominated_plain, set_key, set_key_is, set_key_plain, set_group_active, set_group_active_is, set_group_active_plain}
 pub use Rattle.hub_store.proofs.Places.{hubs, orgs, persons, communities, groups, pairs, gates, recipients, permissions, items, incidents}
 use Rattle.hub_store.proofs.Places.{item_place, community_place, gate_place, grp_place, hub_place, incident_place, org_place, pair_place, permission_place, person_place, recipient_place}
 
@@ -163,13 +163,18 @@ takes_incident old new params has count h = deleted hub_schema incidents inciden
 pub takes_lines : (old new : State) (params : Row) → old.now.schema ≡ hub_schema → (count : ℕ) → Executes take_lines params old new (Ok count) → Taken items (is_param 1 0 ∷ []) params old new
 takes_lines old new params has count h = deleted hub_schema items item_place refl refl refl (λ tree olds news. refl) take_lines params old new has take_lines_plain count h _ take_lines_is
 
--- ---- flags are exchanged
+-- ---- flags and keys are exchanged
 
 pub sets_active : (old new : State) (params : Row) → old.now.schema ≡ hub_schema → (count : ℕ) → Executes set_active params old new (Ok count) → Exchanged persons (is_param 0 0 ∷ []) (col 1 0 ∷ lit Null ∷ col 1 2 ∷ col 1 3 ∷ col 1 4 ∷ col 1 5 ∷ col 0 1 ∷ col 1 7 ∷ []) params old new
 sets_active old new params has count h = updated hub_schema persons person_place refl refl refl (λ tree olds news. refl) set_active params old new has set_active_plain count h _ set_active_is
 
 pub sets_nominated : (old new : State) (params : Row) → old.now.schema ≡ hub_schema → (count : ℕ) → Executes set_nominated params old new (Ok count) → Exchanged persons (is_param 0 0 ∷ []) (col 1 0 ∷ lit Null ∷ col 1 2 ∷ col 1 3 ∷ col 1 4 ∷ col 1 5 ∷ col 1 6 ∷ col 0 1 ∷ []) params old new
 sets_nominated old new params has count h = updated hub_schema persons person_place refl refl refl (λ tree olds news. refl) set_nominated params old new has set_nominated_plain count h _ set_nominated_is
+
+pub sets_key : (old new : State) (params : Row) → old.now.schema ≡ hub_schema → (count : ℕ) → Executes set_key params old new (Ok count)
+    → Exchanged persons (is_param 0 0 ∷ []) (col 1 0 ∷ lit Null ∷ col 1 2 ∷ col 1 3 ∷ col 1 4 ∷ col 0 1 ∷ col 1 6 ∷ col 1 7 ∷ []) params old new
+sets_key old new params has count h = updated hub_schema persons person_place refl refl refl (λ tree olds news. refl) set_key params old new
+    has set_key_plain count h _ set_key_is
 
 pub sets_group_active : (old new : State) (params : Row) → old.now.schema ≡ hub_schema → (count : ℕ) → Executes set_group_active params old new (Ok count) → Exchanged groups (is_param 0 0 ∷ []) (col 1 0 ∷ lit Null ∷ col 1 2 ∷ col 1 3 ∷ col 1 4 ∷ col 0 1 ∷ []) params old new
 sets_group_active old new params has count h = updated hub_schema groups grp_place refl refl refl (λ tree olds news. refl) set_group_active params old new has set_group_active_plain count h _ set_group_active_is

@@ -13,28 +13,35 @@ use Rattle.hub_store.specs.inner.ShownPairs.{joined_group, group_if_any, is_one_
 use Rattle.hub_store.specs.declared.joined_rows.Joined.{Joined}
 use Rattle.hub_store.specs.declared.pair_kind.PairKind.TheVariants as kind
 
--- ---- groups
+-- ---- what is found for each
 
 cons_more : {X : Type 0} (o : Option X) (rest : List X) → cons_option o [] ++ rest ≡ cons_option o rest
 cons_more None rest = refl
 cons_more (Some x) rest = refl
 
+-- one more
+pub more_found : {X Y : Type 0} (f : X → Option Y) (items new : List Y) (xs : List X) (i : ℕ) (x e : X) (o : Option Y) (total : List Y)
+    → i < length xs → x ≡ get_or xs i e → o ≡ f x → new ≡ items ++ cons_option o []
+    → items ++ filter_map f (drop i xs) ≡ total → new ++ filter_map f (drop (i + 1) xs) ≡ total
+more_found f items new xs i x e o total low is found pushed so_far =
+    let rest = filter_map f (drop (i + 1) xs) in
+    ap (λ l. l ++ rest) pushed
+    ∙ (append_assoc items (cons_option o []) rest
+    ∙ (ap (λ l. items ++ l) (cons_more o rest)
+    ∙ (ap (λ p. items ++ cons_option p rest) found
+    ∙ (ap (λ y. items ++ filter_map f (y ∷ drop (i + 1) xs)) is
+    ∙ (sym (at_drop_more (λ l. items ++ filter_map f l) xs i e low) ∙ so_far)))))
+
+-- all
+pub all_found : {X Y : Type 0} (f : X → Option Y) (items : List Y) (xs : List X) (i : ℕ) (total : List Y)
+    → length xs ≤ i → items ++ filter_map f (drop i xs) ≡ total → items ≡ total
+all_found f items xs i total past so_far = sym (append-nil items) ∙ (ap (λ l. items ++ filter_map f l) (sym (drop_all i xs past)) ∙ so_far)
+
 -- one member more
 pub more_groups : (d : Directory) (items new : List JoinedGroup) (ms : List Joined) (i : ℕ) (m e : Joined) (o : Option Group) (total : List JoinedGroup) → i < length ms → m ≡ get_or ms i e → o ≡ group_of m.group d → new ≡ items ++ cons_option (option_map (joined_group m) o) []
     → items ++ filter_map (group_if_any d) (drop i ms) ≡ total → new ++ filter_map (group_if_any d) (drop (i + 1) ms) ≡ total
 more_groups d items new ms i m e o total low is found pushed so_far =
-    let rest = filter_map (group_if_any d) (drop (i + 1) ms) in
-    let one = option_map (joined_group m) o in
-    ap (λ l. l ++ rest) pushed
-    ∙ (append_assoc items (cons_option one []) rest
-    ∙ (ap (λ l. items ++ l) (cons_more one rest)
-    ∙ (ap (λ (p : Option Group). items ++ cons_option (option_map (joined_group m) p) rest) found
-    ∙ (ap (λ (x : Joined). items ++ filter_map (group_if_any d) (x ∷ drop (i + 1) ms)) is
-    ∙ (sym (at_drop_more (λ l. items ++ filter_map (group_if_any d) l) ms i e low) ∙ so_far)))))
-
--- all members
-pub all_groups : (d : Directory) (items : List JoinedGroup) (ms : List Joined) (i : ℕ) (total : List JoinedGroup) → length ms ≤ i → items ++ filter_map (group_if_any d) (drop i ms) ≡ total → items ≡ total
-all_groups d items ms i total past so_far = sym (append-nil items) ∙ (ap (λ l. items ++ filter_map (group_if_any d) l) (sym (drop_all i ms past)) ∙ so_far)
+    more_found (group_if_any d) items new ms i m e (option_map (joined_group m) o) total low is (ap (option_map (joined_group m)) found) pushed so_far
 
 -- ---- tests
 

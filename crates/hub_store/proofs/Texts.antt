@@ -220,7 +220,7 @@ pub take_incident_plain : IsPlain (understood hub_schema take_incident)
 unfolding understood everything
 take_incident_plain = (refl, refl)
 
--- ---- flags are exchanged
+-- ---- flags and keys are exchanged
 
 abbrev pub set_active : List ℕ
 set_active = codes "UPDATE person SET active = ?2 WHERE number = ?1"
@@ -243,6 +243,19 @@ set_nominated_is = refl
 pub set_nominated_plain : IsPlain (understood hub_schema set_nominated)
 unfolding understood everything
 set_nominated_plain = (refl, refl)
+
+abbrev pub set_key : List ℕ
+set_key = codes "UPDATE person SET key = ?2 WHERE number = ?1"
+
+pub set_key_is : command_of (understood hub_schema set_key) ≡
+    Update person_place
+    (program (one_table person_tree (is_param 0 0 ∷ []) (col 1 0 ∷ col 1 0 ∷ lit Null ∷ col 1 2 ∷ col 1 3 ∷ col 1 4 ∷ col 0 1 ∷ col 1 6 ∷ col 1 7 ∷ [])))
+unfolding understood everything
+set_key_is = refl
+
+pub set_key_plain : IsPlain (understood hub_schema set_key)
+unfolding understood everything
+set_key_plain = (refl, refl)
 
 abbrev pub set_group_active : List ℕ
 set_group_active = codes "UPDATE grp SET active = ?2 WHERE number = ?1"
@@ -311,6 +324,18 @@ community_with_number_is = refl
 pub community_with_number_plain : IsPlain (understood hub_schema community_with_number) × (reads_listing hub_schema community_with_number ≡ false)
 unfolding understood everything
 community_with_number_plain = ((refl, refl), refl)
+
+abbrev pub community_and_name : List ℕ
+community_and_name = codes "SELECT number, name FROM community WHERE number = ?1"
+
+pub community_and_name_is : command_of (understood hub_schema community_and_name) ≡
+    Select (program (one_table community_tree (is_param 0 0 ∷ []) (col 1 0 ∷ col 1 2 ∷ []))) (codes "number" ∷ codes "name" ∷ [])
+unfolding understood everything
+community_and_name_is = refl
+
+pub community_and_name_plain : IsPlain (understood hub_schema community_and_name) × (reads_listing hub_schema community_and_name ≡ false)
+unfolding understood everything
+community_and_name_plain = ((refl, refl), refl)
 
 abbrev pub community_with_name : List ℕ
 community_with_name = codes "SELECT number FROM community WHERE name = ?1"

@@ -4,7 +4,7 @@ ghost use Rattle.std.specs.Prelude.{◌≡◌, pos, [], ◌∷◌, IsTrue, OnOk}
 ghost use Rattle.sqlite_value.specs.declared.value.Value.TheVariants.{Int, Text};
 ghost use Rattle.sqlite.specs.State.{HasCleanDisk};
 ghost use Rattle.sqlite.specs.Held.{state};
-ghost use Rattle.circle.specs.declared.command.RowEdit.TheVariants.{PutOrg, PutAccount, Suspend, PutClient, TakeClient, PutCommunity, PutMembership, TakeMembership, PutConnection, TakeConnection, PutGroup, PutGroupMember, TakeGroupMember, SetGroupActive, PutArrangement, TakeArrangement, SetNominated};
+ghost use Rattle.circle.specs.declared.command.RowEdit.TheVariants.{PutOrg, PutAccount, Suspend, PutClient, TakeClient, PutCommunity, PutMembership, TakeMembership, PutConnection, TakeConnection, PutGroup, PutGroupMember, TakeGroupMember, SetGroupActive, PutArrangement, TakeArrangement, SetNominated, SetKey};
 ghost use Rattle.hub_state.specs.State.{State};
 ghost use Rattle.hub_state.specs.Edits.{edited};
 ghost use Rattle.hub_state.specs.declared.edit.Edit.TheVariants.{Directory};
@@ -117,6 +117,19 @@ fn nominate<S: Alter>(
         tx,
         "UPDATE person SET nominated = ?2 WHERE number = ?1",
         params![person, nominated],
+    )
+}
+
+fn set_key<S: Alter>(tx: &mut Transaction<'_, S>, person: u32, key: &[u8; 32]) -> Result<(), Error>
+    ensures same_reference { tx.new.conn.ghost_name ≡ tx.old.conn.ghost_name }
+    ensures made { (s : State) →
+        Makes (state S.Store tx.old.conn.now) (state S.Store tx.new.conn.now) (λ db.
+        Holds db s) (λ db. Holds db (edited (Directory (SetKey person key.now)) s)) result }
+{
+    run(
+        tx,
+        "UPDATE person SET key = ?2 WHERE number = ?1",
+        params![person, key.as_slice()],
     )
 }
 
@@ -309,5 +322,6 @@ pub(crate) fn make_row<S: Alter>(tx: &mut Transaction<'_, S>, edit: &RowEdit) ->
         RowEdit::PutArrangement(row) => put_arrangement(tx, row),
         RowEdit::TakeArrangement { source, org } => take_arrangement(tx, *source, *org),
         RowEdit::SetNominated { person, nominated } => nominate(tx, *person, *nominated),
+        RowEdit::SetKey { person, key } => set_key(tx, *person, key),
     }
 }

@@ -122,7 +122,8 @@ fn knows<S: Alter>(
         CircleCommand::GroupActive { group, .. } => read_has_group_member(tx, *group, actor.org),
         CircleCommand::AddOrg { .. }
         | CircleCommand::AddCommunity { .. }
-        | CircleCommand::NewGroup { .. } => Ok(true),
+        | CircleCommand::NewGroup { .. }
+        | CircleCommand::NewKey { .. } => Ok(true),
     }
 }
 
@@ -213,7 +214,9 @@ fn stands<S: Alter>(
 {
     match command {
         CircleCommand::AddOrg { name } => read_has_org_named(tx, name.as_str()),
-        CircleCommand::AddPerson { key, .. } => read_has_key(tx, alloc, key),
+        CircleCommand::AddPerson { key, .. } | CircleCommand::NewKey { key } => {
+            read_has_key(tx, alloc, key)
+        }
         CircleCommand::SuspendPerson { person } => read_has_suspended(tx, alloc, *person),
         CircleCommand::AddClient { org, client } | CircleCommand::RemoveClient { org, client } => {
             read_has_client(tx, *org, *client)

@@ -3,13 +3,13 @@
 ghost use Rattle.std.specs.Prelude.{◌≡◌, false};
 ghost use Rattle.sqlite.specs.Held.{state};
 ghost use Rattle.circle.specs.Directory as spec;
-ghost use Rattle.circle.specs.Reads.{person_of as person_numbered};
+ghost use Rattle.circle.specs.Reads.{community_of, person_of as person_numbered};
 ghost use Rattle.hub_store.specs.inner.Queries.{IsReadInside, IsReadOutside};
 
 use crate::any_row::is_any;
 use crate::from_row::first;
 use crate::query::ask;
-use circle::directory::Person;
+use circle::directory::{Community, Person};
 use sqlite::{Alter, Connection, Error, Transaction, params};
 use std::alloc::Global;
 
@@ -45,6 +45,24 @@ pub(crate) fn read_has_community<S: Alter>(
         params![number],
     )?;
     Ok(is_any(&rows))
+}
+
+pub(crate) fn read_community<S: Alter>(
+    tx: &mut Transaction<'_, S>,
+    alloc: Global,
+    number: u32,
+) -> Result<Option<Community>, Error>
+    ensures same_reference { tx.new.conn.ghost_name ≡ tx.old.conn.ghost_name }
+    ensures read { IsReadInside (state S.Store tx.old.conn.now)
+        (state S.Store tx.new.conn.now) (λ s found. found ≡
+        community_of number s.directory) result }
+{
+    let rows = ask(
+        tx,
+        "SELECT number, name FROM community WHERE number = ?1",
+        params![number],
+    )?;
+    first(alloc, &rows)
 }
 
 pub(crate) fn read_person_of<S: Alter>(

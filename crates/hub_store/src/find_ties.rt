@@ -1,6 +1,6 @@
 //! How an organisation stands to a source.
 
-ghost use Rattle.std.specs.Prelude.{◌≡◌, false, IfSome};
+ghost use Rattle.std.specs.Prelude.{◌≡◌, false};
 ghost use Rattle.std.specs.List.{list_any};
 ghost use Rattle.sqlite.specs.Held.{state};
 ghost use Rattle.circle.specs.Reads.{communities_of};
@@ -105,27 +105,7 @@ fn ties_with(
     }
 }
 
-/// The same if its communities are known.
-fn read_ties_of<S: Alter>(
-    tx: &mut Transaction<'_, S>,
-    alloc: Global,
-    own: &[u32],
-    org: u32,
-    source: u32,
-    named: Option<u32>,
-) -> Result<Ties, Error>
-    ensures same_reference { tx.new.conn.ghost_name ≡ tx.old.conn.ghost_name }
-    ensures read { IsReadInside (state S.Store tx.old.conn.now)
-        (state S.Store tx.new.conn.now) (λ s found.
-        own.now ≡ communities_of org s.directory → found ≡ ties_of org source named s) result }
-{
-    let others = read_others(tx, alloc, own, source)?;
-    let arrangement = read_arranged(tx, alloc, source, org)?;
-    Ok(ties_with(own, &others, named, arrangement))
-}
-
-/// The same if they are read first.
-fn read_own_ties<S: Alter>(
+fn read_ties<S: Alter>(
     tx: &mut Transaction<'_, S>,
     alloc: Global,
     org: u32,
@@ -137,35 +117,15 @@ fn read_own_ties<S: Alter>(
         (state S.Store tx.new.conn.now) (λ s found. found ≡ ties_of org source named s) result }
 {
     let own = read_communities(tx, alloc, org)?;
-    read_ties_of(tx, alloc, &own, org, source, named)
+    let others = read_others(tx, alloc, &own, source)?;
+    let arrangement = read_arranged(tx, alloc, source, org)?;
+    Ok(ties_with(&own, &others, named, arrangement))
 }
 
-fn read_ties<S: Alter>(
-    tx: &mut Transaction<'_, S>,
-    alloc: Global,
-    own: Option<&[u32]>,
-    org: u32,
-    source: u32,
-    named: Option<u32>,
-) -> Result<Ties, Error>
-    ensures same_reference { tx.new.conn.ghost_name ≡ tx.old.conn.ghost_name }
-    ensures read { IsReadInside (state S.Store tx.old.conn.now)
-        (state S.Store tx.new.conn.now) (λ s found.
-        IfSome own.entry (λ ns. ns.now ≡ communities_of org s.directory) →
-        found ≡ ties_of org source named s) result }
-{
-    match own {
-        None => read_own_ties(tx, alloc, org, source, named),
-        Some(own) => read_ties_of(tx, alloc, own, org, source, named),
-    }
-}
-
-/// How an organisation stands to a source and to the community that is named. Reads the organisation's communities
-/// unless they are given.
+/// How an organisation stands to a source and to the community that is named.
 pub(crate) fn find_ties<S: Alter>(
     conn: &mut Connection<S>,
     alloc: Global,
-    own: Option<&[u32]>,
     org: u32,
     source: u32,
     named: Option<u32>,
@@ -173,12 +133,10 @@ pub(crate) fn find_ties<S: Alter>(
     requires { conn.old.in_transaction ≡ false }
     ensures idle { conn.new.in_transaction ≡ false }
     ensures answers { IsReadOutside (state S.Store conn.old)
-        (state S.Store conn.new) (λ s found.
-        IfSome own.entry (λ ns. ns.now ≡ communities_of org s.directory) →
-        found ≡ ties_of org source named s) result }
+        (state S.Store conn.new) (λ s found. found ≡ ties_of org source named s) result }
 {
     let mut tx = conn.transaction();
-    let found = read_ties(&mut tx, alloc, own, org, source, named);
+    let found = read_ties(&mut tx, alloc, org, source, named);
     tx.rollback();
     found
 }

@@ -8,8 +8,8 @@
 //! 2. `Rows`, `Items`, `Values` and `Pairs`: each element of a set as a row, and each line of a document; `Fit`: the
 //!    limits that every row keeps.
 //! 3. `Means`: which state the tables stand for, set by set; `Content`: which state a connection has, and what an open
-//!    after a crash may find; `Shelved`: the state of the shelf, by its connection and by what it keeps; `Opening` and
-//!    `Failing`: why a store isn't opened; `Laws`: what an open finds of what a crash left.
+//!    after a crash may find; `Shelved`: what contracts see of the shelf; `Opening` and `Failing`: why a store isn't
+//!    opened; `Laws`: what an open finds of what a crash left.
 //!
 //! The modules, by what they do:
 //!
@@ -22,8 +22,8 @@
 //!   `read_pairs`: queries that several of these ask;
 //! - `find_person`, `find_numbered`, `find_number`, `find_naming`, `find_document`, `find_excerpt`, `find_met`,
 //!   `find_gates`, `find_recipients`, `find_permissions`, `find_case`, `find_sharing`, `find_groups`,
-//!   `find_communities`, `find_arranged`, `find_reader`, `find_ties`, `list_entries`, `has_row`, `has_pair`,
-//!   `common_numbers`: the look-ups; `kept_reader`: what of them is kept;
+//!   `find_joined_communities`, `find_communities`, `find_arranged`, `find_reader`, `find_ties`, `list_entries`,
+//!   `has_row`, `has_pair`, `common_numbers`: the look-ups;
 //! - `add_numbered`, `add_pairs`, `add_incidents`: each set read by one query; `find_rows`: all rows but the documents;
 //! - `feed_rows`: the lines of an incident for the pass of an excerpt, one at a time; `probe_rows`: the same for a
 //!   search, until its result is sure;
@@ -56,6 +56,7 @@ mod find_document;
 mod find_excerpt;
 mod find_gates;
 mod find_groups;
+mod find_joined_communities;
 mod find_met;
 mod find_naming;
 mod find_number;
@@ -75,7 +76,6 @@ mod incident_rows;
 mod into_edit;
 mod item_rows;
 mod joined_rows;
-mod kept_reader;
 pub mod laws;
 mod list_entries;
 mod migrate;

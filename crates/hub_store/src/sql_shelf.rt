@@ -1,6 +1,6 @@
 //! The shelf over a connection.
 
-ghost use Rattle.std.specs.Prelude.{◌≡◌, ◌≢◌, ◌<◌, ◌↔◌, Option, Some, None, false, IfOk, IfErr, IsTrue, OnOk};
+ghost use Rattle.std.specs.Prelude.{◌≡◌, ◌≢◌, ◌<◌, ◌↔◌, Option, Some, false, IfOk, IfErr, IsTrue, OnOk};
 ghost use Rattle.hub_state.specs.Shelves.{last_count};
 ghost use Rattle.hub_store.specs.Tables.{no_schema};
 ghost use Rattle.hub_store.specs.Opening.{opened_as};
@@ -13,7 +13,7 @@ mod whole_rows;
 use crate::create::make_store;
 use crate::failures::fault_of;
 use crate::version::{NEWEST, version};
-use hub_state::{Reader, ShelfFault};
+use hub_state::ShelfFault;
 use sqlite::{Alter, Connection};
 use sqlite_schema::schema::Schema;
 use std::alloc::Global;
@@ -32,15 +32,13 @@ pub enum OpenFault {
 }
 
 /// The hub's tables in a connection, which is in no transaction between two calls. Each look-up is one transaction that
-/// is rolled back, as a read changes nothing and nobody else writes the store. Until an edit it keeps the last reader's
-/// own part of a standing: a page asks for the same reader again and again. Contracts see the connection, the count of
-/// failures, and what is kept.
+/// is rolled back, as a read changes nothing and nobody else writes the store. Contracts see the connection and the
+/// count of failures.
 #[derive(Drop)]
 pub struct SqlShelf<S: Alter> {
     alloc: Global,
     conn: Connection<S>,
     failures: u64,
-    kept: Option<Reader>,
 }
 
 impl<S: Alter> Model for SqlShelf<S> {
@@ -51,7 +49,7 @@ impl<S: Alter> Model for SqlShelf<S> {
 
     ghost coded = { shelved_code S.code };
 
-    ghost view = { λ shelf. record { conn = shelf.conn; failures = shelf.failures; kept = shelf.kept } };
+    ghost view = { λ shelf. record { conn = shelf.conn; failures = shelf.failures } };
 
     ghost invariant = { λ shelf. shelf.conn.in_transaction ≡ false };
 }
@@ -85,13 +83,11 @@ impl<S: Alter> SqlShelf<S> {
         requires { conn.in_transaction ≡ false }
         ensures same { result.conn ≡ conn }
         ensures begun { result.failures ≡ 0 }
-        ensures unkept { result.kept ≡ None }
     {
         SqlShelf {
             alloc,
             conn,
             failures: 0,
-            kept: None,
         }
     }
 
@@ -117,7 +113,6 @@ impl<S: Alter> SqlShelf<S> {
         ensures made { IfOk result (λ shelf.
             HasCleanDisk (state S.Store shelf.conn) → Has (state S.Store shelf.conn) empty) }
         ensures begun { IfOk result (λ shelf. shelf.failures ≡ 0) }
-        ensures unkept { IfOk result (λ shelf. shelf.kept ≡ None) }
         ensures taken { (state S.Store conn).now.schema ≢ no_schema →
             result ≡ Err (ShelfFault.Failed, conn) }
         ensures cause { (state S.Store conn).now.schema ≡ no_schema →
@@ -162,7 +157,6 @@ impl<S: Alter> SqlShelf<S> {
         requires { conn.in_transaction ≡ false }
         ensures opened { IfOk result (λ shelf.
             IsOpened (state S.Store conn) (state S.Store shelf.conn) shelf.failures) }
-        ensures unkept { IfOk result (λ shelf. shelf.kept ≡ None) }
         ensures refused { IfErr result (λ e.
             IsRefused (state S.Store conn) (state S.Store e.1) e.0) }
         ensures idle { IfErr result (λ e. e.1.in_transaction ≡ false) }
@@ -186,7 +180,6 @@ impl<S: Alter> SqlShelf<S> {
             MayLeave (state S.Store self.new.conn) left ↔ MayLeave
             (state S.Store self.old.conn) left }
         ensures failures { self.new.failures ≡ self.old.failures }
-        ensures kept { self.new.kept ≡ self.old.kept }
     {
         let limit = if steps == 0 { None } else { Some(steps) };
         self.conn.set_step_limit(limit);
@@ -201,7 +194,6 @@ impl<S: Alter> SqlShelf<S> {
             alloc: _,
             conn,
             failures: _,
-            kept: _,
         } = self;
         conn
     }

@@ -1,5 +1,5 @@
 //! The shelf.
-ghost use Rattle.std.specs.Prelude.{◌≡◌, ◌≤◌, [], IfOk, option_map};
+ghost use Rattle.std.specs.Prelude.{◌≡◌, ◌≤◌, [], IfOk, IfErr, option_map};
 ghost use Rattle.redact.specs.Excerpts.{told_by};
 ghost use Rattle.hub_state.specs.Reads.{served_of_incident, met_by_incident};
 ghost use Rattle.hub_state.specs.State.{State};
@@ -10,7 +10,8 @@ use crate::copies::{copies_for_search, copies_of};
 use crate::documents::Documents;
 use circle::directory::Person;
 use hub_state::{
-    Edit, Entry, Facts, JoinedGroup, Request, Shelf, ShelfFault, StateRows, WholeRows,
+    Edit, Entry, Facts, IncidentSharing, JoinedCommunity, JoinedGroup, Request, Shelf, ShelfFault,
+    StateRows, WholeRows,
 };
 use iodef_tree::Document;
 use policy::{Case, Standing};
@@ -35,7 +36,8 @@ impl<Sh: Shelf, const MOST: usize> KeptDocuments<Sh, MOST> {
     /// Returns a shelf over another one, with no document kept. Fails with the shelf below if the memory doesn't
     /// suffice.
     pub fn new(alloc: Global, shelf: Sh) -> Result<KeptDocuments<Sh, MOST>, (AllocError, Sh)>
-        ensures { IfOk result (λ k. (k.shelf ≡ shelf) × (k.documents ≡ [])) }
+        ensures made { IfOk result (λ k. (k.shelf ≡ shelf) × (k.documents ≡ [])) }
+        ensures refused { IfErr result (λ refused. refused.1 ≡ shelf) }
     {
         match Documents::new(alloc) {
             Ok(documents) => Ok(KeptDocuments {
@@ -194,6 +196,14 @@ impl<Sh: Shelf, const MOST: usize> Shelf for KeptDocuments<Sh, MOST> {
         found
     }
 
+    fn incident_sharing(&mut self, incident: u32) -> Result<Option<IncidentSharing>, ShelfFault> {
+        let found = self.shelf.incident_sharing(incident);
+        if self.documents.give_way(&found) {
+            return self.shelf.incident_sharing(incident);
+        }
+        found
+    }
+
     fn document(&mut self, incident: u32) -> Result<Option<Document>, ShelfFault> {
         // the caller gets the document itself, so a kept one would have to be copied
         let found = self.shelf.document(incident);
@@ -254,6 +264,14 @@ impl<Sh: Shelf, const MOST: usize> Shelf for KeptDocuments<Sh, MOST> {
         let found = self.shelf.groups_of(person);
         if self.documents.give_way(&found) {
             return self.shelf.groups_of(person);
+        }
+        found
+    }
+
+    fn joined_communities(&mut self, person: &Person) -> Result<Vec<JoinedCommunity>, ShelfFault> {
+        let found = self.shelf.joined_communities(person);
+        if self.documents.give_way(&found) {
+            return self.shelf.joined_communities(person);
         }
         found
     }

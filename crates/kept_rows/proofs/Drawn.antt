@@ -13,8 +13,9 @@ use Rattle.hub_state.specs.State.{State, incident_in, incident_number}
 use Rattle.hub_state.specs.Reads.{document_of}
 use Rattle.hub_state.specs.Sound.{IsSound}
 use Rattle.hub_state.specs.declared.state.Incident.{Incident}
+use Rattle.kept_rows.specs.declared.seen.Seen.{Seen}
 use Rattle.kept_rows.specs.declared.sketches.Sketches.{Sketches}
-use Rattle.kept_rows.specs.Drawn.{kept, IsDrawn, AreDrawn, DrawsOnly, LetsGo}
+use Rattle.kept_rows.specs.Drawn.{kept, IsDrawn, AreDrawn, DrawsOnly, LetsGo, Keeps}
 
 -- ---- one edit
 
@@ -122,3 +123,13 @@ drawn_read n doc old new s sound is drawn all m k h = elim (drawn m) [
             document : i.document ≡ doc
             document = cc
         split false at f rest = inr (rest f)
+
+-- what is kept, with such a sketch
+pub keeps_read : {rows : State} {seen : Option Seen} (n : ℕ) (doc : Lines) (old new : Sketches) (s : State) → document_of n s ≡ Some doc →
+    DrawsOnly n doc old new → Keeps rows old seen s → Keeps rows new seen s
+keeps_read n doc old new s is drawn keeps = record {
+  same = keeps.same;
+  drawn = drawn_read n doc old new s keeps.sound is drawn keeps.drawn;
+  person = keeps.person;
+  sound = keeps.sound;
+}

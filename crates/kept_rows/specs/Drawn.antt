@@ -8,7 +8,9 @@ use Rattle.hub_state.specs.State.{State}
 use Rattle.hub_state.specs.Sound.{IsSound}
 use Rattle.hub_state.specs.Bare.{bare}
 use Rattle.hub_state.specs.declared.state.Incident.{Incident}
+use Rattle.kept_rows.specs.declared.seen.Seen.{Seen}
 use Rattle.kept_rows.specs.declared.sketches.Sketches.{Sketches}
+use Rattle.kept_rows.specs.Seen.{IsSeen}
 
 -- the sketch that is kept of the document of the incident with this number
 abbrev pub kept : Sketches → ℕ → Option Sketch
@@ -32,8 +34,10 @@ DrawsOnly m doc old new = (n : ℕ) →
 abbrev pub LetsGo : ℕ → Sketches → Sketches → Type 0
 LetsGo m old new = (n : ℕ) → kept new n ≡ (if nat_eq m n then None else kept old n)
 
--- the rows are those of the state without its documents, the sketches are of its documents, and it is sound
-pub record Keeps (rows : State) (sketches : Sketches) (s : State) : Type 0 where
+-- The rows are those of the state without its documents, the sketches are of its documents, what is kept of a person is
+-- so by the rows, and the state is sound.
+pub record Keeps (rows : State) (sketches : Sketches) (seen : Option Seen) (s : State) : Type 0 where
   pub same : rows ≡ bare s
   pub drawn : AreDrawn sketches s
+  pub person : IfSome seen (λ k. IsSeen k rows)
   pub sound : IsSound s

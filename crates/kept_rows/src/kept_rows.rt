@@ -1,19 +1,23 @@
 //! The shelf.
-ghost use Rattle.std.specs.Prelude.{◌≡◌, ◌≢◌, true, false, IfOk, IfErr, OnOk};
-ghost use Rattle.hub_state.specs.Shelves.{IsKept, Reads, last_count};
+ghost use Rattle.std.specs.Prelude.{◌≡◌, ◌≢◌, true, false, None, Ok, Err, is_none, IfOk, IfErr, IfSome, OnOk};
+ghost use Rattle.hub_state.specs.Shelves.{IsKept, IsRead, Reads, last_count};
 ghost use Rattle.hub_state.specs.State.{State};
 ghost use Rattle.hub_state.specs.Sound.{IsSound};
 ghost use Rattle.hub_state.specs.Reads as spec;
-ghost use Rattle.kept_rows.specs.Drawn.{Keeps};
+ghost use Rattle.hub_state.specs.Bare.{bare};
+ghost use Rattle.kept_rows.specs.Drawn.{AreDrawn, Keeps, kept};
+ghost use Rattle.kept_rows.specs.Seen.{IsSeen};
+ghost use Rattle.circle.specs.Reads.{person_of};
 
+use crate::seen::Seen;
 use crate::sketches::Sketches;
 use circle::directory::Person;
 use hub_state::{
-    Edit, Entry, Facts, JoinedGroup, Request, Shelf, ShelfFault, StateRows, WholeRows, facts_by,
-    standing_by,
+    Edit, Entry, Facts, IncidentSharing, JoinedCommunity, JoinedGroup, Request, Shelf, ShelfFault,
+    StateRows, WholeRows, facts_by, incident_sharing_by, standing_by,
 };
 use iodef_tree::Document;
-use policy::{Case, Standing};
+use policy::{Case, Reach, Standing};
 use redact::{Excerpt, Want};
 use sketch::Judged;
 use std::alloc::{AllocError, Global};
@@ -44,13 +48,20 @@ pub struct KeptRows<Sh: Shelf> {
     pub(crate) shelf: Sh,
     pub(crate) rows: StateRows,
     pub(crate) sketches: Sketches,
+    /// The person whose page is made. An edit drops it.
+    pub(crate) seen: Option<Seen>,
 }
 
 impl<Sh: WholeRows> KeptRows<Sh> {
-    /// Reads the rows of a shelf and keeps them, with no sketch. If it fails, the shelf comes back with its content.
+    /// Reads the rows of a shelf and keeps them, with no sketch. Fails as a read of the shelf does. The shelf comes back
+    /// then, with its content.
     pub fn new(alloc: Global, mut shelf: Sh) -> Result<KeptRows<Sh>, (ShelfFault, Sh)>
         ensures kept { IfOk result (λ k. Sh.doubts k.shelf ≡ 0 → (s : State) →
-            Sh.has shelf s → IsSound s → Sh.has k.shelf s × Keeps k.rows k.sketches s) }
+            Sh.has shelf s → IsSound s → Sh.has k.shelf s × Keeps k.rows k.sketches k.seen s) }
+        ensures read { IfOk result (λ k.
+            IsRead Sh.has Sh.doubts Sh.failed Sh.may_remain shelf k.shelf (Ok k.rows)) }
+        ensures lost { IfErr result (λ lost.
+            IsRead Sh.has Sh.doubts Sh.failed Sh.may_remain shelf lost.1 {T = State} (Err lost.0)) }
     {
         match shelf.rows() {
             Ok(rows) => Ok(KeptRows {
@@ -58,6 +69,7 @@ impl<Sh: WholeRows> KeptRows<Sh> {
                 shelf,
                 rows,
                 sketches: Sketches::new(alloc),
+                seen: None,
             }),
             Err(fault) => Err((fault, shelf)),
         }
@@ -85,32 +97,40 @@ impl<Sh: Shelf> KeptRows<Sh> {
         Ok(())
     }
 
-    /// Reads the document of an incident, and keeps its sketch if the memory suffices. Fails if the document can't be
-    /// read.
+    /// Reads the document of an incident, if there is one, and keeps its sketch. Fails if the document can't be read, or
+    /// if the memory doesn't suffice.
     pub fn draw(&mut self, incident: u32) -> Result<(), ShelfFault>
-        ensures { IsKept (λ k s. Sh.has k.shelf s × Keeps k.rows k.sketches s)
+        ensures drawn { Sh.doubts self.new.shelf ≡ 0 → (s : State) → Sh.has self.old.shelf s →
+            OnOk result (is_none (spec.document_of incident s) ≡ false →
+            is_none (kept self.new.sketches incident) ≡ false) }
+        ensures reads { IsKept (λ k s. Sh.has k.shelf s × Keeps k.rows k.sketches k.seen s)
             (λ k. Sh.doubts k.shelf) (λ k. Sh.failed k.shelf)
             (λ k left. Sh.may_remain k.shelf left) self.old self.new }
     {
         if let Some(document) = self.shelf.document(incident)? {
-            self.sketches.draw(incident, &document);
+            self.sketches.draw(incident, &document)?;
         }
         Ok(())
     }
 
-    /// What the sketch of an incident's document says of a want, for this case and standing.
-    fn sketched(&self, incident: u32, case: &Case, standing: &Standing, want: &Want) -> Judged
-        ensures met { (s : State) → Keeps self.now.rows self.now.sketches s →
-            result ≡ Judged.Met →
-            spec.met_by_incident incident case.now standing.entry.now want.now s ≡ true }
-        ensures unmet { (s : State) → Keeps self.now.rows self.now.sketches s →
-            result ≡ Judged.Unmet →
-            spec.met_by_incident incident case.now standing.entry.now want.now s ≡ false }
+    /// Keeps the person with this number, if it isn't the one that is kept. Fails if the memory doesn't suffice.
+    fn see(&mut self, person: u32) -> Result<(), AllocError>
+        ensures shelf { self.new.shelf ≡ self.old.shelf }
+        ensures rows { self.new.rows ≡ self.old.rows }
+        ensures sketches { self.new.sketches ≡ self.old.sketches }
+        ensures stays { IfSome self.old.seen (λ k. IsSeen k self.old.rows) →
+            IfSome self.new.seen (λ k. IsSeen k self.old.rows) }
+        ensures found { OnOk result (IfSome self.new.seen (λ k. k.number ≡ person)) }
+        ensures missing { OnOk result (is_none self.new.seen ≡ true →
+            person_of person self.old.rows.directory ≡ None) }
     {
-        match self.sketches.of(incident) {
-            None => Judged::Unsure,
-            Some(sketch) => sketch.judge(case, standing, want),
+        if let Some(seen) = &self.seen {
+            if seen.is_of(person) {
+                return Ok(());
+            }
         }
+        self.seen = Seen::of(self.alloc, &self.rows, person)?;
+        Ok(())
     }
 
     /// Whether an incident may meet a want for a person at a moment, by the rows and the sketch.
@@ -121,28 +141,50 @@ impl<Sh: Shelf> KeptRows<Sh> {
         now: i64,
         want: &Want,
     ) -> Result<bool, ShelfFault>
-        ensures { Reads (λ k s. Sh.has k.shelf s × Keeps k.rows k.sketches s)
+        requires { Sh.failed self.old.shelf ≢ last_count }
+        ensures { Reads (λ k s. Sh.has k.shelf s × Keeps k.rows k.sketches k.seen s)
             (λ k. Sh.doubts k.shelf) (λ k. Sh.failed k.shelf)
             (λ k left. Sh.may_remain k.shelf left) self.old self.new (λ s may.
             may ≡ false → spec.met_for person incident now want.now s ≡ false) result }
     {
-        let Some(standing) = standing_by(self, person, incident, now)? else {
-            return Ok(false);
-        };
-        let Some(case) = self.rows.find_case(incident)? else {
-            return Ok(false);
-        };
-        match self.sketched(incident, &case, &standing, want) {
-            Judged::Unmet => Ok(false),
-            Judged::Met | Judged::Unsure => Ok(true),
+        self.see(person)?;
+        match &mut self.seen {
+            None => Ok(false),
+            Some(seen) => Ok(may_meet_by(&self.rows, &self.sketches, seen, incident, now, want)),
         }
+    }
+}
+
+/// Whether an incident may meet a want for a person at a moment, by the rows and the sketch. Copies nothing of a row.
+fn may_meet_by(
+    rows: &StateRows,
+    sketches: &Sketches,
+    seen: &mut Seen,
+    incident: u32,
+    now: i64,
+    want: &Want,
+) -> bool
+    ensures number { seen.new.number ≡ seen.old.number }
+    ensures stays { IsSeen seen.old rows.now → IsSeen seen.new rows.now }
+    ensures unmet { (s : State) → rows.now ≡ bare s → AreDrawn sketches.now s → IsSound s →
+        IsSeen seen.old rows.now → result ≡ false →
+        spec.met_for seen.old.number incident now want.now s ≡ false }
+{
+    let Some(naming) = rows.naming_at(incident) else {
+        return false;
+    };
+    seen.set_for(rows, naming, now);
+    let reach = rows.reach(naming.number, seen.standing());
+    match sketches.judge(incident, reach, seen.standing(), want) {
+        Judged::Unmet => false,
+        Judged::Met | Judged::Unsure => true,
     }
 }
 
 impl<Sh: Shelf> Shelf for KeptRows<Sh> {
     ghost use Rattle.kept_rows.specs.Drawn.{Keeps};
 
-    ghost has = { λ k s. Sh.has k.shelf s × Keeps k.rows k.sketches s };
+    ghost has = { λ k s. Sh.has k.shelf s × Keeps k.rows k.sketches k.seen s };
 
     ghost doubts = { λ k. Sh.doubts k.shelf };
 
@@ -176,6 +218,10 @@ impl<Sh: Shelf> Shelf for KeptRows<Sh> {
         Ok(found)
     }
 
+    fn incident_sharing(&mut self, incident: u32) -> Result<Option<IncidentSharing>, ShelfFault> {
+        incident_sharing_by(self, incident)
+    }
+
     fn document(&mut self, incident: u32) -> Result<Option<Document>, ShelfFault> {
         self.shelf.document(incident)
     }
@@ -197,7 +243,8 @@ impl<Sh: Shelf> Shelf for KeptRows<Sh> {
         want: Want,
     ) -> Result<bool, ShelfFault> {
         self.may_ask()?;
-        match self.sketched(incident, &case, &standing, &want) {
+        let reach = Reach::of(&case, &standing);
+        match self.sketches.judge(incident, reach, &standing, &want) {
             Judged::Met => Ok(true),
             Judged::Unmet => Ok(false),
             Judged::Unsure => self.shelf.meets(incident, case, standing, want),
@@ -230,6 +277,11 @@ impl<Sh: Shelf> Shelf for KeptRows<Sh> {
         Ok(self.rows.joined_groups(person)?)
     }
 
+    fn joined_communities(&mut self, person: &Person) -> Result<Vec<JoinedCommunity>, ShelfFault> {
+        self.may_ask()?;
+        Ok(self.rows.joined_communities(person)?)
+    }
+
     fn facts(&mut self, actor: &Person, request: &Request) -> Result<Facts, ShelfFault> {
         let alloc = self.alloc;
         facts_by(self, alloc, actor, request)
@@ -237,6 +289,7 @@ impl<Sh: Shelf> Shelf for KeptRows<Sh> {
 
     fn apply(&mut self, edits: &[Edit]) -> Result<(), ShelfFault> {
         self.may_ask()?;
+        self.seen = None;
         let rows = mem::replace(&mut self.rows, StateRows::new(self.alloc));
         let ready = match rows.ready(edits) {
             Ok(ready) => ready,

@@ -7,11 +7,12 @@
 //! The modules, from the outside in:
 //!
 //! - `kept_rows`: the shelf; `look_ups`: what it looks up in its rows;
-//! - `sketches`: the sketches by the incidents' numbers.
+//! - `sketches`: the sketches by the incidents' numbers; `seen`: the person whose page is made.
 #![tactic(auto)]
 
 mod kept_rows;
 mod look_ups;
+mod seen;
 mod sketches;
 
 pub use kept_rows::KeptRows;

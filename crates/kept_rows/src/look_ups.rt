@@ -10,7 +10,7 @@ use policy::{Gates, Permissions};
 impl<Sh: Shelf> LookUps for KeptRows<Sh> {
     ghost use Rattle.kept_rows.specs.Drawn.{Keeps};
 
-    ghost has = { λ k s. Sh.has k.shelf s × Keeps k.rows k.sketches s };
+    ghost has = { λ k s. Sh.has k.shelf s × Keeps k.rows k.sketches k.seen s };
 
     ghost doubts = { λ k. Sh.doubts k.shelf };
 

@@ -1,13 +1,19 @@
 //! The sketches by the incidents' numbers.
-ghost use Rattle.std.specs.Prelude.{◌≡◌, ℕ, None, option_copied};
+ghost use Rattle.std.specs.Prelude.{◌≡◌, ℕ, None, OnOk, true, false, is_none, option_copied};
+ghost use Rattle.policy.specs.Reach.{reach_of};
+ghost use Rattle.policy.specs.declared.case.Case.{Case as TheCase};
 ghost use Rattle.hub_state.specs.State.{State};
+ghost use Rattle.hub_state.specs.Sound.{IsSound};
+ghost use Rattle.hub_state.specs.Reads as spec;
 ghost use Rattle.hub_state.specs.Edits.{edited, with_edits};
 ghost use Rattle.kept_rows.specs.Drawn.{AreDrawn, DrawsOnly, LetsGo, kept};
 
 use hub_state::{Edit, Incident};
 use iodef_tree::Document;
-use sketch::Sketch;
-use std::alloc::Global;
+use policy::{Reach, Standing};
+use redact::Want;
+use sketch::{Judged, Sketch};
+use std::alloc::{AllocError, Global};
 use std::collections::HashMap;
 use std::hash::{BuildHasherDefault, FoldHasher};
 
@@ -36,14 +42,35 @@ impl Sketches {
         self.drawn.get(&incident)
     }
 
-    /// Keeps the sketch of an incident's document, if the memory suffices.
-    pub(crate) fn draw(&mut self, incident: u32, document: &Document)
-        ensures { DrawsOnly incident document.now self.old self.new }
+    /// What the sketch of an incident's document says of a want, by how the incident's case stands to a reader.
+    pub(crate) fn judge(
+        &self,
+        incident: u32,
+        reach: Reach,
+        standing: &Standing,
+        want: &Want,
+    ) -> Judged
+        ensures met { (s : State) (c : TheCase) → AreDrawn self.now s → IsSound s →
+            reach ≡ reach_of c.gates c.permissions standing.entry.now → result ≡ Judged.Met →
+            spec.met_by_incident incident c standing.entry.now want.now s ≡ true }
+        ensures unmet { (s : State) (c : TheCase) → AreDrawn self.now s → IsSound s →
+            reach ≡ reach_of c.gates c.permissions standing.entry.now → result ≡ Judged.Unmet →
+            spec.met_by_incident incident c standing.entry.now want.now s ≡ false }
     {
-        if let Ok(sketch) = Sketch::of(self.alloc, document) {
-            // without memory for it the document is asked
-            let _ = self.drawn.insert(incident, sketch);
+        match self.of(incident) {
+            None => Judged::Unsure,
+            Some(sketch) => sketch.judge(reach, standing, want),
         }
+    }
+
+    /// Keeps the sketch of an incident's document. Fails if the memory doesn't suffice.
+    pub(crate) fn draw(&mut self, incident: u32, document: &Document) -> Result<(), AllocError>
+        ensures only { DrawsOnly incident document.now self.old self.new }
+        ensures drawn { OnOk result (is_none (kept self.new incident) ≡ false) }
+    {
+        let sketch = Sketch::of(self.alloc, document)?;
+        self.drawn.insert(incident, sketch)?;
+        Ok(())
     }
 
     /// Drops the sketch of an incident's document.
@@ -76,7 +103,8 @@ impl Sketches {
         ensures { DrawsOnly incident.now.naming.number incident.now.document self.old self.new }
     {
         self.let_go(incident.naming.number);
-        self.draw(incident.naming.number, &incident.document);
+        // without memory for it the document is asked
+        let _ = self.draw(incident.naming.number, &incident.document);
     }
 
     /// Makes of the sketches what edits make of the documents.

@@ -5,6 +5,7 @@ pub mod Clearance
 pub mod Gates
 pub mod Moment
 pub mod Permissions
+pub mod Reach
 pub mod Verdict
 pub mod Inherited
 pub mod Decided

@@ -8,7 +8,8 @@
 //!
 //! - `standing`: the reader; `case`: the facts of the incident, with its gates (`gate`) and permissions
 //!   (`permission`); `numbers`: the lists of numbers in a standing;
-//! - `cleared`: [`clearance`]; `gate`: [`passes`]; `permission`: [`includes`]; `rule`: the names of the rules;
+//! - `cleared`: [`clearance`]; `gate`: [`passes`]; `permission`: [`includes`]; `reach`: [`Reach`], all gates and
+//!   permissions of a case at once; `rule`: the names of the rules;
 //! - `covering`: [`covers`], whether one permission covers one class;
 //! - `deciding`: [`decide`], the [`Verdict`] of one class (`verdict`), by a walk from the root (`descent`); `fault`:
 //!   why there is none;
@@ -34,6 +35,7 @@ mod moment;
 mod numbers;
 mod onward;
 mod permission;
+mod reach;
 mod rule;
 mod spot;
 mod standing;
@@ -50,6 +52,7 @@ pub use inherited::Carried;
 pub use moment::read_moment;
 pub use numbers::Numbers;
 pub use permission::{Grantee, Permission, Permissions, holds_for, includes};
+pub use reach::{Reach, refuses, shuts};
 pub use rule::Rule;
 pub use spot::Spot;
 pub use standing::Standing;

@@ -2,6 +2,7 @@
 
 use crate::probing::text_of;
 use iodef_tree::Document;
+use policy::Reach;
 use redact::Want;
 use sketch::{Judged, Sketch};
 use std::alloc::{AllocError, Global};
@@ -37,6 +38,7 @@ pub fn sketched(
     let want = want_of(alloc, needle, class)?;
     let sketch = Sketch::of(alloc, document)?;
     let held = held_text(sketch.may_hold(&want));
-    let judged = judged_text(sketch.judge(&asker.case, &asker.standing, &want));
+    let reach = Reach::of(&asker.case, &asker.standing);
+    let judged = judged_text(sketch.judge(reach, &asker.standing, &want));
     Ok(format!(in alloc; "{held}, {judged}")?)
 }

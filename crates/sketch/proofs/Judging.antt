@@ -8,8 +8,10 @@ use Rattle.iodef_tree.specs.Paths.{located}
 use Rattle.iodef_tree.specs.declared.line.Line.{Line}
 use Rattle.iodef_tree.proofs.Order.{is_false}
 use Rattle.marking.specs.Marks.{first_bad_marking}
+use Rattle.policy.specs.Reach.{reach_of}
 use Rattle.policy.specs.declared.standing.Standing.{Standing}
 use Rattle.policy.specs.declared.case.Case.{Case}
+use Rattle.policy.specs.declared.reach.Reach.{Reach}
 use Rattle.redact.specs.Told.{is_listed, finds}
 use Rattle.redact.specs.Wants.{meets_by}
 use Rattle.redact.specs.declared.want.Want.{Want}
@@ -18,7 +20,7 @@ use Rattle.sketch.specs.Holdings.{holdings}
 use Rattle.sketch.specs.Labels.{has_some_class}
 use Rattle.sketch.specs.Runs.{runs}
 use Rattle.sketch.specs.Sketched.{runs_in, names_in, text_bytes, Summarises, IsKeptOf, IsSketchOf}
-use Rattle.sketch.specs.Judged.{meets_marked, has_words, may_hold, reader_least, is_cleared, is_shut, some_refuses, some_permits, judged_shown, looked_for, judged_by, judged}
+use Rattle.sketch.specs.Judged.{meets_marked, has_words, may_hold, reader_least, is_cleared, judged_shown, looked_for, judged_by, judged}
 use Rattle.sketch.specs.Laws.{least_for}
 use Rattle.sketch.specs.declared.judged.Judged.{Judged}
 use Rattle.sketch.specs.declared.judged.Judged.TheVariants.{Met, Unmet, Unsure}
@@ -64,22 +66,22 @@ module _ (k : Summary) (ls : List Line) (is : Summarises k ls) (c : Case) (s : S
   least-is : reader_least k.arranged k.least s ≡ least_for ls s
   least-is = λ i. reader_least (is.arranged i) (is.least i) s
 
-  shown-met : judged_shown k c s ≡ Met → is_listed ls c s ≡ true
+  shown-met : judged_shown k (reach_of c.gates c.permissions s) s ≡ Met → is_listed ls c s ≡ true
   shown-met h =
       let least = reader_least k.arranged k.least s in
-      let tests = met-tests k.classes s.source (is_shut c s) (is_cleared s least) (some_refuses c s) (some_permits c s) h in
+      let tests = met-tests k.classes s.source (reach_of c.gates c.permissions s).shut (is_cleared s least) (reach_of c.gates c.permissions s).refused (reach_of c.gates c.permissions s).permitted h in
       by_case (sym is.class ∙ tests.0) tests.1
     where
-      by_case : has_some_class ls ≡ true → (s.source ≡ true) ⊎ ((is_cleared s (reader_least k.arranged k.least s) ≡ true) × (some_refuses c s ≡ false)) → is_listed ls c s ≡ true
+      by_case : has_some_class ls ≡ true → (s.source ≡ true) ⊎ ((is_cleared s (reader_least k.arranged k.least s) ≡ true) × ((reach_of c.gates c.permissions s).refused ≡ false)) → is_listed ls c s ≡ true
       by_case class (inl source) = source-shown ls c s source ∙ class
       by_case class (inr w) = within-shows ls c s (ap (is_cleared s) (sym least-is) ∙ w.0) w.1
 
-  shown-unmet : judged_shown k c s ≡ Unmet → is_listed ls c s ≡ false
+  shown-unmet : judged_shown k (reach_of c.gates c.permissions s) s ≡ Unmet → is_listed ls c s ≡ false
   shown-unmet h =
       let least = reader_least k.arranged k.least s in
-      by_case (unmet-tests k.classes s.source (is_shut c s) (is_cleared s least) (some_refuses c s) (some_permits c s) h)
+      by_case (unmet-tests k.classes s.source (reach_of c.gates c.permissions s).shut (is_cleared s least) (reach_of c.gates c.permissions s).refused (reach_of c.gates c.permissions s).permitted h)
     where
-      by_case : (k.classes ≡ false) ⊎ ((s.source ≡ false) × ((is_shut c s ≡ true) ⊎ ((is_cleared s (reader_least k.arranged k.least s) ≡ false) × (some_permits c s ≡ false)))) →
+      by_case : (k.classes ≡ false) ⊎ ((s.source ≡ false) × (((reach_of c.gates c.permissions s).shut ≡ true) ⊎ ((is_cleared s (reader_least k.arranged k.least s) ≡ false) × ((reach_of c.gates c.permissions s).permitted ≡ false)))) →
           is_listed ls c s ≡ false
       by_case (inl none) = no-class-shown ls c s (sym is.class ∙ none)
       by_case (inr (other, inl shut)) = shut-hides ls c s other shut
@@ -96,9 +98,9 @@ module _ (k : Summary) (ls : List Line) (is : Summarises k ls) (c : Case) (s : S
   missing-words None class h = absurd (true≢false h)
   missing-words (Some needle) class h = is_false (finds ls c s needle class) (λ found. false≢true (sym h ∙ found-words needle class found))
 
-  pub by-met : (needle class : Option Bytes) → judged_by k c s needle class ≡ Met → meets_by needle class ls c s ≡ true
+  pub by-met : (needle class : Option Bytes) → judged_by k (reach_of c.gates c.permissions s) s needle class ≡ Met → meets_by needle class ls c s ≡ true
   by-met None class h = shown-met h
-  by-met (Some needle) class h = never (has_words k (Some needle) class) (judged_shown k c s) h
+  by-met (Some needle) class h = never (has_words k (Some needle) class) (judged_shown k (reach_of c.gates c.permissions s) s) h
     where
       never : (b : Bool) (v : Judged) → (if b then looked_for v else Unmet) ≡ Met → finds ls c s needle class ≡ true
       never true Met h = cc
@@ -106,11 +108,11 @@ module _ (k : Summary) (ls : List Line) (is : Summarises k ls) (c : Case) (s : S
       never true Unsure h = cc
       never false v h = cc
 
-  pub by-unmet : (needle class : Option Bytes) → judged_by k c s needle class ≡ Unmet → meets_by needle class ls c s ≡ false
+  pub by-unmet : (needle class : Option Bytes) → judged_by k (reach_of c.gates c.permissions s) s needle class ≡ Unmet → meets_by needle class ls c s ≡ false
   by-unmet None class h = shown-unmet h
-  by-unmet (Some needle) class h = by_words (has_words k (Some needle) class) (judged_shown k c s) refl refl h
+  by-unmet (Some needle) class h = by_words (has_words k (Some needle) class) (judged_shown k (reach_of c.gates c.permissions s) s) refl refl h
     where
-      by_words : (b : Bool) (v : Judged) → has_words k (Some needle) class ≡ b → judged_shown k c s ≡ v → (if b then looked_for v else Unmet) ≡ Unmet → finds ls c s needle class ≡ false
+      by_words : (b : Bool) (v : Judged) → has_words k (Some needle) class ≡ b → judged_shown k (reach_of c.gates c.permissions s) s ≡ v → (if b then looked_for v else Unmet) ≡ Unmet → finds ls c s needle class ≡ false
       by_words false v words shown h = missing-words (Some needle) class words
       by_words true Met words shown h = cc
       by_words true Unsure words shown h = cc
@@ -135,21 +137,21 @@ module _ (ls : List Line) (c : Case) (s : Standing) (needle class : Option Bytes
   kept-missing None is h = ap (λ b. b && meets_by needle class ls c s) (unaccepted (first_bad_marking (located ls)) is)
   kept-missing (Some k) is h = and_right (is_none (first_bad_marking (located ls))) (meets_by needle class ls c s) (missing-words k ls is c s needle class h)
 
-  kept-met : (o : Option Summary) → IsKeptOf o ls → option_map_or (λ k. judged_by k c s needle class) o Unmet ≡ Met → is_met ≡ true
+  kept-met : (o : Option Summary) → IsKeptOf o ls → option_map_or (λ k. judged_by k (reach_of c.gates c.permissions s) s needle class) o Unmet ≡ Met → is_met ≡ true
   kept-met None is h = cc
   kept-met (Some k) is h = ap (λ b. b && meets_by needle class ls c s) (accepted (first_bad_marking (located ls)) is.marked) ∙ by-met k ls is c s needle class h
 
-  kept-unmet : (o : Option Summary) → IsKeptOf o ls → option_map_or (λ k. judged_by k c s needle class) o Unmet ≡ Unmet → is_met ≡ false
+  kept-unmet : (o : Option Summary) → IsKeptOf o ls → option_map_or (λ k. judged_by k (reach_of c.gates c.permissions s) s needle class) o Unmet ≡ Unmet → is_met ≡ false
   kept-unmet None is h = ap (λ b. b && meets_by needle class ls c s) (unaccepted (first_bad_marking (located ls)) is)
   kept-unmet (Some k) is h = and_right (is_none (first_bad_marking (located ls))) (meets_by needle class ls c s) (by-unmet k ls is c s needle class h)
 
 pub sketch-missing : (k : Sketch) (ls : List Line) (c : Case) (s : Standing) (w : Want) {b : Bool} → b ≡ may_hold k w → IsSketchOf k ls → b ≡ false → meets_marked w ls c s ≡ false
 sketch-missing k ls c s w is of missing = kept-missing ls c s (option_map string_bytes w.needle) (option_map string_bytes w.class) k.summary of (sym is ∙ missing)
 
-pub sketch-met : (k : Sketch) (ls : List Line) (c : Case) (s : Standing) (w : Want) {v : Judged} → v ≡ judged k c s w → IsSketchOf k ls → v ≡ Met → meets_marked w ls c s ≡ true
+pub sketch-met : (k : Sketch) (ls : List Line) (c : Case) (s : Standing) (w : Want) {v : Judged} → v ≡ judged k (reach_of c.gates c.permissions s) s w → IsSketchOf k ls → v ≡ Met → meets_marked w ls c s ≡ true
 sketch-met k ls c s w is of met = kept-met ls c s (option_map string_bytes w.needle) (option_map string_bytes w.class) k.summary of (sym is ∙ met)
 
-pub sketch-unmet : (k : Sketch) (ls : List Line) (c : Case) (s : Standing) (w : Want) {v : Judged} → v ≡ judged k c s w → IsSketchOf k ls → v ≡ Unmet → meets_marked w ls c s ≡ false
+pub sketch-unmet : (k : Sketch) (ls : List Line) (c : Case) (s : Standing) (w : Want) {v : Judged} → v ≡ judged k (reach_of c.gates c.permissions s) s w → IsSketchOf k ls → v ≡ Unmet → meets_marked w ls c s ≡ false
 sketch-unmet k ls c s w is of unmet = kept-unmet ls c s (option_map string_bytes w.needle) (option_map string_bytes w.class) k.summary of (sym is ∙ unmet)
 
 -- ---- the laws of answers
@@ -160,8 +162,8 @@ short-runs (a ∷ []) h = refl
 short-runs (a ∷ (b ∷ [])) h = refl
 short-runs (a ∷ (b ∷ (c ∷ t))) h = absurd (omega (arith, h))
 
-pub looked-for : (k : Summary) (c : Case) (s : Standing) (needle : Bytes) (class : Option Bytes) → judged_by k c s (Some needle) class ≢ Met
-looked-for k c s needle class = never (has_words k (Some needle) class) (judged_shown k c s)
+pub looked-for : (k : Summary) (r : Reach) (s : Standing) (needle : Bytes) (class : Option Bytes) → judged_by k r s (Some needle) class ≢ Met
+looked-for k r s needle class = never (has_words k (Some needle) class) (judged_shown k r s)
   where
     never : (b : Bool) (v : Judged) → (if b then looked_for v else Unmet) ≢ Met
     never true Met h = cc
@@ -169,10 +171,10 @@ looked-for k c s needle class = never (has_words k (Some needle) class) (judged_
     never true Unsure h = cc
     never false v h = cc
 
-pub unaccepted-unmet : (k : Sketch) (ls : List Line) (c : Case) (s : Standing) (w : Want) → IsSketchOf k ls → is_some (first_bad_marking (located ls)) ≡ true → judged k c s w ≡ Unmet
-unaccepted-unmet k ls c s w is bad = kept k.summary is
+pub unaccepted-unmet : (k : Sketch) (ls : List Line) (r : Reach) (s : Standing) (w : Want) → IsSketchOf k ls → is_some (first_bad_marking (located ls)) ≡ true → judged k r s w ≡ Unmet
+unaccepted-unmet k ls r s w is bad = kept k.summary is
   where
-    kept : (o : Option Summary) → IsKeptOf o ls → option_map_or (λ (x : Summary). judged_by x c s (option_map string_bytes w.needle) (option_map string_bytes w.class)) o Unmet ≡ Unmet
+    kept : (o : Option Summary) → IsKeptOf o ls → option_map_or (λ (x : Summary). judged_by x r s (option_map string_bytes w.needle) (option_map string_bytes w.class)) o Unmet ≡ Unmet
     kept None is = refl
     kept (Some x) is = absurd (false≢true (sym (ap is_some is.marked) ∙ bad))
 

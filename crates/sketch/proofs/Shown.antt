@@ -13,6 +13,7 @@ use Rattle.iodef_tree.proofs.Order.{is_false}
 use Rattle.marking.specs.Label.{LabelValue, public, white, partner, green, need_to_know, amber, private, red, by_arrangement, extended, is_at_most}
 use Rattle.marking.specs.Marks.{label_at}
 use Rattle.marking.specs.declared.label.Handling.{Handling}
+use Rattle.policy.specs.Reach.{is_refusing, is_shutting, reach_of}
 use Rattle.policy.specs.Clearance.{clearance_of}
 use Rattle.policy.specs.Permissions.{holds_for, reaches, covers}
 use Rattle.policy.specs.Verdict.{refusal_at, handling_for, is_cleared_for, is_covered, is_visible}
@@ -25,7 +26,7 @@ use Rattle.redact.proofs.Searching.{any_map}
 use Rattle.redact.proofs.Shut.{root-tells-nothing}
 use Rattle.redact.proofs.Unrefused.{unrefused}
 use Rattle.sketch.specs.Labels.{fixed_handling, handlings, lesser, least_from, least_of, has_some_class}
-use Rattle.sketch.specs.Judged.{reader_least, is_cleared, is_refusing, is_shut, some_refuses, some_permits}
+use Rattle.sketch.specs.Judged.{reader_least, is_cleared}
 use Rattle.sketch.specs.Laws.{least_for}
 
 -- ---- the least of some handlings
@@ -128,9 +129,9 @@ source-shown ls c s is =
     any_same (is_seen_class ls c s) is_class
     (λ e. ap (λ b. is_class e && (b || (is_none (refusal_at c s e.path) && (is_cleared_for s (label_at (located ls) e.path) || is_covered (located ls) c s e.path)))) is ∙ and-true (is_class e)) (located ls)
 
-pub shut-hides : (ls : List Line) (c : Case) (s : Standing) → s.source ≡ false → is_shut c s ≡ true → is_listed ls c s ≡ false
+pub shut-hides : (ls : List Line) (c : Case) (s : Standing) → s.source ≡ false → (reach_of c.gates c.permissions s).shut ≡ true → is_listed ls c s ≡ false
 shut-hides ls c s other shut =
-    let found = Any-from_list_any (λ g. is_root g.path && is_refusing s g) c.gates shut in
+    let found = Any-from_list_any (is_shutting s) c.gates shut in
     let g = found.1 in
     let two = and_parts (is_root g.path) (is_refusing s g) found.4 in
     (root-tells-nothing ls c s g other (found.0, found.2, found.3) two.0 two.1).met None None
@@ -138,11 +139,11 @@ shut-hides ls c s other shut =
 only-cleared : (a s r k v : Bool) → s ≡ false → v ≡ false → (a && (s || (r && (k || v)))) ≡ true → (a && k) ≡ true
 only-cleared a s r k v other none h = grind arith
 
-none-covered : (es : List LocatedLine) (c : Case) (s : Standing) (p : Tokens) → some_permits c s ≡ false → is_covered es c s p ≡ false
+none-covered : (es : List LocatedLine) (c : Case) (s : Standing) (p : Tokens) → (reach_of c.gates c.permissions s).permitted ≡ false → is_covered es c s p ≡ false
 none-covered es c s p none =
     is_false (is_covered es c s p) (λ h. false≢true (sym none ∙ any-weaker (covers es s p) (holds_for s) (λ x k. (and_parts (holds_for s x) (reaches es x.path p) k).0) c.permissions h))
 
-pub above-hides : (ls : List Line) (c : Case) (s : Standing) → s.source ≡ false → is_cleared s (least_for ls s) ≡ false → some_permits c s ≡ false → is_listed ls c s ≡ false
+pub above-hides : (ls : List Line) (c : Case) (s : Standing) → s.source ≡ false → is_cleared s (least_for ls s) ≡ false → (reach_of c.gates c.permissions s).permitted ≡ false → is_listed ls c s ≡ false
 above-hides ls c s other above none =
     let es = located ls in
     is_false (is_listed ls c s) (λ h. false≢true (sym above ∙ sym (some-cleared ls s)
@@ -152,7 +153,7 @@ above-hides ls c s other above none =
 shown : (a s r k v : Bool) → r ≡ true → (a && k) ≡ true → (a && (s || (r && (k || v)))) ≡ true
 shown a s r k v passed h = grind arith
 
-pub within-shows : (ls : List Line) (c : Case) (s : Standing) → is_cleared s (least_for ls s) ≡ true → some_refuses c s ≡ false → is_listed ls c s ≡ true
+pub within-shows : (ls : List Line) (c : Case) (s : Standing) → is_cleared s (least_for ls s) ≡ true → (reach_of c.gates c.permissions s).refused ≡ false → is_listed ls c s ≡ true
 within-shows ls c s within none =
     let es = located ls in
     any-weaker (is_cleared_class ls s) (is_seen_class ls c s)

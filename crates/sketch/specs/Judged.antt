@@ -9,11 +9,9 @@ use Rattle.marking.specs.Label.{is_at_most, by_arrangement}
 use Rattle.marking.specs.Marks.{first_bad_marking}
 use Rattle.marking.specs.declared.label.Handling.{Handling}
 use Rattle.policy.specs.Clearance.{clearance_of}
-use Rattle.policy.specs.Gates.{refusal_of_gate}
-use Rattle.policy.specs.Permissions.{holds_for}
 use Rattle.policy.specs.Verdict.{handling_for}
 use Rattle.policy.specs.declared.standing.Standing.{Standing}
-use Rattle.policy.specs.declared.gate.Gate.{Gate}
+use Rattle.policy.specs.declared.reach.Reach.{Reach}
 use Rattle.policy.specs.declared.case.Case.{Case}
 use Rattle.redact.specs.Wants.{meets}
 use Rattle.redact.specs.declared.want.Want.{Want}
@@ -49,7 +47,7 @@ abbrev pub may_hold : Sketch → Want → Bool
 may_hold s w =
     option_map_or (λ k. has_words k (option_map string_bytes w.needle) (option_map string_bytes w.class)) s.summary false
 
--- ---- the case and the reader
+-- ---- the reader
 
 -- the least handling for a reader: that at the classes whose label isn't `default`, and if there is a `default`, that of
 -- the arrangement, or RED
@@ -60,36 +58,20 @@ reader_least arranged least s = lesser least (if arranged then Some (handling_fo
 abbrev pub is_cleared : Standing → Option Handling → Bool
 is_cleared s h = option_map_or (λ h. is_at_most h (clearance_of s).0) h false
 
--- whether a gate refuses the reader
-abbrev pub is_refusing : Standing → Gate → Bool
-is_refusing s g = is_some (refusal_of_gate s g)
-
--- whether a gate at the root refuses the reader
-abbrev pub is_shut : Case → Standing → Bool
-is_shut c s = list_any (λ g. is_root g.path && is_refusing s g) c.gates
-
--- whether any gate of the case refuses the reader
-abbrev pub some_refuses : Case → Standing → Bool
-some_refuses c s = list_any (is_refusing s) c.gates
-
--- whether a permission of the case holds for the reader
-abbrev pub some_permits : Case → Standing → Bool
-some_permits c s = list_any (holds_for s) c.permissions
-
 -- whether a reader who isn't of the source is shown some class of a document that has this least handling for the reader
-abbrev pub judged_least : Option Handling → Case → Standing → Judged
-judged_least least c s =
-    if is_shut c s then Unmet
-    else if is_cleared s least then (if some_refuses c s then Unsure else Met)
-    else if some_permits c s then Unsure
+abbrev pub judged_least : Option Handling → Reach → Standing → Judged
+judged_least least r s =
+    if r.shut then Unmet
+    else if is_cleared s least then (if r.refused then Unsure else Met)
+    else if r.permitted then Unsure
     else Unmet
 
 -- whether the reader is shown some class
-abbrev pub judged_shown : Summary → Case → Standing → Judged
-judged_shown k c s =
+abbrev pub judged_shown : Summary → Reach → Standing → Judged
+judged_shown k r s =
     if not k.classes then Unmet
     else if s.source then Met
-    else judged_least (reader_least k.arranged k.least s) c s
+    else judged_least (reader_least k.arranged k.least s) r s
 
 -- a needle has to be looked for in what the reader is shown
 abbrev pub looked_for : Judged → Judged
@@ -103,10 +85,10 @@ judged_for None v = v
 judged_for (Some needle) v = looked_for v
 
 -- the same by what is kept of a document, and by both words of the want: not met if a run or the name is missing
-abbrev pub judged_by : Summary → Case → Standing → Option Bytes → Option Bytes → Judged
-judged_by k c s needle class = if has_words k needle class then judged_for needle (judged_shown k c s) else Unmet
+abbrev pub judged_by : Summary → Reach → Standing → Option Bytes → Option Bytes → Judged
+judged_by k r s needle class = if has_words k needle class then judged_for needle (judged_shown k r s) else Unmet
 
--- What a sketch says of a want, for a case and a reader: it is met, or not, or the document has to be read.
-abbrev pub judged : Sketch → Case → Standing → Want → Judged
-judged s c r w =
-    option_map_or (λ k. judged_by k c r (option_map string_bytes w.needle) (option_map string_bytes w.class)) s.summary Unmet
+-- What a sketch says of a want, by how a case stands to a reader: it is met, or not, or the document has to be read.
+abbrev pub judged : Sketch → Reach → Standing → Want → Judged
+judged s r st w =
+    option_map_or (λ k. judged_by k r st (option_map string_bytes w.needle) (option_map string_bytes w.class)) s.summary Unmet

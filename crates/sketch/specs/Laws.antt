@@ -6,15 +6,17 @@ use Rattle.iodef_tree.specs.Paths.{located}
 use Rattle.iodef_tree.specs.declared.line.Line.{Line}
 use Rattle.marking.specs.Marks.{first_bad_marking}
 use Rattle.marking.specs.declared.label.Handling.{Handling}
+use Rattle.policy.specs.Reach.{reach_of}
 use Rattle.policy.specs.declared.standing.Standing.{Standing}
 use Rattle.policy.specs.declared.case.Case.{Case}
+use Rattle.policy.specs.declared.reach.Reach.{Reach}
 use Rattle.redact.specs.Told.{is_named, has_needle, is_listed, finds}
 use Rattle.redact.specs.declared.want.Want.{Want}
 use Rattle.sketch.specs.Holdings.{HeldText, holdings}
 use Rattle.sketch.specs.Labels.{has_some_class, has_default, least_handling}
 use Rattle.sketch.specs.Runs.{runs}
 use Rattle.sketch.specs.Sketched.{Summarises, IsSketchOf}
-use Rattle.sketch.specs.Judged.{reader_least, is_cleared, is_shut, some_refuses, some_permits, judged_by, judged}
+use Rattle.sketch.specs.Judged.{reader_least, is_cleared, judged_by, judged}
 use Rattle.sketch.specs.declared.judged.Judged.TheVariants.{Met, Unmet}
 use Rattle.sketch.specs.declared.sketch.Summary.{Summary}
 use Rattle.sketch.specs.declared.sketch.Sketch.{Sketch}
@@ -29,17 +31,17 @@ SourceIsShown = (ls : List Line) (c : Case) (s : Standing) → s.source ≡ true
 
 -- If a gate at the root refuses the reader, any reader who isn't of the source is shown nothing.
 abbrev pub ShutShowsNothing : Type 0
-ShutShowsNothing = (ls : List Line) (c : Case) (s : Standing) → s.source ≡ false → is_shut c s ≡ true → is_listed ls c s ≡ false
+ShutShowsNothing = (ls : List Line) (c : Case) (s : Standing) → s.source ≡ false → (reach_of c.gates c.permissions s).shut ≡ true → is_listed ls c s ≡ false
 
 -- If the reader isn't cleared for the least handling, and no permission holds, any reader who isn't of the source is
 -- shown nothing.
 abbrev pub AboveShowsNothing : Type 0
 AboveShowsNothing = (ls : List Line) (c : Case) (s : Standing) → s.source ≡ false → is_cleared s (least_for ls s) ≡ false →
-    some_permits c s ≡ false → is_listed ls c s ≡ false
+    (reach_of c.gates c.permissions s).permitted ≡ false → is_listed ls c s ≡ false
 
 -- If the reader is cleared for the least handling, and no gate of the case refuses, the reader is shown something.
 abbrev pub WithinShowsSome : Type 0
-WithinShowsSome = (ls : List Line) (c : Case) (s : Standing) → is_cleared s (least_for ls s) ≡ true → some_refuses c s ≡ false →
+WithinShowsSome = (ls : List Line) (c : Case) (s : Standing) → is_cleared s (least_for ls s) ≡ true → (reach_of c.gates c.permissions s).refused ≡ false →
     is_listed ls c s ≡ true
 
 -- What a search finds is a text that a class directly holds, and the class has the name that is given.
@@ -58,16 +60,16 @@ ShortHasNoRun = (needle : Bytes) → length needle < 3 → runs needle ≡ []
 
 -- Without a needle the class's name counts for nothing.
 abbrev pub NameNeedsNeedle : Type 0
-NameNeedsNeedle = (k : Summary) (c : Case) (s : Standing) (one other : Option Bytes) → judged_by k c s None one ≡ judged_by k c s None other
+NameNeedsNeedle = (k : Summary) (r : Reach) (s : Standing) (one other : Option Bytes) → judged_by k r s None one ≡ judged_by k r s None other
 
 -- A want with a needle is never met by the sketch alone.
 abbrev pub NeedleIsLookedFor : Type 0
-NeedleIsLookedFor = (k : Summary) (c : Case) (s : Standing) (needle : Bytes) (class : Option Bytes) → judged_by k c s (Some needle) class ≢ Met
+NeedleIsLookedFor = (k : Summary) (r : Reach) (s : Standing) (needle : Bytes) (class : Option Bytes) → judged_by k r s (Some needle) class ≢ Met
 
 -- If the markings of a document aren't accepted, no want is met.
 abbrev pub UnacceptedIsUnmet : Type 0
-UnacceptedIsUnmet = (k : Sketch) (ls : List Line) (c : Case) (s : Standing) (w : Want) → IsSketchOf k ls →
-    is_some (first_bad_marking (located ls)) ≡ true → judged k c s w ≡ Unmet
+UnacceptedIsUnmet = (k : Sketch) (ls : List Line) (r : Reach) (s : Standing) (w : Want) → IsSketchOf k ls →
+    is_some (first_bad_marking (located ls)) ≡ true → judged k r s w ≡ Unmet
 
 -- The limits of a sketch: from 64 to 65,536 bytes for the runs, and 32 for the names.
 abbrev pub SketchIsSmall : Type 0

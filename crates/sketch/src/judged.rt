@@ -1,19 +1,19 @@
 //! What a sketch says of a want.
 
-ghost use Rattle.std.specs.Prelude.{◌≡◌, ◌&&◌, List, true, false, option_map, string_bytes};
-ghost use Rattle.iodef_tree.specs.Text.{is_root};
+ghost use Rattle.std.specs.Prelude.{◌≡◌, List, true, false, option_map, string_bytes};
 ghost use Rattle.iodef_tree.specs.declared.line.Line.{Line};
 ghost use Rattle.policy.specs.declared.standing.Standing.{Standing as TheStanding};
 ghost use Rattle.policy.specs.declared.case.Case.{Case as TheCase};
+ghost use Rattle.policy.specs.Reach.{reach_of};
 ghost use Rattle.sketch.specs.Sketched.{IsSketchOf};
-ghost use Rattle.sketch.specs.Judged.{is_refusing, meets_marked, judged};
+ghost use Rattle.sketch.specs.Judged.{meets_marked, judged};
 ghost use Rattle.sketch.specs.Judged as spec;
 
 use crate::labels::lesser;
 use crate::runs::{has_runs, number};
 use crate::sketch::{Sketch, Summary};
 use marking::{Handling, Label};
-use policy::{Case, Gate, Standing, clearance, holds_for, passes};
+use policy::{Reach, Standing, clearance};
 use redact::Want;
 
 /// What a sketch alone says of a want, for a case and a reader.
@@ -41,17 +41,20 @@ impl Sketch {
         }
     }
 
-    /// Returns whether the reader's want is met, as far as the sketch alone says it. Allocates nothing.
-    pub fn judge(&self, case: &Case, standing: &Standing, want: &Want) -> Judged
-        ensures exact { result ≡ judged self.now case.now standing.entry.now want.now }
-        ensures met { (ls : List Line) → IsSketchOf self.now ls → result ≡ Judged.Met →
-            meets_marked want.now ls case.now standing.entry.now ≡ true }
-        ensures unmet { (ls : List Line) → IsSketchOf self.now ls → result ≡ Judged.Unmet →
-            meets_marked want.now ls case.now standing.entry.now ≡ false }
+    /// Returns whether the want of a reader is met, as far as the sketch alone says it. `reach` is how the incident's case
+    /// stands to the reader. Allocates nothing.
+    pub fn judge(&self, reach: Reach, standing: &Standing, want: &Want) -> Judged
+        ensures exact { result ≡ judged self.now reach standing.entry.now want.now }
+        ensures met { (ls : List Line) (c : TheCase) → IsSketchOf self.now ls →
+            reach ≡ reach_of c.gates c.permissions standing.entry.now → result ≡ Judged.Met →
+            meets_marked want.now ls c standing.entry.now ≡ true }
+        ensures unmet { (ls : List Line) (c : TheCase) → IsSketchOf self.now ls →
+            reach ≡ reach_of c.gates c.permissions standing.entry.now → result ≡ Judged.Unmet →
+            meets_marked want.now ls c standing.entry.now ≡ false }
     {
         match &self.summary {
             None => Judged::Unmet,
-            Some(summary) => judge_by(summary, case, standing, want),
+            Some(summary) => judge_by(summary, reach, standing, want),
         }
     }
 }
@@ -81,14 +84,14 @@ fn has_name(summary: &Summary, class: &Option<String>) -> bool
 }
 
 /// Returns whether the want is met, by what is kept of the document.
-fn judge_by(summary: &Summary, case: &Case, standing: &Standing, want: &Want) -> Judged
-    ensures { result ≡ spec.judged_by summary.now case.now standing.entry.now
+fn judge_by(summary: &Summary, reach: Reach, standing: &Standing, want: &Want) -> Judged
+    ensures { result ≡ spec.judged_by summary.now reach standing.entry.now
         (option_map string_bytes want.now.needle) (option_map string_bytes want.now.class) }
 {
     if !has_words(summary, want) {
         return Judged::Unmet;
     }
-    let shown = judge_shown(summary, case, standing);
+    let shown = judge_shown(summary, reach, standing);
     match &want.needle {
         None => shown,
         Some(_) => look_for(shown),
@@ -107,8 +110,8 @@ fn look_for(shown: Judged) -> Judged
 }
 
 /// Returns whether the reader is shown some class.
-fn judge_shown(summary: &Summary, case: &Case, standing: &Standing) -> Judged
-    ensures { result ≡ spec.judged_shown summary.now case.now standing.entry.now }
+fn judge_shown(summary: &Summary, reach: Reach, standing: &Standing) -> Judged
+    ensures { result ≡ spec.judged_shown summary.now reach standing.entry.now }
 {
     if !summary.classes {
         return Judged::Unmet;
@@ -116,24 +119,24 @@ fn judge_shown(summary: &Summary, case: &Case, standing: &Standing) -> Judged
     if standing.source {
         return Judged::Met;
     }
-    judge_least(reader_least(summary, standing), case, standing)
+    judge_least(reader_least(summary, standing), reach, standing)
 }
 
 /// Returns whether a reader who isn't of the source is shown some class, by the least handling.
-fn judge_least(least: Option<Handling>, case: &Case, standing: &Standing) -> Judged
-    ensures { result ≡ spec.judged_least least case.now standing.entry.now }
+fn judge_least(least: Option<Handling>, reach: Reach, standing: &Standing) -> Judged
+    ensures { result ≡ spec.judged_least least reach standing.entry.now }
 {
-    if is_shut(case, standing) {
+    if reach.shut {
         return Judged::Unmet;
     }
     if is_cleared(standing, least) {
-        return if some_refuses(case, standing) {
+        return if reach.refused {
             Judged::Unsure
         } else {
             Judged::Met
         };
     }
-    if some_permits(case, standing) {
+    if reach.permitted {
         Judged::Unsure
     } else {
         Judged::Unmet
@@ -162,48 +165,4 @@ fn is_cleared(standing: &Standing, handling: Option<Handling>) -> bool
         None => false,
         Some(handling) => handling.is_at_most(clearance(standing).0),
     }
-}
-
-/// Returns whether the gate refuses the reader.
-fn refuses(standing: &Standing, gate: &Gate) -> bool
-    ensures { result ≡ is_refusing standing.entry.now gate.now }
-{
-    passes(standing, gate).is_err()
-}
-
-/// Returns whether the gate is at the root and refuses the reader.
-fn shuts(standing: &Standing, gate: &Gate) -> bool
-    ensures { result ≡ (is_root gate.now.path && is_refusing standing.entry.now gate.now) }
-{
-    gate.path.tokens().is_empty() && refuses(standing, gate)
-}
-
-/// Returns whether a gate at the root refuses the reader.
-fn is_shut(case: &Case, standing: &Standing) -> bool
-    ensures { result ≡ spec.is_shut case.now standing.entry.now }
-{
-    case.gates
-        .as_slice()
-        .iter()
-        .any(|gate| shuts(standing, gate))
-}
-
-/// Returns whether any gate of the case refuses the reader.
-fn some_refuses(case: &Case, standing: &Standing) -> bool
-    ensures { result ≡ spec.some_refuses case.now standing.entry.now }
-{
-    case.gates
-        .as_slice()
-        .iter()
-        .any(|gate| refuses(standing, gate))
-}
-
-/// Returns whether a permission of the case holds for the reader.
-fn some_permits(case: &Case, standing: &Standing) -> bool
-    ensures { result ≡ spec.some_permits case.now standing.entry.now }
-{
-    case.permissions
-        .as_slice()
-        .iter()
-        .any(|permission| holds_for(standing, permission))
 }

@@ -24,11 +24,13 @@ type Reading = (i64, Request);
 fn readings(alloc: Global) -> Result<Vec<Reading>, AllocError> {
     let mut all = Vec::new(alloc);
     all.push((MOMENT, Request::MyGroups))?;
+    all.push((MOMENT, Request::MyCommunities))?;
     all.push((MOMENT, Request::List { after: 0 }))?;
     all.push((MOMENT, Request::Addressed { after: 0 }))?;
     for incident in 1..=INCIDENTS {
         all.push((MOMENT, Request::View { incident }))?;
         all.push((LATER, Request::View { incident }))?;
+        all.push((MOMENT, Request::Sharing { incident }))?;
     }
     Ok(all)
 }

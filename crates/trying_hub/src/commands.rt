@@ -99,7 +99,7 @@ fn of_administrators(command: &str, fields: &mut Fields<'_>) -> Option<CircleCom
     }
 }
 
-/// Returns a command of a coordinator, by numbers.
+/// Returns a command of a coordinator, by numbers, or everybody's.
 fn of_coordinators(command: &str, fields: &mut Fields<'_>) -> Option<CircleCommand> {
     match command {
         "GroupAdd" => Some(CircleCommand::GroupAdd {
@@ -127,6 +127,9 @@ fn of_coordinators(command: &str, fields: &mut Fields<'_>) -> Option<CircleComma
         }),
         "Unnominate" => Some(CircleCommand::Unnominate {
             person: fields.number(),
+        }),
+        "NewKey" => Some(CircleCommand::NewKey {
+            key: key_of(fields.owner()),
         }),
         _ => None,
     }
@@ -167,5 +170,6 @@ pub fn command_name(command: &CircleCommand) -> &'static str {
         CircleCommand::CancelArrange { .. } => "CancelArrange",
         CircleCommand::Nominate { .. } => "Nominate",
         CircleCommand::Unnominate { .. } => "Unnominate",
+        CircleCommand::NewKey { .. } => "NewKey",
     }
 }

@@ -164,7 +164,11 @@ fn reading(alloc: Global, name: &str, fields: &mut Fields<'_>) -> Result<Request
         "Addressed" => Request::Addressed {
             after: fields.number(),
         },
+        "Sharing" => Request::Sharing {
+            incident: fields.number(),
+        },
         "MyGroups" => Request::MyGroups,
+        "MyCommunities" => Request::MyCommunities,
         _ => Request::WhoAmI,
     })
 }

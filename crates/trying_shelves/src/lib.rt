@@ -18,6 +18,7 @@ mod asks;
 mod kept;
 mod lists;
 mod rows;
+mod shared;
 mod store;
 mod tables;
 mod told;

@@ -1,5 +1,6 @@
 //! Replies as text.
 
+use crate::shared::{communities, sharing};
 use circle::directory::Person;
 use hub_core::{Entry, JoinedGroup, Reply, View};
 use std::alloc::{AllocError, Global};
@@ -109,6 +110,8 @@ pub fn reply_text(alloc: Global, reply: &Reply) -> Result<String, AllocError> {
         Reply::View(found) => view(alloc, found),
         Reply::Incidents(found) => incidents(alloc, found.as_slice()),
         Reply::Groups(found) => groups(alloc, found.as_slice()),
+        Reply::Communities(found) => communities(alloc, found.as_slice()),
+        Reply::Sharing(found) => sharing(alloc, found),
         Reply::Caller(person) => caller(alloc, person),
         Reply::Trace(text) => trace(alloc, text.as_str()),
         Reply::Refused(found) => refusal_text(alloc, found),

@@ -134,6 +134,7 @@ def by_second(check: Check, hub: Any, given: str, folder: pathlib.Path, served: 
         by_watch(two, ports())
         by_circle(two)
         by_classes(two)
+        by_keys(two)
         first.end()
         by_absence(two)
     finally:
@@ -274,6 +275,21 @@ def by_classes(two: Two) -> None:
             check("Hubs: no such hub", True)
 
 
+def by_keys(two: Two) -> None:
+    """A new key is the same at both, also if one hub has it already."""
+    check, urls = two.check, " ".join(two.urls)
+    file, later, never = [two.folder / name for name in ("fay.key", "later.key", "never.key")]
+    told = lambda name: "".join(f"hub {hub}: your key is the one in {name}; the old one is nobody's\n" for hub in (1, 2))
+    codes = lambda key: [code_of(two.hub, url, key) for url in two.urls]
+    check("a key is exchanged at both", two.ask(7)("new-key", "--key-file", str(file)), (0, told(file)))
+    key = file.read_text().strip()
+    check("which both serve, and the old one neither", (codes(key), codes(KEYS[7])), (["", ""], ["K1", "K1"]))
+    check("a key is exchanged at one hub", two.asker(0, key, IODEF_HUB_URL=two.urls[1])("new-key", "--key-file", str(later))[0], 0)
+    check("the other one gets the same by --made", two.asker(0, key, IODEF_HUB_URL=urls)("new-key", "--key-file", str(later), "--made"), (0, told(later)))
+    check("and both serve it", (codes(later.read_text().strip()), codes(key)), (["", ""], ["K1", "K1"]))
+    check("where both refuse, no file stays", (two.ask(7)("new-key", "--key-file", str(never)), never.exists()), ((1, ""), False))
+
+
 def by_absence(two: Two) -> None:
     """The first hub is away."""
     check, words = two.check, " ".join(two.urls)
@@ -285,3 +301,7 @@ def by_absence(two: Two) -> None:
     check("nothing is added at the other, whose numbers would differ", (admin("add-org", "Never"), two.ask(6, 2)("add-org", "Next")), ((3, ""), (0, "9\n")))
     watch = bank("watch", "--rounds", "1")
     check("a watch goes on with the other", (watch[0], watch[1].count("\n"), "hub 1: Unreachable" in bank.errors), (0, 4, True))
+    telco, file = two.asker(0, KEYS[3], "--tries", "1", IODEF_HUB_URL=words), two.folder / "absent.key"
+    status = telco("new-key", "--key-file", str(file))[0]
+    check("a key is exchanged at the other, and what the first one needs is told",
+          (status, code_of(two.hub, two.urls[1], file.read_text().strip()), "run this again with the old key and --made" in telco.errors), (3, "", True))

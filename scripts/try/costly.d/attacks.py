@@ -6,6 +6,7 @@ from __future__ import annotations
 import collections
 import concurrent.futures
 import contextlib
+import functools
 import itertools
 import pathlib
 import re
@@ -308,6 +309,39 @@ def one_key_many_addresses(hub: Served, weaker: Changes) -> Iterator[Check]:
         yield posts[429] > posts[200] > 0, f"  one takes {one:.1f} s at most; posts: {dict(posts)}; lists: {dict(lists)}"
 
 
+def exchanged_keys(hub: Served, weaker: Changes) -> Iterator[Check]:
+    """A poster that exchanges its key behind every two reports, and sends reports by the next key while the exchange waits for a View: the
+    count of a day holds for all keys of a person, and none is served by a key that is being made."""
+    dear = hub.post(dear_view(7))[0]
+    hub.done(ADMIN, "POST", "/persons", f"org=2&name=eva&role=poster&key={digest('key-0')}".encode())
+    with trial(hub, {"haproxy.cfg": [FEW]}, weaker) as at:
+        own, early = collections.Counter[int](), collections.Counter[int]()
+
+        def posts(key: str, source: str, name: str) -> int:
+            told = ask(at.proxies, source, key, "POST", "/incidents?level=3", small_report(name))
+            hub.expected.extend(told.said["numbers"] if told.status == 200 else [])
+            return told.status
+
+        def one_of(number: int, place: int) -> int:
+            """A View, then the exchange, then reports by the new key."""
+            time.sleep(0.1 * place)
+            old, new, source = f"key-{number}", f"key-{number + 1}", f"127.48.{50 + number}.{place + 1}"
+            if place == 0:
+                return ask(at.proxies, source, BEN, "GET", f"/incidents/{dear}").status
+            if place == 1:
+                return ask(at.proxies, source, old, "POST", "/me/key", f"key={digest(new)}".encode()).status
+            return posts(new, source, f"early-{number}-{place}")
+
+        for number in range(5):
+            own.update(posts(f"key-{number}", f"127.48.{60 + number}.{turn + 1}", f"own-{number}-{turn}") for turn in range(2))
+            seen, exchanged, *told = at_once(4, functools.partial(one_of, number))
+            yield (seen, exchanged) == (200, 200), f"a View and an exchange: {seen}, {exchanged}"
+            early.update(told)
+        hub.expected.sort()
+        yield own == {200: 6, 429: 4}, f"of ten reports by five keys of a poster six are taken, as a day has: {dict(own)}"
+        yield early == {429: 10}, f"of ten by a key that is being made none is: {dict(early)}"
+
+
 def health_key(hub: Served, weaker: Changes) -> Iterator[Check]:
     """Strangers with the key that nginx sends for /healthz, while ten readers search: the monitor is answered all the same."""
     for turn in range(2):
@@ -496,6 +530,8 @@ ATTACKS: dict[str, tuple[Callable[[Served, Changes], Iterator[Check]], Changes]]
     "random-keys": (random_keys, {"haproxy.cfg": [("    http-response track-sc2 var(txn.person) table iodef_hub_posts if is_report { status 200 }",
                                                    "    http-response track-sc2 var(txn.person) table iodef_hub_posts")]}),
     "one-key-many-addresses": (one_key_many_addresses, {"haproxy.cfg": [(" or is_report { sc_conn_cur(0) gt 2 }", ""), *WITHOUT_CLASS["haproxy.cfg"]]}),
+    "exchanged-keys": (exchanged_keys, {"haproxy.cfg": [("    http-response set-map(/dev/null) %[var(txn.next)] %[var(txn.person)] if is_key { status 200 }\n", ""),
+                                                        ("if { var(txn.person),concat(/next),table_conn_cur(iodef_hub_turns) gt 0 } or is_key", "if is_key")]}),
     "health-key": (health_key, {"haproxy.cfg": [('    http-request set-var-fmt(txn.person)  "%[var(txn.person)]/own" if !{ var(txn.address) -m found }', "")]}),
     "long-names": (long_names, {"haproxy.cfg": [("if is_report has_long_name", "if { always_false }")]}),
     "posts-within-the-watch": (posts_within_the_watch, {"haproxy.cfg": [(" if is_report { sc_conn_cur(1) gt 4 }", " if { always_false }")],

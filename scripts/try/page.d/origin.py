@@ -48,6 +48,7 @@ class Origin:
         self.at_once = self.most_at_once = 0  # how many excerpts are asked for now, and were at most
         self.instead: dict[str, Answer] = {}
         self.moved: dict[str, str] = {}  # where an answer leads
+        self.lost: set[str] = set()  # paths of which the hub's next answer is lost
         self.may_be_kept = False  # whether a browser may keep the hub's answers
         self.waits: dict[tuple[str, str], threading.Event] = {}  # of a method and a path, until when an answer waits
         self.heads: list[tuple[str, dict[str, str]]] = []
@@ -122,6 +123,9 @@ class Origin:
             return self.answer_of_list(target)
         if not re.fullmatch(r"/incidents/\d+", path) or method != "GET":
             told = self.answer_of_hub(method, target, key, body, port)
+            if path in self.lost:
+                self.lost.remove(path)
+                return 503, "application/json", b'{"code":"Away","detail":"","reason":"hub restarts or is busy"}'
             if (method, path) in self.waits:
                 self.waits[(method, path)].wait(60)
             return told

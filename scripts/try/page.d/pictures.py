@@ -57,6 +57,27 @@ def take(trial: Trial) -> None:
     if trial.pictures is not None:
         browser.picture(trial.pictures / "page-post.png", is_whole=False)
     browser.size(1280, 900)
+    share(trial.circle)
+    trial.enter("bank")
+    trial.row_is_read(1)
+    trial.go("#incidents/1")
+    browser.size(1160, 1300)
+    browser.run("const pane = document.getElementById('shared'); pane.open = true; pane.scrollIntoView()")
+    if trial.pictures is not None:
+        browser.picture(trial.pictures / "page-shared.png", is_whole=False)
+    browser.size(1280, 900)
+
+
+def share(circle: Circle) -> None:
+    """Who may see the bank's report on phishing besides, for good, for a while and until an end that is past."""
+    for path, until, whom in (
+        ("/Incident/0/EventData/1", "2099-01-01T00:00:00Z", ("org", 3)),
+        ("/Incident/0/Contact/1", "2026-06-01T00:00:00Z", ("person", 3)),
+        ("/Incident/0/Assessment/0", None, ("community", 1)),
+    ):
+        end = [("until", until)] if until else []
+        circle.ask("bank", "POST", "/incidents/1/grant", [("revision", 1), ("path", path), whom, *end])
+    circle.ask("bank", "POST", "/incidents/1/address", [("org", 4)])
 
 
 def for_documents(trial: Trial, folder: pathlib.Path) -> None:

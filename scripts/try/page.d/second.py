@@ -5,6 +5,7 @@ import pathlib
 import typing
 
 from circle import Circle, digest
+from shared import begin_key, exchange
 from trial import NAMES, PERMIT, Trial, incident, report
 
 HUBS = [{"path": "/", "name": "up to June 2027"}, {"path": "/2/", "name": "newest"}]
@@ -27,6 +28,7 @@ def beside(trial: Trial, folder: pathlib.Path) -> None:
         going_back(trial)
         unknown_key(trial)
         strange_hubs(trial)
+        key_of_each(trial, second)
     finally:
         trial.origin.names = json.dumps(NAMES).encode()
         trial.origin.second_port = None
@@ -154,3 +156,28 @@ def strange_hubs(trial: Trial) -> None:
     open_second(trial, "bank")
     trial.check("signs in a name are told", trial.browser.run(OPTIONS) == ["1: <b>[U+202E]</b>", "2: newest"], trial.browser.run(OPTIONS))
     trial.no_markup("names of hubs")
+
+
+def key_of_each(trial: Trial, second: Circle) -> None:
+    """A new key is the same at each hub; one that hasn't the person isn't asked for it, and one that fails is asked again."""
+    trial.origin.names = json.dumps({**NAMES, "hubs": HUBS}).encode()
+    open_second(trial, "eva-key")
+    key = begin_key(trial)
+    exchange(trial)
+    trial.done("a person of the second hub alone has a new key there", "The new key holds")
+    sent = [trial.sent("POST", path) for path in ("/me/key", "/2/me/key")]
+    trial.check("of which the first hub isn't asked", [sent, second.ask(key, "GET", "/me").get("name")] == [[0, 1], "Eva"], sent)
+    for hub in (trial.circle, second):
+        hub.ask("admin", "POST", "/persons", [("org", 2), ("name", "Hal"), ("role", "reader"), ("key", digest("hal-key"))])
+    open_second(trial, "hal-key")
+    key = begin_key(trial)
+    # The first hub's store fails once, before anything is exchanged.
+    trial.origin.instead["/me/key"] = (503, "application/json", b'{"code":"F1","detail":"","reason":"store failed"}')
+    exchange(trial)
+    trial.refused("a hub that fails", "F1", "store failed")
+    told = [hub.ask("hal-key", "GET", "/me").get("name") for hub in (trial.circle, second)]
+    trial.check("leaves the old key as it is", told == ["Hal", "Hal"], told)
+    exchange(trial)
+    trial.done("and takes the new one later", "The new key holds")
+    told = [hub.ask(each, "GET", "/me").get("name", "") for hub in (trial.circle, second) for each in (key, "hal-key")]
+    trial.check("which both hubs serve, and the old one neither", told == ["Hal", "", "Hal", ""], told)

@@ -1,9 +1,10 @@
-"""The queue that HAProxy keeps before a hub: who may have how much in hand or post in a day, what no report may have, who goes first, and
-what a caller is told of it. The requests come as nginx passes them on, and the hub answers when it is let."""
+"""The queue that HAProxy keeps before a hub: who may have how much in hand or post in a day, also by other keys of its own, what no report
+may have, who goes first, and what a caller is told of it. The requests come as nginx passes them on, and the hub answers when it is let."""
 
 from __future__ import annotations
 
 import contextlib
+import hashlib
 import http.client
 import json
 import pathlib
@@ -25,6 +26,7 @@ Told = tuple[int, str | None, str | None, str | None]
 TURNS: Told = (429, "turns", "2", "too many requests at once")
 ROOM: Told = (429, "room", "60", "no room for reports")
 LONG_NAME: Told = (422, None, None, "bad argument")
+BAD_BODY: Told = (400, None, None, "request refused")
 DONE: Told = (200, None, None, None)
 
 
@@ -173,6 +175,70 @@ def in_a_day(queue: Queue) -> Checks:
     yield same("what the hub refused doesn't count", ([404] * 20, DONE), (refused, queue.ask(who, "POST", "/groups")))
 
 
+def exchange(key: str) -> bytes:
+    """The body that makes this key the caller's."""
+    return f"key={hashlib.sha256(key.encode()).hexdigest()}".encode()
+
+
+def keys(queue: Queue) -> Checks:
+    """Who exchanges its key keeps its counts, from one exchange to the next; who gets a key that another had, keeps its own."""
+    first, second, third, other = (queue.person() for _ in range(4))
+    ends = [queue.ask(first, "POST", "/groups") for _ in range(12)] + [queue.ask(first, "POST", "/me/key", exchange(second))]
+    ends += [queue.ask(second, "POST", "/groups") for _ in range(8)] + [queue.ask(second, "POST", "/me/key", exchange(third).upper().replace(b"KEY", b"key"))]
+    yield same("20 groups of three keys of a person are taken in a day, and two exchanges", [DONE] * 22, ends)
+    full = (429, "posts", "3600", "too many groups in a day")
+    yield same("the next key has none left", full, queue.ask(third, "POST", "/groups"))
+    yield same("an exchange for a key that another had", DONE, queue.ask(other, "POST", "/me/key", exchange(first)))
+    yield same("leaves each its own counts", (DONE, full), (queue.ask(first, "POST", "/groups"), queue.ask(third, "POST", "/groups")))
+    yield same("a key that is nobody's since counts by itself", DONE, queue.ask(second, "POST", "/groups"))
+    fresh = queue.person()
+    yield same("an exchange that the hub refused", 404, queue.ask(third, "POST", "/me/key?/none", exchange(fresh))[0])
+    yield same("leaves the new key's counts alone", DONE, queue.ask(fresh, "POST", "/groups"))
+    for what, body in (
+        ("an escaped name", exchange(fresh).replace(b"k", b"%6b", 1)),
+        ("an escaped digest", exchange(fresh).replace(b"=", b"=%61", 1)[:-1]),
+        ("an ampersand in front", b"&" + exchange(fresh)),
+        ("an ampersand behind", exchange(fresh) + b"&"),
+        ("a digest of 63 digits", exchange(fresh)[:-1]),
+        ("a digest of 65 digits", exchange(fresh) + b"0"),
+    ):
+        yield same(f"an exchange with {what} isn't passed on", BAD_BODY, queue.ask(third, "POST", "/me/key", body))
+
+
+def keys_in_hand(queue: Queue) -> Checks:
+    """With a key that an exchange in hand makes nothing is in hand, so that all counts for its person."""
+    who, made, last = (queue.person() for _ in range(3))
+    with queue.held() as stack:
+        own = queue.hold(stack, who, "POST", "/me/key", exchange(made))
+        for what, words in (("View", ("GET", "/incidents/1")), ("report", ("POST", "/incidents")), ("exchange", ("POST", "/me/key", exchange(last)))):
+            yield same(f"no {what} with a key that an exchange in hand makes", TURNS, queue.ask(made, *words))
+        view = queue.hold(stack, who, "GET", "/incidents/1")
+        queue.hub.gate.set()
+        yield same("the exchange, and a View by the old key, are answered", [DONE] * 2, [told(it) for it in (own, view)])
+    yield same("a View by the new key is", DONE, queue.ask(made, "GET", "/incidents/1"))
+    for what, words in (("a View", ("GET", "/incidents/1")), ("a list", ("GET", "/incidents")), ("a report", ("POST", "/incidents")), ("an exchange", ("POST", "/me/key", exchange(last)))):
+        taken = queue.person()
+        with queue.held() as stack:
+            queue.hold(stack, taken, *words)
+            yield same(f"no exchange for a key with {what} in hand", TURNS, queue.ask(queue.person(), "POST", "/me/key", exchange(taken)))
+
+
+def keys_behind(queue: Queue) -> Checks:
+    """Who is behind stays so with another key."""
+    who, made = queue.person(), queue.person()
+    with queue.held() as stack:
+        view = queue.hold(stack, who, "GET", "/incidents/1")
+        time.sleep(4)
+        queue.hub.gate.set()
+        yield same("a View that takes the hub four seconds, and an exchange", [DONE] * 2, [told(view), queue.ask(who, "POST", "/me/key", exchange(made))])
+    with queue.held() as stack:
+        for key, target in ((queue.person(), "/first"), (made, "/mine"), (queue.person(), "/other")):
+            queue.hold(stack, key, "GET", target)
+        queue.hub.gate.set()
+        time.sleep(1)
+    yield same("another person's request goes before one by the new key", ["/other", "/mine"], [it.split()[1] for it in queue.hub.heads[-2:]])
+
+
 def names(queue: Queue) -> Checks:
     """A member's name has at most 256 bytes; a text has any number."""
     who = queue.person()
@@ -224,7 +290,7 @@ def queued() -> Checks:
     with tempfile.TemporaryDirectory() as name:
         queue = Queue(pathlib.Path(name))
         try:
-            for part in (in_hand, large, in_a_day, names, turns, room, passed_on):
+            for part in (in_hand, large, in_a_day, keys, keys_in_hand, keys_behind, names, turns, room, passed_on):
                 yield from part(queue)
         finally:
             queue.close()

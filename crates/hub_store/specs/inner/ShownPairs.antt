@@ -9,9 +9,10 @@ use Rattle.circle.specs.declared.directory.Handling.{Handling}
 use Rattle.circle.specs.declared.directory.Group.{Group}
 use Rattle.circle.specs.declared.directory.GroupMember.{GroupMember}
 use Rattle.circle.specs.Directory.{Directory}
-use Rattle.circle.specs.Reads.{group_of, memberships_in_groups}
-use Rattle.hub_state.specs.Reads.{joined}
+use Rattle.circle.specs.Reads.{group_of, memberships_in_groups, community_of, communities_of}
+use Rattle.hub_state.specs.Reads.{joined, joined_community}
 use Rattle.hub_state.specs.declared.reply.JoinedGroup.{JoinedGroup}
+use Rattle.hub_state.specs.declared.reply.JoinedCommunity.{JoinedCommunity}
 use Rattle.hub_state.specs.declared.look_ups.Ties.{Ties}
 use Rattle.hub_store.specs.Values.{flag}
 use Rattle.hub_store.specs.Rows.{handling_number}
@@ -66,6 +67,14 @@ group_if_any d j = option_map (joined_group j) (group_of j.group d)
 abbrev pub groups_in : ℕ → Directory → List JoinedGroup
 groups_in org d =
     filter_map (λ (m : GroupMember). option_map (joined m) (group_of m.group d)) (memberships_in_groups org d)
+
+-- the community of this number as it is listed for one of its members, if it is there
+abbrev pub community_if_any : Directory → ℕ → Option JoinedCommunity
+community_if_any d n = option_map (joined_community d) (community_of n d)
+
+-- the communities of which an organisation is a member, in the order of their numbers
+abbrev pub communities_in : ℕ → Directory → List JoinedCommunity
+communities_in org d = filter_map (community_if_any d) (communities_of org d)
 
 -- one of these communities is connected with one of the others
 abbrev pub are_linked : List ℕ → List ℕ → Directory → Bool

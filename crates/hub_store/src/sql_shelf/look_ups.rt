@@ -1,7 +1,6 @@
 //! What the tables look up for standings and facts.
 
 ghost use Rattle.std.specs.Prelude.{◌<◌};
-ghost use Rattle.hub_state.specs.Shelves.{last_count};
 
 use super::SqlShelf;
 use crate::count_incidents::incident_count;
@@ -19,7 +18,6 @@ use crate::find_reader::find_reader;
 use crate::find_recipients::find_recipients;
 use crate::find_sharing::find_sharing;
 use crate::find_ties::find_ties;
-use crate::kept_reader::{communities_kept, copy_of, kept_copy, kept_of};
 use circle::command::{CircleCommand, CircleFacts};
 use circle::directory::Person;
 use circle::text::Text;
@@ -28,37 +26,12 @@ use iodef_tree::Document;
 use policy::{Gates, Permissions};
 use sqlite::Alter;
 
-impl<S: Alter> SqlShelf<S> {
-    ghost use Rattle.std.specs.Prelude.{◌≡◌};
-    ghost use Rattle.sqlite.specs.Held.{state};
-    ghost use Rattle.sqlite_trees.specs.View.{doubt};
-    ghost use Rattle.hub_state.specs.Reads as spec;
-    ghost use Rattle.hub_state.specs.Shelves.{Reads};
-    ghost use Rattle.hub_store.specs.Content.{MayLeave};
-    ghost use Rattle.hub_store.specs.Shelved.{ShelfHas};
-
-    /// Reads the reader's own part of a standing, and keeps it in place of the one that is kept.
-    fn read_reader(&mut self, person: u32) -> Result<Option<Reader>, ShelfFault>
-        requires { self.old.failures < last_count }
-        ensures { Reads (λ shelf s. ShelfHas S.Store shelf s)
-            (λ shelf. doubt (state S.Store shelf.conn).is_clean) (λ shelf. shelf.failures)
-            (λ shelf left. MayLeave (state S.Store shelf.conn) left) self.old self.new (λ s found.
-            found ≡ spec.reader_of person s) result }
-    {
-        let found = find_reader(&mut self.conn, self.alloc, person);
-        let found = count_failure(&mut self.failures, found)?;
-        self.kept = kept_copy(self.alloc, &found)?;
-        Ok(found)
-    }
-}
-
 impl<S: Alter> LookUps for SqlShelf<S> {
     ghost use Rattle.sqlite_trees.specs.View.{doubt};
     ghost use Rattle.sqlite.specs.Held.{state};
-    ghost use Rattle.hub_store.specs.Content.{MayLeave};
-    ghost use Rattle.hub_store.specs.Shelved.{ShelfHas};
+    ghost use Rattle.hub_store.specs.Content.{Has, MayLeave};
 
-    ghost has = { λ shelf s. ShelfHas S.Store shelf s };
+    ghost has = { λ shelf s. Has (state S.Store shelf.conn) s };
 
     ghost doubts = { λ shelf. doubt (state S.Store shelf.conn).is_clean };
 
@@ -66,7 +39,7 @@ impl<S: Alter> LookUps for SqlShelf<S> {
 
     ghost may_remain = { λ shelf left. MayLeave (state S.Store shelf.conn) left };
 
-    ghost sound = { λ shelf s has. has.0.sound };
+    ghost sound = { λ shelf s has. has.sound };
 
     fn has_ended(&self) -> bool {
         self.failures == u64::MAX
@@ -120,16 +93,13 @@ impl<S: Alter> LookUps for SqlShelf<S> {
 
     fn reader_of(&mut self, person: u32) -> Result<Option<Reader>, ShelfFault> {
         self.may_ask()?;
-        match kept_of(&self.kept, person) {
-            Some(reader) => Ok(Some(copy_of(self.alloc, reader)?)),
-            None => self.read_reader(person),
-        }
+        let found = find_reader(&mut self.conn, self.alloc, person);
+        count_failure(&mut self.failures, found)
     }
 
     fn ties_of(&mut self, org: u32, source: u32, named: Option<u32>) -> Result<Ties, ShelfFault> {
         self.may_ask()?;
-        let own = communities_kept(&self.kept, org);
-        let found = find_ties(&mut self.conn, self.alloc, own, org, source, named);
+        let found = find_ties(&mut self.conn, self.alloc, org, source, named);
         count_failure(&mut self.failures, found)
     }
 

@@ -1,6 +1,6 @@
 //! Bringing tables of an older version to the newest.
 
-ghost use Rattle.std.specs.Prelude.{◌≡◌, false, None, IfOk, IfErr, IsTrue};
+ghost use Rattle.std.specs.Prelude.{◌≡◌, false, IfOk, IfErr, IsTrue};
 
 use super::{OpenFault, SqlShelf, open_fault};
 use crate::failures::fault_of;
@@ -24,7 +24,6 @@ impl<S: Alter> SqlShelf<S> {
         requires waits { conn.in_transaction ≡ false }
         ensures brought { IfOk result (λ shelf.
             IsBrought found (state S.Store conn) (state S.Store shelf.conn) shelf.failures) }
-        ensures unkept { IfOk result (λ shelf. shelf.kept ≡ None) }
         ensures refused { IfErr result (λ e.
             IsNotBrought found (state S.Store conn) (state S.Store e.1) e.0) }
         ensures idle { IfErr result (λ e. e.1.in_transaction ≡ false) }
@@ -45,7 +44,6 @@ impl<S: Alter> SqlShelf<S> {
         requires { conn.in_transaction ≡ false }
         ensures opened { IfOk result (λ shelf.
             IsMigrated (state S.Store conn) (state S.Store shelf.conn) shelf.failures) }
-        ensures unkept { IfOk result (λ shelf. shelf.kept ≡ None) }
         ensures refused { IfErr result (λ e.
             IsUnmigrated (state S.Store conn) (state S.Store e.1) e.0) }
         ensures idle { IfErr result (λ e. e.1.in_transaction ≡ false) }

@@ -9,12 +9,14 @@ use crate::find_case::find_case;
 use crate::find_document::find_document;
 use crate::find_excerpt::find_excerpt;
 use crate::find_groups::find_groups;
+use crate::find_joined_communities::find_joined_communities;
 use crate::find_met::find_met;
 use crate::find_person::find_person;
 use crate::list_entries::list_entries;
 use circle::directory::Person;
 use hub_state::{
-    Edit, Entry, Facts, JoinedGroup, Request, Shelf, ShelfFault, facts_by, standing_by,
+    Edit, Entry, Facts, IncidentSharing, JoinedCommunity, JoinedGroup, Request, Shelf, ShelfFault,
+    facts_by, incident_sharing_by, standing_by,
 };
 use iodef_tree::Document;
 use policy::{Case, Standing};
@@ -24,10 +26,9 @@ use sqlite::Alter;
 impl<S: Alter> Shelf for SqlShelf<S> {
     ghost use Rattle.sqlite_trees.specs.View.{doubt};
     ghost use Rattle.sqlite.specs.Held.{state};
-    ghost use Rattle.hub_store.specs.Content.{MayLeave};
-    ghost use Rattle.hub_store.specs.Shelved.{ShelfHas};
+    ghost use Rattle.hub_store.specs.Content.{Has, MayLeave};
 
-    ghost has = { λ shelf s. ShelfHas S.Store shelf s };
+    ghost has = { λ shelf s. Has (state S.Store shelf.conn) s };
 
     ghost doubts = { λ shelf. doubt (state S.Store shelf.conn).is_clean };
 
@@ -58,6 +59,10 @@ impl<S: Alter> Shelf for SqlShelf<S> {
         self.may_ask()?;
         let found = find_case(&mut self.conn, self.alloc, incident);
         count_failure(&mut self.failures, found)
+    }
+
+    fn incident_sharing(&mut self, incident: u32) -> Result<Option<IncidentSharing>, ShelfFault> {
+        incident_sharing_by(self, incident)
     }
 
     fn document(&mut self, incident: u32) -> Result<Option<Document>, ShelfFault> {
@@ -101,6 +106,12 @@ impl<S: Alter> Shelf for SqlShelf<S> {
         count_failure(&mut self.failures, found)
     }
 
+    fn joined_communities(&mut self, person: &Person) -> Result<Vec<JoinedCommunity>, ShelfFault> {
+        self.may_ask()?;
+        let found = find_joined_communities(&mut self.conn, self.alloc, person);
+        count_failure(&mut self.failures, found)
+    }
+
     fn facts(&mut self, actor: &Person, request: &Request) -> Result<Facts, ShelfFault> {
         let alloc = self.alloc;
         facts_by(self, alloc, actor, request)
@@ -108,8 +119,6 @@ impl<S: Alter> Shelf for SqlShelf<S> {
 
     fn apply(&mut self, edits: &[Edit]) -> Result<(), ShelfFault> {
         self.may_ask()?;
-        // before the edits: whatever their outcome, nothing is kept that may have changed
-        self.kept = None;
         let made = apply(&mut self.conn, self.alloc, edits);
         count_failure(&mut self.failures, made)
     }

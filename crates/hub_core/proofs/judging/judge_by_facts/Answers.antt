@@ -41,3 +41,8 @@ returns-in-Explain-clause-refused c = refused_by c.args.actor.now c.args.request
 
 pub returns-in-Search-clause-refused : goal.returns-in-Search-clause-refused
 returns-in-Search-clause-refused c = refused_by c.args.actor.now c.args.request.now (ask.Search c.in-Search.asked) c.args.facts.now c.search.result c.stop_as_refusal-in-Search.result (record { name = c.in-Search.is; plain = refl }) c.search.ensures.asked c.stop_as_refusal-in-Search.ensures.refused
+
+pub returns-in-Sharing-clause-refused : goal.returns-in-Sharing-clause-refused
+returns-in-Sharing-clause-refused c =
+    refused_by c.args.actor.now c.args.request.now (ask.Sharing c.in-Sharing.incident) c.args.facts.now c.sharing.result c.stop_as_refusal-in-Sharing.result
+    (record { name = c.in-Sharing.is; plain = refl }) c.sharing.ensures.asked c.stop_as_refusal-in-Sharing.ensures.refused

@@ -50,3 +50,6 @@ returns-in-TakeArrangement-clause-made g c s = rw c.in-TakeArrangement.is (c.tak
 
 pub returns-in-SetNominated-clause-made : goal.returns-in-SetNominated-clause-made
 returns-in-SetNominated-clause-made g c s = rw c.in-SetNominated.is (c.nominate.ensures.made s)
+
+pub returns-in-SetKey-clause-made : goal.returns-in-SetKey-clause-made
+returns-in-SetKey-clause-made g c s = rw c.in-SetKey.is (c.set_key.ensures.made s)

@@ -3,7 +3,7 @@ use Rattle.std.specs.List.{filter_map}
 use Rattle.hub_store.specs.inner.ShownPairs.{group_if_any, groups_in}
 use Rattle.hub_store.proofs.GroupSets.{groups_are}
 use Rattle.hub_store.proofs.Reading.{read_then, read_gives}
-use Rattle.hub_store.proofs.Stepping.{more_groups, all_groups}
+use Rattle.hub_store.proofs.Stepping.{more_groups, all_found}
 use Rattle.hub_store.proofs.find_groups.read_groups.Goals as goal
 
 pub loop-member-init : goal.loop-member-init
@@ -24,4 +24,4 @@ loop-member-preserved g c = record {
 pub returns-clause-read : goal.returns-clause-read
 returns-clause-read g c =
     read_gives _ _ _ _ tt c.loop-member.groups c.loop-member.invariant.read
-    (λ s sound so_far. all_groups s.directory c.loop-member.groups.items c.deref-member-items.result.now c.loop-member.member-index (groups_in c.args.org s.directory) c.loop-member-test.false so_far)
+    (λ s sound so_far. all_found (group_if_any s.directory) c.loop-member.groups.items c.deref-member-items.result.now c.loop-member.member-index (groups_in c.args.org s.directory) c.loop-member-test.false so_far)

@@ -11,6 +11,7 @@ returns-in-Ok-apply-clause-made g c = λ clean s has sound. (
   record {
     same = c.make.ensures ∙ (ap (λ (r : Ready). r.after) c.in-Ok.ensures.ready
         ∙ (ap (with_edits (map bare_edit c.args.edits.now)) (c.replace-rows.ensures.value ∙ has.1.same) ∙ edits_bare c.args.edits.now s));
+    person = tt;
     drawn = c.follow_all.ensures s has.1.drawn;
     sound = sound;
   },

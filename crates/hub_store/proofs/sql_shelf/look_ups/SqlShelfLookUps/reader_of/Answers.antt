@@ -1,10 +1,7 @@
-use Rattle.std.proofs.Common.{rules, sym, subst}
-use Rattle.hub_store.specs.Shelved.{IsRightOf}
-use Rattle.hub_store.proofs.KeptReader.{answer_kept}
+use Rattle.hub_store.proofs.Telling.{reads}
 use Rattle.hub_store.proofs.sql_shelf.look_ups.SqlShelfLookUps.reader_of.Goals as goal
 
-pub returns-in_ok-copy_of-in-Some : goal.returns-in_ok-copy_of-in-Some
-returns-in_ok-copy_of-in-Some g c = record {
-  value = λ clean s has. answer_kept c.args.person s c.self.inside.kept c.in-Some.reader.now c.in_ok-copy_of-in-Some.field-0 c.in-Some.ensures.0 c.in-Some.ensures.1 c.in_ok-copy_of-in-Some.ensures (subst (λ h. IsRightOf h.kept s) (sym c.self.view_is) has.1);
-  kept = search rules;
-}
+pub returns : goal.returns
+returns g c =
+    reads g.S.Store c.self.inside.conn c.self.inside.failures _ _ _ _ _ c.self.view_is
+    c.find_reader-found.ensures.answers c.count_failure.ensures.cause c.count_failure.ensures.value

@@ -1,0 +1,7 @@
+use Rattle.hub_store.proofs.Telling.{reads}
+use Rattle.hub_store.proofs.sql_shelf.shelf.SqlShelfShelf.joined_communities.Goals as goal
+
+pub returns : goal.returns
+returns g c =
+    reads g.S.Store c.self.inside.conn c.self.inside.failures _ _ _ _ _ c.self.view_is
+    c.find_joined_communities-found.ensures.answers c.count_failure.ensures.cause c.count_failure.ensures.value

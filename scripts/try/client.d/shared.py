@@ -1,0 +1,129 @@
+"""How a report of one's own is shared, by the commands: posted, granted to three, looked at when one has ended, taken back; and a new key."""
+from __future__ import annotations
+
+import json
+import pathlib
+import time
+from collections.abc import Callable
+from typing import Any
+
+Check = Callable[..., None]
+FIRST, SECOND = "/Incident/0/EventData/0", "/Incident/0/EventData/1"
+REPORT = json.dumps({"version": "2.0", "Incident": [{
+    "purpose": "reporting", "IncidentID": {"id": "shared", "name": "x"}, "GenerationTime": "2026-01-01T00:00:00Z", "Contact": [{"role": "creator"}],
+    "restriction": "amber", "EventData": [
+        {"Description": ["the page"], "restriction": "green", "Method": [{"Description": ["by\tmail"]}, {"restriction": "red", "Description": ["by phone"]}]},
+        {"Description": ["the victims"], "restriction": "red"}],
+}]}).encode()
+INCIDENT = "Incident /Incident/0 (TLP:AMBER+STRICT): x shared"
+PAGE = f"EventData {FIRST} (TLP:GREEN): the page"
+PHONE = f"Method {FIRST}/Method/1 (TLP:RED): by phone"
+VICTIMS = f"EventData {SECOND} (TLP:RED): the victims"
+EVERYBODY = "gate\tlevel 3 (everybody in the hub, including organisations in no community)\tthe whole report"
+CLEARED = "its nominated persons are cleared for TLP:AMBER+STRICT, those of its clients for TLP:AMBER"
+GREEN = "green\tis for any of your communities"
+
+
+def text_of(*lines: str) -> str:
+    return "".join(f"{line}\n" for line in lines)
+
+
+def by_sharing(check: Check, asker: Callable[..., Any], folder: pathlib.Path) -> None:
+    bank, telco = asker("bank-key"), asker("telco-key")
+    bank.environment["TZ"] = "UTC0"
+    number = bank("post", "-", "3", "--any-community", "--gate", f"4:1:{SECOND}", given=REPORT)[1].strip()
+    for words in ((SECOND, "org", "3"), (SECOND, "person", "4", "--until", "2035-07-01T18:00:00+02:00"), (FIRST, "community", "1", "--until", soon())):
+        check("command grant to three", bank("grant", number, *words)[0], 0)
+    for words in (("person", "4"), ("org", "3")):
+        check("command address for it", bank("address", number, *words)[0], 0)
+    told = [GREEN, EVERYBODY, f"gate\tlevel 4 (group 1 (phishing))\t{VICTIMS}",
+            f"label\tTLP:AMBER+STRICT, for addressed persons, and nominated persons of addressed organisations\t{INCIDENT}",
+            f"label\tTLP:GREEN, for the source's communities, or for the one that the incident names\t{PAGE}",
+            f"label\tTLP:RED, for addressed persons\t{PHONE}", f"label\tTLP:RED, for addressed persons\t{VICTIMS}",
+            "recipient\tperson 4: cleared for TLP:RED", f"recipient\torganisation 3: {CLEARED}",
+            f"permission\tperson 4, until 2035-07-01T16:00:00+00:00\t{VICTIMS}", f"permission\torganisation 3, for ever\t{VICTIMS}"]
+    end = text_of(f"incident {number}, revision 1; not known here: arrangements, members of groups, nominations")
+    time.sleep(3)
+    check("command sharing", (bank("sharing", number), bank.errors), ((0, text_of(*told)), f"permissions that have ended: 1; --ended lists them\n{end}"))
+    status, text = bank("sharing", number, "--ended")
+    last = text.splitlines()[-1].split("\t")
+    check("command sharing --ended", (status, text.startswith(text_of(*told)), last[0], last[1].startswith("community 1 (east), ended 20"), last[2], bank.errors),
+          (0, True, "ended", True, PAGE, end))
+    check("command sharing of one class", bank("sharing", number, SECOND), (0, text_of(*told[:3], *told[6:8], *told[9:])))
+    check("command sharing of a class inside", bank("sharing", number, f"{FIRST}/Method/0", "--ended"), (0, text_of(
+        GREEN, EVERYBODY, f"label\tTLP:GREEN, for the source's communities, or for the one that the incident names\tMethod {FIRST}/Method/0 (TLP:GREEN): by\\u0009mail",
+        *told[7:9], "\t".join(last))))
+    check("command sharing of one with a label of its own", bank("sharing", number, f"{FIRST}/Method/1", "--ended"), (0, text_of(GREEN, EVERYBODY, told[5], told[7])))
+    check("command sharing of no class", (bank("sharing", number, "/Incident/0/Method/0"), bank.errors),
+          ((2, ""), f"iodef-hub-ask: incident {number} has no class at /Incident/0/Method/0\n"))
+    raw = json.loads(asker("bank-key", "--json")("sharing", number)[1])
+    check("command sharing, the hub's own JSON", (raw["gates"], raw["recipients"], len(raw["permissions"])), ([["", 3, 0], [SECOND, 4, 1]], [["person", 4], ["org", 3]], 3))
+    check("command sharing of another's report", (telco("sharing", number), telco.errors), ((1, ""), "iodef-hub-ask: N1: no such incident for you\n"))
+    by_withdrawing(check, asker, number, "\t".join(last).split(", ended ")[1].split("\t")[0])
+    by_new_key(check, asker, folder)
+
+
+def soon() -> str:
+    """Two seconds from now."""
+    return time.strftime("%Y-%m-%dT%H:%M:%SZ", time.gmtime(time.time() + 2))
+
+
+def by_withdrawing(check: Check, asker: Callable[..., Any], number: str, ended: str) -> None:
+    bank = asker("bank-key")
+    bank.environment["TZ"] = "UTC0"
+    check("command withdraw-ended", (bank("withdraw-ended", number), bank.errors), (
+        (0, f"community 1 has no permission any more at {FIRST} of incident {number}: it ended {ended}\n"), ""))
+    check("and again", (bank("withdraw-ended", number), bank.errors), ((0, ""), f"no permission of incident {number} has ended\n"))
+    left = json.loads(asker("bank-key", "--json")("sharing", number)[1])["permissions"]
+    check("the others are there", sorted(row[1:4] for row in left), [["org", 3, None], ["person", 4, 2066918400]])
+
+
+def by_new_key(check: Check, asker: Callable[..., Any], folder: pathlib.Path) -> None:
+    file = folder / "new.key"
+    eve = asker((folder / "eve.key").read_text().strip())
+    check("command new-key", eve("new-key", "--key-file", str(file)), (0, f"your key is the one in {file}; the old one is nobody's\n"))
+    key = file.read_text().strip()
+    check("the key's file is its owner's alone, and its key new", (oct(file.stat().st_mode & 0o777), len(key) >= 43), ("0o600", True))
+    check("the hub knows the new key, and the old one is nobody's", (json.loads(asker(key)("me")[1])["number"], eve("me")[0]), (6, 1))
+    check("command new-key, into a file that is there", (asker(key)("new-key", "--key-file", str(file))[0], file.read_text().strip()), (2, key))
+    other = folder / "other.key"
+    check("command new-key by a key that is nobody's", (eve("new-key", "--key-file", str(other))[0], other.exists()), (1, False))
+    other.write_text("one's own key\n")
+    check("command new-key --made of no key", (asker(key)("new-key", "--key-file", str(other), "--made")[0], asker(key)("me")[0]), (2, 0))
+    other.write_text("ones-own-key\n")
+    ran = asker(key)("new-key", "--key-file", str(other), "--made")
+    check("command new-key --made", (ran[0], asker(key)("me")[0], asker("ones-own-key")("me")[0]), (0, 1, 0))
+    check("and again, as it was taken", asker(key)("new-key", "--key-file", str(other), "--made"), ran)
+    (folder / "eve.key").write_text("ones-own-key\n")
+
+
+def by_lost_key(check: Check, asker: Any, between: Any, folder: pathlib.Path, busy: str, away: str) -> None:
+    """An exchange whose answer is lost: the new key itself says whether it was taken."""
+    key, file = (folder / "eve.key").read_text().strip(), folder / "lost.key"
+    ask = asker(between.port, key)
+    between.take(away)
+    check("command new-key that isn't taken for sure", (ask("new-key", "--key-file", str(file))[0], "K1 means that it was done" not in ask.errors, file.exists()), (4, False, True))
+    check("  the old key is served", ask("me")[0], 0)
+    between.take("drop")
+    check("command new-key whose answer is lost", ask("new-key", "--key-file", str(folder / "taken.key"))[0], 0)
+    taken = (folder / "taken.key").read_text().strip()
+    check("  the new key is served alone", (asker(between.port, taken)("me")[0], ask("me")[0]), (0, 1))
+    between.take(busy)
+    ask = asker(between.port, taken)
+    check("command new-key that is sent again", (ask("new-key", "--key-file", str(folder / "again.key"))[0], between.asked), (0, ["POST /me/key", "POST /me/key", "GET /me"]))
+
+
+def by_meanwhile(check: Check, asker: Any, between: Any, answer: Callable[..., str]) -> None:
+    """A colleague gives one of two ended permissions a later end, between the first look and the second."""
+    bank = asker(between.port, "bank-key", TZ="UTC0")
+    number = bank("post", "-", "3", "--any-community", given=REPORT.replace(b'"shared"', b'"meanwhile"'))[1].strip()
+    for path in (FIRST, SECOND):
+        bank("grant", number, path, "org", "3", "--until", "2024-06-01T00:00:00Z")
+    before = asker(between.port, "bank-key", "--json")("sharing", number)[1].strip()
+    bank("grant", number, FIRST, "org", "3", "--until", "2035-01-01T00:00:00Z")
+    between.take(answer("200 OK", before))
+    check("command withdraw-ended of what a colleague has changed", (bank("withdraw-ended", number), bank.errors), (
+        (0, f"organisation 3 has no permission any more at {SECOND} of incident {number}: it ended 2024-06-01T00:00:00+00:00\n"),
+        f"organisation 3 keeps what it has at {FIRST}: it was changed meanwhile\n"))
+    look = f"GET /incidents/{number}/sharing"
+    check("  it looks again before each", between.asked, [look, look, look, f"POST /incidents/{number}/withdraw"])
