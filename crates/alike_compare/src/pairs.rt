@@ -31,11 +31,17 @@ pub struct Asker<'a> {
     pub questions: &'a [Question],
 }
 
-/// Returns an active person.
+/// Returns an active person, once in eight times of an organisation that is an incident's source. If there is none,
+/// returns the number of nobody.
 fn any_reader(alloc: Global, dice: &mut Dice, world: &World) -> Result<u32, AllocError> {
+    let is_of_source = dice.once_in(8);
     let mut active = Vec::new(alloc);
     for (place, member) in world.circle.persons.iter().enumerate() {
-        if member.active {
+        let is_source = world
+            .reports
+            .iter()
+            .any(|report| report.source == member.org);
+        if member.active && (is_source || !is_of_source) {
             active.push(number_at(place))?;
         }
     }
