@@ -8,12 +8,14 @@
 //! - `cli`: [`cli_start`] and [`cli_run`], from the words to the program's outcome ([`Status`]); `words`: what words
 //!   ask for;
 //! - `commands`: each command, in a module of its own;
-//! - `store`: a store in a file; `opening`: all its rows in memory; `asking`: one request to the hub over it.
+//! - `store`: a store in a file; `new_file`: the file that `init` makes; `opening`: all its rows in memory;
+//!   `asking`: one request to the hub over it.
 #![tactic(auto)]
 
 mod asking;
 mod cli;
 mod commands;
+mod new_file;
 mod opening;
 mod store;
 mod words;

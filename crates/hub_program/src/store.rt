@@ -11,9 +11,8 @@ use kept_rows::KeptRows;
 use sqlite::{Alter, Connection, Error, ErrorCode, File, FileStore};
 use std::alloc::Global;
 use std::fs;
-use std::fs::OpenOptions;
 use std::io::{ErrorKind, Write};
-use std::os::unix::fs::OpenOptionsExt;
+use std::os::unix::fs::MetadataExt;
 
 /// The hub's tables in a file.
 pub type FileShelf = SqlShelf<FileStore<File>>;
@@ -33,8 +32,8 @@ pub fn open_fault(fault: OpenFault) -> Fault
     }
 }
 
-/// Why the system doesn't open the file.
-fn system_fault(kind: ErrorKind) -> Fault {
+/// Returns why the system doesn't open the file.
+pub fn system_fault(kind: ErrorKind) -> Fault {
     match kind {
         ErrorKind::NotFound => Fault::FileFailed(Reason::NoSuchFile),
         ErrorKind::PermissionDenied => Fault::FileFailed(Reason::NoPermission),
@@ -59,36 +58,14 @@ fn connection_fault(error: Error) -> Fault {
 pub fn connect(rt: &HostRuntime, path: &str) -> Result<Connection<FileStore<File>>, Fault>
     ensures { IfOk result (λ conn. conn.in_transaction ≡ false) }
 {
-    // `Connection::open` would make a missing file.
-    if let Err(error) = fs::metadata(rt, path) {
-        return Err(system_fault(error.kind()));
+    // `Connection::open` would make a missing file, and doesn't say which file it refuses for its names.
+    match fs::metadata(rt, path) {
+        Err(error) => Err(system_fault(error.kind())),
+        Ok(found) if found.is_file() && found.nlink() > 1 => {
+            Err(Fault::FileFailed(Reason::SecondName))
+        }
+        Ok(_) => Connection::open(rt, path).map_err(connection_fault),
     }
-    Connection::open(rt, path).map_err(connection_fault)
-}
-
-/// Makes the file, for its owner only, if there is none of that name. The connection refuses the names that it doesn't
-/// take for files, so none is made for them.
-fn make_file(rt: &HostRuntime, path: &str) -> Result<(), Fault> {
-    if path == ":memory:" || path.starts_with("file:") {
-        return Ok(());
-    }
-    match OpenOptions::new()
-        .write(true)
-        .create_new(true)
-        .mode(0o600)
-        .open(rt, path)
-    {
-        Err(error) if error.kind() != ErrorKind::AlreadyExists => Err(system_fault(error.kind())),
-        _ => Ok(()),
-    }
-}
-
-/// Returns a connection over the file, which is made if it is missing.
-pub fn connect_or_make(rt: &HostRuntime, path: &str) -> Result<Connection<FileStore<File>>, Fault>
-    ensures { IfOk result (λ conn. conn.in_transaction ≡ false) }
-{
-    make_file(rt, path)?;
-    connect(rt, path)
 }
 
 /// Returns the shelf over a connection whose tables are of the newest version.

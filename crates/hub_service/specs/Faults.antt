@@ -7,7 +7,7 @@ use Rattle.hub_state.specs.declared.shelf.ShelfFault.TheVariants as shelf
 use Rattle.hub_service.specs.declared.fault.Fault.{Fault}
 use Rattle.hub_service.specs.declared.fault.Fault.TheVariants.{BadArgument, NotOurs, WrongVersion, Failed, FileFailed, ListenFailed, ReadFailed, WriteFailed, NoMemory}
 use Rattle.hub_service.specs.declared.fault.Reason.{Reason}
-use Rattle.hub_service.specs.declared.fault.Reason.TheVariants.{NoSuchFile, NoPermission, Locked, DiskFull}
+use Rattle.hub_service.specs.declared.fault.Reason.TheVariants.{NoSuchFile, NoPermission, SecondName, Locked, DiskFull}
 use Rattle.hub_service.specs.declared.status.Status.{Status}
 use Rattle.hub_service.specs.declared.status.Status.TheVariants as status
 
@@ -32,6 +32,7 @@ reason_of _ = None
 abbrev pub reason_text : Reason → Bytes
 reason_text NoSuchFile = codes "no such file"
 reason_text NoPermission = codes "no permission"
+reason_text SecondName = codes "a second hard link"
 reason_text Locked = codes "locked by another program"
 reason_text DiskFull = codes "disk full"
 

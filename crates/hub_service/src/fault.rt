@@ -12,6 +12,8 @@ use std::alloc::{AllocError, AllocFailed};
 pub enum Reason {
     NoSuchFile,
     NoPermission,
+    /// It has a second name (a hard link), and each would have a log of its own.
+    SecondName,
     /// Another program has it open.
     Locked,
     DiskFull,
@@ -25,6 +27,7 @@ impl Reason {
         match self {
             Reason::NoSuchFile => "no such file",
             Reason::NoPermission => "no permission",
+            Reason::SecondName => "a second hard link",
             Reason::Locked => "locked by another program",
             Reason::DiskFull => "disk full",
         }

@@ -25,7 +25,8 @@
 //! is printed. `lost` starts the same, and empties the log of the store then.
 //!
 //! Files and clocks: `sql|STATEMENTS` runs over the file of the store, which is made if it isn't there; `left|STATEMENTS`
-//! leaves what it changes in the log. `file|BYTES` puts these bytes there. `modes|WORD` prints the mode of the file of this name, and of its log. `clock|CLOCK` prints
+//! leaves what it changes in the log. `file|BYTES` puts these bytes there, and `link` gives the file a second name, or
+//! takes it away. `modes|WORD` prints the mode of the file of this name, and of its log. `clock|CLOCK` prints
 //! the present moment, and `ask|CLOCK|INPUT` the reply of the hub in memory to the caller in the input. `ask starved`
 //! has no memory for reading.
 #![tactic(auto)]
@@ -57,6 +58,7 @@ fn answer(rt: &HostRuntime, place: &Place, line: &str) -> io::Result<String> {
         "sql" => statements::run(rt, place, rest),
         "left" => statements::leave(rt, place, rest),
         "file" => place.put(rt, rest),
+        "link" => place.link(rt),
         "modes" => place.modes(rt, rest),
         "clock" => memory::moment(rt, rest),
         "memory" => memory::serve(rt, rest),

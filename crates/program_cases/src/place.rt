@@ -4,11 +4,12 @@ use crate::texts::field_of;
 use std::os::unix::fs::PermissionsExt;
 use std::{env, fs, io, process};
 
-/// The store's file, whose name no other program has, and its log.
+/// The store's file, whose name no other program has, its log, and a second name for the file.
 #[derive(Drop)]
 pub struct Place {
     path: String,
     log: String,
+    second: String,
 }
 
 impl Place {
@@ -20,7 +21,8 @@ impl Place {
         let path = env::temp_dir(rt)?.join(alloc, name.as_str())?;
         let path = String::from_str(alloc, path.to_string_lossy())?;
         let log = format!(in alloc; "{path}-wal")?;
-        let place = Place { path, log };
+        let second = format!(in alloc; "{path}-second")?;
+        let place = Place { path, log, second };
         place.clear(rt);
         Ok(place)
     }
@@ -37,6 +39,15 @@ impl Place {
     pub fn clear(&self, rt: &HostRuntime) {
         let _ = fs::remove_file(rt, self.path.as_str());
         let _ = fs::remove_file(rt, self.log.as_str());
+        let _ = fs::remove_file(rt, self.second.as_str());
+    }
+
+    /// Gives the store's file its second name, or takes it away if it is there. Returns the line that says so.
+    pub fn link(&self, rt: &HostRuntime) -> io::Result<String> {
+        if fs::remove_file(rt, self.second.as_str()).is_err() {
+            fs::hard_link(rt, self.path.as_str(), self.second.as_str())?;
+        }
+        Ok(String::from_str(rt.alloc(), "done\n")?)
     }
 
     /// Puts these bytes into the store's file. Returns the line that says so.

@@ -1,7 +1,8 @@
 //! `init`: a store with one organisation and its administrator.
 ghost use Rattle.std.specs.Prelude.{◌≡◌, false};
 
-use crate::store::{close, connect_or_make};
+use crate::new_file::NewFile;
+use crate::store::{FileShelf, close, connect};
 use circle::name::Name;
 use hub_core::ShelfFault;
 use hub_service::{Fault, Status, digest_of, print, put_first_rows, shelf_fault};
@@ -28,8 +29,17 @@ fn make_over<S: Alter + Drop>(
     }
 }
 
+/// Makes the tables and their first rows in the file, which must be there.
+fn make_in(rt: &HostRuntime, store: &str, name: Name, key: [u8; 32]) -> Result<FileShelf, Fault> {
+    match make_over(rt.alloc(), connect(rt, store)?, name, key) {
+        Ok(shelf) => Ok(shelf),
+        Err(fault) => Err(shelf_fault(fault)),
+    }
+}
+
 /// Makes the store in a file without tables. Fails with `BadArgument` if the name or the digest is invalid, and with
-/// `Failed` if there are tables already, or if the rows are in the log alone.
+/// `Failed` if there are tables already, or if the rows are in the log alone. A file that it made is removed if it
+/// gets no tables.
 pub fn run<W: Write>(
     rt: &HostRuntime,
     store: &str,
@@ -43,9 +53,10 @@ pub fn run<W: Write>(
     let Some(key) = digest_of(digest) else {
         return Err(Fault::BadArgument);
     };
-    match make_over(rt.alloc(), connect_or_make(rt, store)?, name, key) {
+    let new = NewFile::make(rt, store)?;
+    match make_in(rt, store, name, key) {
         Ok(shelf) => close(shelf)?,
-        Err(fault) => return Err(shelf_fault(fault)),
+        Err(fault) => return Err(new.remove(rt, fault)),
     }
     print(writer, "created\n")
 }
