@@ -1,22 +1,40 @@
-//! The file that `init` makes, and removes if it gets no tables.
+//! The file that `init` makes, and removes if it gets no store.
 
 use crate::store::system_fault;
-use hub_service::{Fault, Reason};
-use std::fs::OpenOptions;
-use std::io::{ErrorKind, Write};
-use std::os::unix::fs::OpenOptionsExt;
-use std::{fs, io};
+use hub_service::Fault;
+use std::fs;
+use std::fs::{Metadata, OpenOptions};
+use std::io::ErrorKind;
+use std::os::unix::fs::{MetadataExt, OpenOptionsExt};
 
-/// More bytes than a store with its first rows has.
-const BYTES_OF_A_STORE: usize = 131_072;
+/// The most bytes of a store's file that has no tables, and of its log.
+const BLANK: u64 = 4096;
+
+/// Which file it is, whatever its name.
+#[derive(Clone, Copy, PartialEq, Eq)]
+struct Identity {
+    device: u64,
+    inode: u64,
+}
+
+impl Identity {
+    fn of(found: &Metadata) -> Identity {
+        Identity {
+            device: found.dev(),
+            inode: found.ino(),
+        }
+    }
+}
 
 /// What this start of the program made for a store.
 #[derive(Drop)]
 pub struct NewFile {
-    /// The file's path, or none if the file was there.
-    file: Option<String>,
-    /// The path of its log, or none if the log was there.
-    log: Option<String>,
+    path: String,
+    log: String,
+    /// The file that it made, or none if a file was there.
+    made: Option<Identity>,
+    /// Whether a file of the log's name was there.
+    had_log: bool,
 }
 
 impl NewFile {
@@ -24,45 +42,45 @@ impl NewFile {
     /// doesn't take for files, so none is made for them.
     pub fn make(rt: &HostRuntime, path: &str) -> Result<NewFile, Fault> {
         let alloc = rt.alloc();
-        let file = String::from_str(alloc, path)?;
         let log = format!(in alloc; "{path}-wal")?;
-        let had_log = fs::metadata(rt, log.as_str()).is_ok();
+        let had_log = is_there(rt, log.as_str());
+        let path = String::from_str(alloc, path)?;
+        let made = make_file(rt, path.as_str())?;
         Ok(NewFile {
-            file: if make_file(rt, path)? {
-                Some(file)
-            } else {
-                None
-            },
-            log: if had_log { None } else { Some(log) },
+            path,
+            log,
+            made,
+            had_log,
         })
     }
 
-    /// Removes the file and its log if this start made them and nobody has put a store there. Returns why there is
-    /// none: for this fault, or because the disk is full.
-    pub fn remove(&self, rt: &HostRuntime, fault: Fault) -> Fault {
-        let Some(file) = &self.file else {
-            return fault;
+    /// Removes the file and its log if this start made them and no store was put there. What can't be removed stays.
+    pub fn remove(&self, rt: &HostRuntime) {
+        let Some(made) = self.made else {
+            return;
         };
-        if fault == Fault::FileFailed(Reason::Locked) || !is_empty(rt, file.as_str()) {
-            return fault;
+        if !is_blank(rt, self.path.as_str(), Some(made)) || !is_blank(rt, self.log.as_str(), None) {
+            return;
         }
-        let is_full = is_on_full_disk(rt, file.as_str());
-        // what can't be removed stays
-        let _ = fs::remove_file(rt, file.as_str());
-        if let Some(log) = &self.log {
-            let _ = fs::remove_file(rt, log.as_str());
-        }
-        match fault {
-            Fault::Failed if is_full => Fault::FileFailed(Reason::DiskFull),
-            _ => fault,
+        let _ = fs::remove_file(rt, self.path.as_str());
+        if !self.had_log {
+            let _ = fs::remove_file(rt, self.log.as_str());
         }
     }
 }
 
-/// Makes the file if there is none of that name. Returns whether it did.
-fn make_file(rt: &HostRuntime, path: &str) -> Result<bool, Fault> {
+/// Returns whether something has this name, or may have it.
+fn is_there(rt: &HostRuntime, path: &str) -> bool {
+    match fs::symlink_metadata(rt, path) {
+        Ok(_) => true,
+        Err(error) => error.kind() != ErrorKind::NotFound,
+    }
+}
+
+/// Makes the file if there is none of that name. Returns which one it made.
+fn make_file(rt: &HostRuntime, path: &str) -> Result<Option<Identity>, Fault> {
     if path == ":memory:" || path.starts_with("file:") {
-        return Ok(false);
+        return Ok(None);
     }
     match OpenOptions::new()
         .write(true)
@@ -70,31 +88,23 @@ fn make_file(rt: &HostRuntime, path: &str) -> Result<bool, Fault> {
         .mode(0o600)
         .open(rt, path)
     {
-        Ok(_) => Ok(true),
-        Err(error) if error.kind() == ErrorKind::AlreadyExists => Ok(false),
+        Ok(file) => match file.metadata() {
+            Ok(found) => Ok(Some(Identity::of(&found))),
+            Err(_) => Ok(None),
+        },
+        Err(error) if error.kind() == ErrorKind::AlreadyExists => Ok(None),
         Err(error) => Err(system_fault(error.kind())),
     }
 }
 
-/// Whether the file has no bytes.
-fn is_empty(rt: &HostRuntime, path: &str) -> bool {
-    match fs::metadata(rt, path) {
-        Ok(found) => found.len() == 0,
-        Err(_) => false,
-    }
-}
-
-/// Writes as many bytes into the file as a store has. Fails as the disk does.
-fn fill(rt: &HostRuntime, path: &str) -> io::Result<()> {
-    let bytes = vec![in rt.alloc(); 0_u8; BYTES_OF_A_STORE]?;
-    let mut file = OpenOptions::new().write(true).open(rt, path)?;
-    file.write_all(&bytes)
-}
-
-/// Whether the disk is too full for a store in place of the file.
-fn is_on_full_disk(rt: &HostRuntime, path: &str) -> bool {
-    match fill(rt, path) {
-        Ok(()) => false,
-        Err(error) => error.kind() == ErrorKind::StorageFull,
+/// Returns whether the file has no more bytes than one without tables, and is this one if one is given. A file that
+/// isn't there has none.
+fn is_blank(rt: &HostRuntime, path: &str, made: Option<Identity>) -> bool {
+    match fs::symlink_metadata(rt, path) {
+        Ok(found) => {
+            let is_same = made.map_or(true, |made| made == Identity::of(&found));
+            is_same && found.len() <= BLANK
+        }
+        Err(error) => error.kind() == ErrorKind::NotFound,
     }
 }

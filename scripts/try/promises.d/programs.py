@@ -134,10 +134,11 @@ def closed(hub: str) -> Checks:
         script = 'mount -t tmpfs -o size=64k tmpfs "$1" && head -c 61440 /dev/zero >"$1/fill"; shift; exec "$@"'
         told = ended("unshare", "--mount", "sh", "-c", script, "sh", shut, hub, "init", shut / "new.db", "Hub", DIGEST)
         yield same("a full disk is told so", (3, "Failed: disk full"), told)
-        # here the file can be made, but the tables don't fit
-        script = 'mount -t tmpfs -o size=64k tmpfs "$1" && head -c 36864 /dev/zero >"$1/fill"; "$2" init "$1/new.db" Hub "$3" 2>&1; echo "status $?"; ls "$1"'
-        left = run("unshare", "--mount", "sh", "-c", script, "sh", shut, hub, DIGEST).stdout
-        yield same("also where the file could be made, which is removed", "Failed\ndisk full\nstatus 3\nfill\n", left)
+        for kilobytes in (8, 64, 200):
+            # the file can be made, but no tables
+            script = 'mount -t tmpfs -o size="$4k" tmpfs "$1"; "$2" init "$1/new.db" Hub "$3" 2>&1; echo "status $?"; ls "$1"'
+            left = run("unshare", "--mount", "sh", "-c", script, "sh", shut, hub, DIGEST, kilobytes).stdout
+            yield same(f"also with {kilobytes} KB left, and the file is removed", "Failed\ndisk full\nstatus 3\n", left)
         run(hub, "init", folder / "linked.db", "Hub", DIGEST, check=True)
         (folder / "other.db").hardlink_to(folder / "linked.db")
         yield same("a second hard link is told so", (3, "Failed: a second hard link"), ended(hub, "view", folder / "linked.db", "1", given=KEY))

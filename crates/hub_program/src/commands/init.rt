@@ -5,7 +5,7 @@ use crate::new_file::NewFile;
 use crate::store::{FileShelf, close, connect};
 use circle::name::Name;
 use hub_core::ShelfFault;
-use hub_service::{Fault, Status, digest_of, print, put_first_rows, shelf_fault};
+use hub_service::{Fault, Reason, Status, digest_of, print, put_first_rows, shelf_fault};
 use hub_store::SqlShelf;
 use sqlite::{Alter, Connection};
 use std::alloc::Global;
@@ -38,8 +38,8 @@ fn make_in(rt: &HostRuntime, store: &str, name: Name, key: [u8; 32]) -> Result<F
 }
 
 /// Makes the store in a file without tables. Fails with `BadArgument` if the name or the digest is invalid, and with
-/// `Failed` if there are tables already, or if the rows are in the log alone. A file that it made is removed if it
-/// gets no tables.
+/// `Failed` if there are tables already, or if the rows are in the log alone. Removes a file that it made if no table
+/// gets into it.
 pub fn run<W: Write>(
     rt: &HostRuntime,
     store: &str,
@@ -56,7 +56,13 @@ pub fn run<W: Write>(
     let new = NewFile::make(rt, store)?;
     match make_in(rt, store, name, key) {
         Ok(shelf) => close(shelf)?,
-        Err(fault) => return Err(new.remove(rt, fault)),
+        Err(fault) => {
+            // who has it open may be making a store
+            if fault != Fault::FileFailed(Reason::Locked) {
+                new.remove(rt);
+            }
+            return Err(fault);
+        }
     }
     print(writer, "created\n")
 }
