@@ -1,14 +1,17 @@
 -- The laws of the short form of a view, and of what can be read again.
 use Rattle.std.specs.Prelude.{◌≡◌, ◌≤◌, List, ◌∷◌, [], true, false, Ok, is_ok, None}
 use Rattle.std.specs.Str.{is_utf8}
+use Rattle.iodef_tree.specs.Paths.{LocatedLine}
 use Rattle.iodef_tree.specs.Reading.{reading}
 use Rattle.iodef_tree.specs.Sound.{IsSound}
 use Rattle.iodef_tree.specs.Text.{Bytes, Tokens}
 use Rattle.iodef_tree.specs.Tree.{Forest, lines}
 use Rattle.iodef_tree.specs.declared.line.Line.{Line}
+use Rattle.marking.specs.Label.{handling_of, is_at_most}
+use Rattle.marking.specs.Marks.{label_at}
 use Rattle.marking.specs.declared.label.Handling.{Handling}
 use Rattle.policy.specs.Clearance.{clearance_of}
-use Rattle.policy.specs.Verdict.{refusal_at}
+use Rattle.policy.specs.Verdict.{is_visible, refusal_at}
 use Rattle.policy.specs.declared.standing.Standing.{Standing}
 use Rattle.redact.specs.Told.{Told}
 use Rattle.redaction.specs.Answers.{told_of}
@@ -22,6 +25,13 @@ ShortFormClears = (h : Handling) → (clearance_of (cleared_reader h)).0 ≡ h
 -- No gate of the short form's case refuses anybody, at any path.
 abbrev pub OpenCaseRefusesNobody : Type 0
 OpenCaseRefusesNobody = (s : Standing) (p : Tokens) → refusal_at open_case s p ≡ None
+
+-- By the short form a class is visible exactly if its handling is at most the clearance. The handling is that of the
+-- label in force, and RED if the label is `default`, as nothing is arranged.
+abbrev pub ShortFormShowsUpToClearance : Type 0
+ShortFormShowsUpToClearance =
+    (h : Handling) (es : List LocatedLine) (p : Tokens) →
+    is_visible es open_case (cleared_reader h) p ≡ is_at_most (handling_of (label_at es p) None) h
 
 -- Reading the text of an outline's document gives that one document if the outline is readable, and else fails.
 pub record IsReadExactly (ls : List Line) : Type 0 where

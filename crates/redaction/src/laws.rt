@@ -3,7 +3,7 @@
 
 ghost use Rattle.std.specs.Prelude.{◌≡◌};
 ghost use Rattle.redaction.specs.declared.TheConstants.{GATE_LIMIT, NUMBER_LIMIT, PERMISSION_LIMIT};
-ghost use Rattle.redaction.specs.Laws.{ShortFormClears, OpenCaseRefusesNobody, ReadableExactly, ExcerptsReadExactly};
+ghost use Rattle.redaction.specs.Laws.{ShortFormClears, OpenCaseRefusesNobody, ShortFormShowsUpToClearance, ReadableExactly, ExcerptsReadExactly};
 
 /// The reader of the short form is cleared for the handling that is named, and for nothing stricter.
 pub fn short_form_clears()
@@ -13,6 +13,11 @@ pub fn short_form_clears()
 /// No gate of the short form's case refuses anybody.
 pub fn open_case_refuses_nobody()
     ensures { OpenCaseRefusesNobody }
+{}
+
+/// A class is visible by the short form exactly if its handling is at most the clearance.
+pub fn short_form_shows_up_to_clearance()
+    ensures { ShortFormShowsUpToClearance }
 {}
 
 /// The text of a document with at most one Incident can be read exactly if its outline is readable.
