@@ -7,8 +7,11 @@ use std::fs::{Metadata, OpenOptions};
 use std::io::ErrorKind;
 use std::os::unix::fs::{MetadataExt, OpenOptionsExt};
 
-/// The most bytes of a store's file that has no tables, and of its log.
-const BLANK: u64 = 4096;
+/// The most bytes of a store's file that has no tables.
+const MOST_OF_BLANK: u64 = 4096;
+
+/// More bytes than the head of a log has, and fewer than that head and the first page.
+const HEAD_OF_LOG: usize = 64;
 
 /// Which file it is, whatever its name.
 #[derive(Clone, Copy, PartialEq, Eq)]
@@ -59,7 +62,7 @@ impl NewFile {
         let Some(made) = self.made else {
             return;
         };
-        if !is_blank(rt, self.path.as_str(), Some(made)) || !is_blank(rt, self.log.as_str(), None) {
+        if !is_blank(rt, self.path.as_str(), made) || !is_blank_log(rt, self.log.as_str()) {
             return;
         }
         let _ = fs::remove_file(rt, self.path.as_str());
@@ -97,14 +100,19 @@ fn make_file(rt: &HostRuntime, path: &str) -> Result<Option<Identity>, Fault> {
     }
 }
 
-/// Returns whether the file has no more bytes than one without tables, and is this one if one is given. A file that
-/// isn't there has none.
-fn is_blank(rt: &HostRuntime, path: &str, made: Option<Identity>) -> bool {
+/// Returns whether this is the file, and it has no more bytes than one without tables.
+fn is_blank(rt: &HostRuntime, path: &str, made: Identity) -> bool {
     match fs::symlink_metadata(rt, path) {
-        Ok(found) => {
-            let is_same = made.map_or(true, |made| made == Identity::of(&found));
-            is_same && found.len() <= BLANK
-        }
+        Ok(found) => made == Identity::of(&found) && found.len() <= MOST_OF_BLANK,
+        Err(_) => false,
+    }
+}
+
+/// Returns whether no page is in the log: behind its head it has zeros alone, as room that is reserved. A log that isn't
+/// there has no page.
+fn is_blank_log(rt: &HostRuntime, path: &str) -> bool {
+    match fs::read(rt, path) {
+        Ok(bytes) => bytes.iter().skip(HEAD_OF_LOG).all(|byte| *byte == 0),
         Err(error) => error.kind() == ErrorKind::NotFound,
     }
 }
