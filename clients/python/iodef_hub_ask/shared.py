@@ -103,8 +103,8 @@ def sharing_lines(given: argparse.Namespace, view: View, own: Own, found: Sharin
     lines = [f"green\tis for {community}, and for those whom TLP:AMBER is for: {RULES['H-AMBER'].partition(', for ')[2]}"] * is_green
     lines += [f"gate\t{level_words(given, each.level, each.group)}{own.off_words(each.group)}\t{place_words(view, each.path)}" for each in found.gates]
     lines += [f"label\t{audience(each.label, community)}\t{class_line(each)}" for each in sites]
-    lines += [f"recipient\t{given.names(kind, number)}: {CLEARED[kind]}" for kind, number in found.recipients]
-    lines += [permission_line(given, view, own, each) for each in found.permissions if not each.ended]
+    lines += [f"recipient\t{given.names(kind, number)}: {CLEARED[kind]}" for kind, number in found.recipients] or ["recipient\tnobody"]
+    lines += [permission_line(given, view, own, each) for each in found.permissions if not each.ended] or ["permission\tnobody"]
     lines += community_lines(given, own, found, is_green)
     if given.ended:
         lines += [permission_line(given, view, own, each) for each in found.permissions if each.ended]

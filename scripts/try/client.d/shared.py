@@ -24,6 +24,7 @@ CLEARED = "its nominated persons are cleared for TLP:AMBER+STRICT, those of its 
 ANY = "any of your communities, and for those whom TLP:AMBER is for"
 AMBER = "addressed persons, and nominated persons of addressed organisations and of clients of these or of the source"
 GREEN = f"green\tis for {ANY}: {AMBER}"
+NOBODY = "permission\tnobody"
 MEMBERS = "community\tcommunity 1 (east): organisation 2, organisation 3"
 
 
@@ -56,8 +57,8 @@ def by_sharing(check: Check, asker: Callable[..., Any], folder: pathlib.Path) ->
     check("command sharing of one class", bank("sharing", number, SECOND), (0, text_of(*told[1:3], *told[6:8], *told[9:11])))
     check("command sharing of a class inside", bank("sharing", number, f"{FIRST}/Method/0", "--ended"), (0, text_of(
         GREEN, EVERYBODY, f"label\tTLP:GREEN, for {ANY}\tMethod {FIRST}/Method/0 (TLP:GREEN): by\\u0009mail",
-        *told[7:9], MEMBERS, "\t".join(last))))
-    check("command sharing of one with a label of its own", bank("sharing", number, f"{FIRST}/Method/1", "--ended"), (0, text_of(EVERYBODY, told[5], told[7])))
+        *told[7:9], NOBODY, MEMBERS, "\t".join(last))))
+    check("command sharing of one with a label of its own", bank("sharing", number, f"{FIRST}/Method/1", "--ended"), (0, text_of(EVERYBODY, told[5], told[7], NOBODY)))
     check("command sharing of no class", (bank("sharing", number, "/Incident/0/Method/0"), bank.errors),
           ((2, ""), f"iodef-hub-ask: incident {number} has no class at /Incident/0/Method/0\n"))
     raw = json.loads(asker("bank-key", "--json")("sharing", number)[1])
@@ -84,7 +85,7 @@ def by_circle(check: Check, asker: Callable[..., Any]) -> None:
         ["green", f"is for community 1 (east), and for those whom TLP:AMBER is for: {AMBER}"],
         ["gate", "level 2 (your communities, and those connected to them)"], ["gate", f"level 4 (group 1 (phishing)){off}"],
         ["label", f"{arranged}, for addressed persons, or as you arranged with the reader's organisation"],
-        ["permission", f"community {other}, for ever"], ["permission", f"group 1 (phishing){off}, for ever"],
+        ["recipient", "nobody"], ["permission", f"community {other}, for ever"], ["permission", f"group 1 (phishing){off}, for ever"],
         MEMBERS.split("\t"), ["community", f"community {other}: not one of yours, so its members are not known here"]])
     bank("group-active", "1", "on")
     check("  and when the group is on", "switched off" in bank("sharing", number, FIRST)[1], False)
