@@ -3,12 +3,25 @@ from __future__ import annotations
 
 import argparse
 import datetime
+from dataclasses import dataclass
 
-from iodef_hub import RULES, Hub, Labelled, Permission, Sharing, View, label_of, labelled_classes
+from iodef_hub import ARRANGED, RULES, Community, Group, Hub, Labelled, Permission, Refused, Sharing, View, label_of, labelled_classes
 
 from .characters import shown
 from .sharing import CLEARED, INCIDENT, at_path, class_line, level_words
 from .telling import Teller, Undone, Usage, note
+
+
+@dataclass(frozen=True)
+class Own:
+    """The groups and the communities of the caller's organisation."""
+
+    groups: tuple[Group, ...]
+    communities: tuple[Community, ...]
+
+    def off_words(self, group: int | None) -> str:
+        is_off = any(each.number == group and not each.active for each in self.groups)
+        return ", which is switched off and opens nothing" if is_off else ""
 
 
 def moment_words(seconds: int) -> str:
@@ -39,8 +52,12 @@ def covers(view: View, above: str, path: str) -> bool:
         if each.path != above and is_on_way(above, each.path) and is_on_way(each.path, path))
 
 
-def audience(label: str) -> str:
-    """Whom a label is for."""
+def audience(label: str, community: str) -> str:
+    """Whom a label is for, where TLP:GREEN is for a community, or for any."""
+    if label == "TLP:GREEN":
+        return f"{label}, for {community}, and for those whom TLP:AMBER is for"
+    if label == ARRANGED:
+        return f"{label}, for addressed persons, or as you arranged with the reader's organisation"
     rule = RULES.get("H-" + label.removeprefix("TLP:").replace("AMBER+STRICT", "STRICT"))
     return f"{label}, {rule.partition(', ')[2]}" if rule else f"{label}, for everybody" if label == "TLP:CLEAR" else label
 
@@ -60,40 +77,69 @@ def labelled(view: View, path: str | None) -> list[Labelled]:
             if (each.path == path if path is not None else each.path == INCIDENT or label_of(each.members))]
 
 
-def permission_line(given: argparse.Namespace, view: View, each: Permission) -> str:
-    return f"{'ended' if each.ended else 'permission'}\t{given.names(each.kind, each.target)}, {end_words(each)}\t{place_words(view, each.path)}"
+def permission_line(given: argparse.Namespace, view: View, own: Own, each: Permission) -> str:
+    whom = given.names(each.kind, each.target) + (own.off_words(each.target) if each.kind == "group" else "")
+    return f"{'ended' if each.ended else 'permission'}\t{whom}, {end_words(each)}\t{place_words(view, each.path)}"
 
 
-def sharing_lines(given: argparse.Namespace, view: View, found: Sharing) -> list[str]:
+def community_lines(given: argparse.Namespace, own: Own, found: Sharing, is_green: bool) -> list[str]:
+    """The communities that a gate, a label or a permission opens something to, with those members that the hub tells."""
+    is_each = any(each.level in (1, 2) for each in found.gates) or is_green and not found.community
+    meant = [each.number for each in own.communities] if is_each else []
+    meant += [found.community] if is_green and found.community else []
+    meant += [each.target for each in found.permissions if each.kind == "community" and not each.ended]
+    told = {each.number: ", ".join(given.names("org", org) for org in each.members)
+            + "".join(f"; connected to {given.names('community', other)}" for other in each.connected) for each in own.communities}
+    lines = [f"community\t{given.names('community', number)}: {told.get(number, 'not one of yours, so its members are not known here')}"
+             for number in dict.fromkeys(meant)]
+    return lines or ["community\tyour organisation is in none"] * is_each
+
+
+def sharing_lines(given: argparse.Namespace, view: View, own: Own, found: Sharing) -> list[str]:
     """What opens the report to whom, a line each: what, to whom, and at which class. Ended permissions come last, and only if asked for."""
     community = given.names("community", found.community) if found.community else "any of your communities"
-    lines = [f"green\tis for {community}"]
-    lines += [f"gate\t{level_words(given, each.level, each.group)}\t{place_words(view, each.path)}" for each in found.gates]
-    lines += [f"label\t{audience(each.label)}\t{class_line(each)}" for each in labelled(view, given.path)]
-    lines += [f"recipient\t{given.names(kind, number)}: {CLEARED[kind]}" for kind, number in found.recipients]
-    lines += [permission_line(given, view, each) for each in found.permissions if not each.ended]
+    sites = labelled(view, given.path)
+    is_green = given.path is None or any(each.label in ("TLP:GREEN", ARRANGED) for each in sites)
+    lines = [f"green\tis for {community}, and for those whom TLP:AMBER is for: {RULES['H-AMBER'].partition(', for ')[2]}"] * is_green
+    lines += [f"gate\t{level_words(given, each.level, each.group)}{own.off_words(each.group)}\t{place_words(view, each.path)}" for each in found.gates]
+    lines += [f"label\t{audience(each.label, community)}\t{class_line(each)}" for each in sites]
+    lines += [f"recipient\t{given.names(kind, number)}: {CLEARED[kind]}" for kind, number in found.recipients] or ["recipient\tnobody"]
+    lines += [permission_line(given, view, own, each) for each in found.permissions if not each.ended] or ["permission\tnobody"]
+    lines += community_lines(given, own, found, is_green)
     if given.ended:
-        lines += [permission_line(given, view, each) for each in found.permissions if each.ended]
+        lines += [permission_line(given, view, own, each) for each in found.permissions if each.ended]
     return lines
+
+
+def sharing_of(hub: Hub, given: argparse.Namespace, view: View) -> Sharing:
+    """How a report is shared that the caller sees. Of another organisation's the hub says no more than of one that is missing."""
+    try:
+        return hub.sharing(given.number)
+    except Refused as fault:
+        if fault.code == "N1":
+            note(f"incident {given.called} is of {given.names('org', view.source)}, and the hub tells only its source how a report is shared")
+        raise
 
 
 def do_sharing(hub: Hub, given: argparse.Namespace, teller: Teller) -> None:
     view = hub.view(given.number)
-    given.names.learn("group", {str(each.number): each.name for each in hub.groups()})
-    given.names.learn("community", {str(each.number): each.name for each in hub.communities()})
-    found = hub.sharing(given.number)
+    own = Own(hub.groups(), hub.communities())
+    given.names.learn("group", {str(each.number): each.name for each in own.groups})
+    given.names.learn("community", {str(each.number): each.name for each in own.communities})
+    found = sharing_of(hub, given, view)
     if found.revision != view.revision:
         raise Undone(f"incident {given.called} has become revision {found.revision} meanwhile: run this again")
     if given.path is not None:
         if at_path(view, given.path) is None:
             raise Usage(f"incident {given.called} has no class at {shown(given.path)}")
         found = narrowed(view, found, given.path)
-    teller.tell(*sharing_lines(given, view, found))
+    teller.tell(*sharing_lines(given, view, own, found))
     if not given.json:
         ended = sum(each.ended for each in found.permissions)
         if ended and not given.ended:
             note(f"permissions that have ended: {ended}; --ended lists them")
-        note(f"incident {given.called}, revision {found.revision}; not known here: arrangements, members of groups, nominations")
+        note(f"incident {given.called}, revision {found.revision}; each gate on the way to a class must let a reader pass, then its label opens it,"
+             " or a permission; not known here: arrangements, nominations, clients, and who is in a group or in a community that isn't yours")
 
 
 def do_withdraw_ended(hub: Hub, given: argparse.Namespace, teller: Teller) -> None:

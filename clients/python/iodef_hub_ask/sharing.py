@@ -15,7 +15,7 @@ from .telling import Teller, Unchanged, Usage, note
 
 INCIDENT = "/Incident/0"
 LEVELS = (
-    "your organisation", "organisations that share a community with yours", "those of level 1, and those of connected communities",
+    "your organisation", "organisations that share a community with yours", "your communities, and those connected to them",
     "everybody in the hub, including organisations in no community", "the group of --group", "as the class above",
 )
 CLEARED = {"person": "cleared for TLP:RED", "org": "its nominated persons are cleared for TLP:AMBER+STRICT, those of its clients for TLP:AMBER"}

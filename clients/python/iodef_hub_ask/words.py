@@ -105,7 +105,7 @@ class Words:
         made: argparse.ArgumentParser = self.commands.add_parser(name, help=about, description=about[0].upper() + about[1:] + ".")
         for each in names:
             if each.endswith("?"):
-                made.add_argument(each[:-1], nargs="?", metavar=each[:-1].upper())
+                made.add_argument(each[:-1], nargs="?", metavar=each[:-1].upper(), help=HELPS.get(each[:-1]))
             elif each in CHOICES:
                 made.add_argument(each, choices=CHOICES[each])
             else:

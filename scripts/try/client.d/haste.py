@@ -185,7 +185,7 @@ def by_whole(haste: Haste) -> None:
     check("  nothing is sent of all that", haste.between.asked, [])
     check("a level of 0 needs it not", haste.asks("redistribute", number, "", "0")[1], f"the whole report of incident {number}, revision 1, is at level 0 (your organisation)\n")
     check("with it the root's gate is set", haste.asks("redistribute", number, "", "2", "--whole-incident")[1],
-          f"the whole report of incident {number}, revision 1, is at level 2 (those of level 1, and those of connected communities)\n")
+          f"the whole report of incident {number}, revision 1, is at level 2 (your communities, and those connected to them)\n")
     check("and the Incident permitted", haste.asks("grant", number, "/Incident/0", "org", "3", "--whole-incident")[1],
           f"organisation 3 may see Incident /Incident/0 (TLP:RED) of incident {number}, revision 1, for ever\n")
 

@@ -21,7 +21,11 @@ PHONE = f"Method {FIRST}/Method/1 (TLP:RED): by phone"
 VICTIMS = f"EventData {SECOND} (TLP:RED): the victims"
 EVERYBODY = "gate\tlevel 3 (everybody in the hub, including organisations in no community)\tthe whole report"
 CLEARED = "its nominated persons are cleared for TLP:AMBER+STRICT, those of its clients for TLP:AMBER"
-GREEN = "green\tis for any of your communities"
+ANY = "any of your communities, and for those whom TLP:AMBER is for"
+AMBER = "addressed persons, and nominated persons of addressed organisations and of clients of these or of the source"
+GREEN = f"green\tis for {ANY}: {AMBER}"
+NOBODY = "permission\tnobody"
+MEMBERS = "community\tcommunity 1 (east): organisation 2, organisation 3"
 
 
 def text_of(*lines: str) -> str:
@@ -38,29 +42,53 @@ def by_sharing(check: Check, asker: Callable[..., Any], folder: pathlib.Path) ->
         check("command address for it", bank("address", number, *words)[0], 0)
     told = [GREEN, EVERYBODY, f"gate\tlevel 4 (group 1 (phishing))\t{VICTIMS}",
             f"label\tTLP:AMBER+STRICT, for addressed persons, and nominated persons of addressed organisations\t{INCIDENT}",
-            f"label\tTLP:GREEN, for the source's communities, or for the one that the incident names\t{PAGE}",
+            f"label\tTLP:GREEN, for {ANY}\t{PAGE}",
             f"label\tTLP:RED, for addressed persons\t{PHONE}", f"label\tTLP:RED, for addressed persons\t{VICTIMS}",
             "recipient\tperson 4: cleared for TLP:RED", f"recipient\torganisation 3: {CLEARED}",
-            f"permission\tperson 4, until 2035-07-01T16:00:00+00:00\t{VICTIMS}", f"permission\torganisation 3, for ever\t{VICTIMS}"]
-    end = text_of(f"incident {number}, revision 1; not known here: arrangements, members of groups, nominations")
+            f"permission\tperson 4, until 2035-07-01T16:00:00+00:00\t{VICTIMS}", f"permission\torganisation 3, for ever\t{VICTIMS}", MEMBERS]
+    end = text_of(f"incident {number}, revision 1; each gate on the way to a class must let a reader pass, then its label opens it, or a permission;"
+                  " not known here: arrangements, nominations, clients, and who is in a group or in a community that isn't yours")
     time.sleep(3)
     check("command sharing", (bank("sharing", number), bank.errors), ((0, text_of(*told)), f"permissions that have ended: 1; --ended lists them\n{end}"))
     status, text = bank("sharing", number, "--ended")
     last = text.splitlines()[-1].split("\t")
     check("command sharing --ended", (status, text.startswith(text_of(*told)), last[0], last[1].startswith("community 1 (east), ended 20"), last[2], bank.errors),
           (0, True, "ended", True, PAGE, end))
-    check("command sharing of one class", bank("sharing", number, SECOND), (0, text_of(*told[:3], *told[6:8], *told[9:])))
+    check("command sharing of one class", bank("sharing", number, SECOND), (0, text_of(*told[1:3], *told[6:8], *told[9:11])))
     check("command sharing of a class inside", bank("sharing", number, f"{FIRST}/Method/0", "--ended"), (0, text_of(
-        GREEN, EVERYBODY, f"label\tTLP:GREEN, for the source's communities, or for the one that the incident names\tMethod {FIRST}/Method/0 (TLP:GREEN): by\\u0009mail",
-        *told[7:9], "\t".join(last))))
-    check("command sharing of one with a label of its own", bank("sharing", number, f"{FIRST}/Method/1", "--ended"), (0, text_of(GREEN, EVERYBODY, told[5], told[7])))
+        GREEN, EVERYBODY, f"label\tTLP:GREEN, for {ANY}\tMethod {FIRST}/Method/0 (TLP:GREEN): by\\u0009mail",
+        *told[7:9], NOBODY, MEMBERS, "\t".join(last))))
+    check("command sharing of one with a label of its own", bank("sharing", number, f"{FIRST}/Method/1", "--ended"), (0, text_of(EVERYBODY, told[5], told[7], NOBODY)))
     check("command sharing of no class", (bank("sharing", number, "/Incident/0/Method/0"), bank.errors),
           ((2, ""), f"iodef-hub-ask: incident {number} has no class at /Incident/0/Method/0\n"))
     raw = json.loads(asker("bank-key", "--json")("sharing", number)[1])
     check("command sharing, the hub's own JSON", (raw["gates"], raw["recipients"], len(raw["permissions"])), ([["", 3, 0], [SECOND, 4, 1]], [["person", 4], ["org", 3]], 3))
-    check("command sharing of another's report", (telco("sharing", number), telco.errors), ((1, ""), "iodef-hub-ask: N1: no such incident for you\n"))
+    check("command sharing of another's report", (telco("sharing", number), telco.errors), ((1, ""), text_of(
+        f"incident {number} is of organisation 2, and the hub tells only its source how a report is shared", "iodef-hub-ask: N1: no such incident for you")))
+    check("command sharing --help says what a path is", "/Incident/0/EventData/1" in bank("sharing", "--help")[1])
+    by_circle(check, asker)
     by_withdrawing(check, asker, number, "\t".join(last).split(", ended ")[1].split("\t")[0])
     by_new_key(check, asker, folder)
+
+
+def by_circle(check: Check, asker: Callable[..., Any]) -> None:
+    """What a group that is switched off, an arranged label and communities open, of which one isn't one's own."""
+    bank, admin = asker("bank-key"), asker("admin-key")
+    other = admin("add-community", "elsewhere")[1].strip()
+    number = bank("post", "-", "2", "--community", "1", "--gate", f"4:1:{FIRST}", given=REPORT.replace(b'"shared"', b'"circle"').replace(b'"green"', b'"default"'))[1].strip()
+    for words in (("group", "1"), ("community", other)):
+        bank("grant", number, FIRST, *words)
+    bank("group-active", "1", "off")
+    lines = [each.split("\t") for each in bank("sharing", number, FIRST)[1].splitlines()]
+    off, arranged = ", which is switched off and opens nothing", "as arranged, else TLP:RED"
+    check("command sharing of a group that is off, of an arranged label, and of communities", [each[:2] for each in lines], [
+        ["green", f"is for community 1 (east), and for those whom TLP:AMBER is for: {AMBER}"],
+        ["gate", "level 2 (your communities, and those connected to them)"], ["gate", f"level 4 (group 1 (phishing)){off}"],
+        ["label", f"{arranged}, for addressed persons, or as you arranged with the reader's organisation"],
+        ["recipient", "nobody"], ["permission", f"community {other}, for ever"], ["permission", f"group 1 (phishing){off}, for ever"],
+        MEMBERS.split("\t"), ["community", f"community {other}: not one of yours, so its members are not known here"]])
+    bank("group-active", "1", "on")
+    check("  and when the group is on", "switched off" in bank("sharing", number, FIRST)[1], False)
 
 
 def soon() -> str:

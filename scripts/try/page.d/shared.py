@@ -15,6 +15,10 @@ PARTS: list[dict[str, object]] = [
 EVERYBODY = "level 3, everybody in the hub, also organisations in no community"
 PAGE = f"EventData {FIRST} TLP:GREEN: the page <b>x</b>"
 VICTIMS = f"EventData {SECOND} TLP:RED: the victims"
+AMBER = (
+    "TLP:AMBER is for addressed persons, and for nominated persons of addressed organisations, of their clients and of the source\u2019s clients."
+)
+MEMBERS = "payments (community 1): Bank (organisation 2), Telco (organisation 3)"
 CLEARED = "its nominated persons are cleared for TLP:AMBER+STRICT, those of its clients for TLP:AMBER"
 # The text of each entry of the pane below the heading of this name; of the part that is folded, by its summary's last word.
 ROWS = """
@@ -36,7 +40,7 @@ def shared(trial: Trial) -> None:
     number = posted(trial)
     for each in (all_of_it, of_one_class, beside_forms, not_read, taken_back, changed_meanwhile, narrowed, replaced, of_others):
         each(trial, number)
-    for step in (many_labels, own_circle, new_key, new_key_of_lost_answer):
+    for step in (many_labels, switched_off, foreign_community, own_reports, own_circle, new_key, new_key_of_lost_answer):
         step(trial)
 
 
@@ -101,7 +105,10 @@ def all_of_it(trial: Trial, number: int) -> None:
     ], rows(trial, "Permissions"))  # fmt: skip
     ended = rows(trial, "has ended")
     trial.check("and apart those that have ended", ended == [f"payments (community 1), ended 2024-06-01 02:00 (UTC+02:00): {PAGE} Withdraw"], ended)
-    trial.check_has("it says what it doesn't know", trial.browser.text("#shared"), "Not known here: arrangements, the members of groups, and nominations.")
+    told = trial.browser.text("#shared")
+    trial.check_has("it says what it doesn't know", told, "Not known here: arrangements, nominations, clients, and who is in a group or in a community that is not yours.")
+    trial.check_has("whom TLP:GREEN and TLP:AMBER are for", told, "TLP:GREEN is for any of your communities. " + AMBER)
+    trial.check("and who is in the communities that are meant", rows(trial, "Communities") == [MEMBERS], rows(trial, "Communities"))
     trial.no_markup("a class's first text in the pane")
     trial.picture("shared")
 
@@ -117,7 +124,11 @@ def of_one_class(trial: Trial, number: int) -> None:
     trial.check("its label", rows(trial, "Labels") == ["TLP:RED for addressed persons"], rows(trial, "Labels"))
     trial.check("of the recipients those whom its label is for", rows(trial, "Recipients") == ["Cleo (person 4): cleared for TLP:RED Unaddress"], rows(trial, "Recipients"))
     trial.check("and its permissions", [len(rows(trial, "Permissions")), rows(trial, "has ended")] == [2, []], rows(trial, "Permissions"))
+    told = [rows(trial, "Communities"), "TLP:GREEN" in trial.browser.text("#shared .hint")]
+    trial.check("of TLP:RED nothing of communities", told == [[], False], told)
     ask_about(trial, f"{FIRST}/Method/0")
+    trial.check_has("of TLP:GREEN whom TLP:AMBER is for", trial.browser.text("#shared"), "of any of your communities, and for those whom TLP:AMBER is for", AMBER)
+    trial.check("and who is in the communities", rows(trial, "Communities") == [MEMBERS], rows(trial, "Communities"))
     inside = rows(trial, "has ended")
     trial.check("a permission goes down to the next label", len(inside) == 1 and PAGE in inside[0], inside)
     trial.check("the gate of another class isn't on its way", rows(trial, "Gates") == [f"{EVERYBODY}: the whole report Narrow"], rows(trial, "Gates"))
@@ -249,6 +260,53 @@ def many_labels(trial: Trial) -> None:
     trial.check("of a label with many classes the first twenty are listed, and the others counted", label.count("EventData /") == 20 and label.endswith("part 19and 2 more"), label)
     ask_about(trial, "/Incident/0/EventData/21")
     trial.check("nobody is addressed in person", rows(trial, "Recipients") == ["Nobody is addressed in person."], rows(trial, "Recipients"))
+
+
+def switched_off(trial: Trial) -> None:
+    """A colleague switches off the group of a gate and of a permission; the label is arranged."""
+    body = report(incident("switched off", EventData=[{"restriction": "default", "Description": ["the mails"]}]))
+    number = int(trial.circle.ask("bank", "POST", "/incidents", query=[("level", 3), ("gate", f"4:1:{FIRST}")], report=body)["numbers"][0])
+    grant(trial, number, FIRST, ("group", 1))
+    trial.enter("bank")
+    trial.go(f"#incidents/{number}")
+    ask_about(trial, FIRST)
+    trial.check("of `default` it says whom it is for", rows(trial, "Labels") == [
+        "as arranged, else TLP:RED default for addressed persons, or as you arranged with the reader\u2019s organisation"], rows(trial, "Labels"))  # fmt: skip
+    trial.circle.ask("bank", "POST", "/groups/1/active", [("active", 0)])
+    read_again(trial)
+    opens = [text.partition(":")[0] for text in (rows(trial, "Gates")[-1], rows(trial, "Permissions")[0])]
+    off = "phishing (sharing group 1), which is switched off and opens nothing"
+    trial.check("of a group that is switched off it says so", opens == [f"level 4, {off}", f"{off}, without an end"], opens)
+    trial.circle.ask("bank", "POST", "/groups/1/active", [("active", 1)])
+    read_again(trial)
+    trial.check("and not when it is on again", "switched off" not in trial.browser.text("#shared"), trial.browser.text("#shared"))
+
+
+def foreign_community(trial: Trial) -> None:
+    other = int(trial.circle.ask("admin", "POST", "/communities", [("name", "campus")])["numbers"][0])
+    number = int(trial.circle.ask("bank", "POST", "/incidents", query=[("level", 3), ("community", 1)], report=report(incident("foreign")))["numbers"][0])
+    grant(trial, number, "/Incident/0", ("community", other))
+    trial.enter("bank")
+    trial.go(f"#incidents/{number}")
+    told = rows(trial, "Communities")
+    trial.check("of others' communities the members aren't known", told == [MEMBERS, f"community {other}: not one of yours, so its members are not known here"], told)
+
+
+def own_reports(trial: Trial) -> None:
+    trial.circle.ask("telco", "POST", "/incidents", query=[("level", 3)], report=report(incident("of the telco")))
+    entries: list[dict[str, int]] = []
+    while not entries or len(entries) % 100 == 0:
+        after = entries[-1]["number"] if entries else 0
+        entries += trial.circle.ask("bank", "GET", "/incidents", query=[("after", after)])["incidents"]
+    ours = [each["number"] for each in entries if each["source"] == 2]
+    trial.enter("bank")
+    trial.browser.click("#ours")
+    trial.browser.settle()
+    listed = trial.browser.run("return [...document.querySelectorAll('#found a')].map(one => Number(one.dataset.number))")
+    trial.check("the own reports are listed alone", listed == ours[::-1][:100], (listed, ours))
+    trial.check_has("and counted", trial.browser.text("#count"), f"{len(ours)} incidents posted by your organisation, at")
+    pressed = trial.browser.texts(".tabs [aria-pressed=true]")
+    trial.check("their button is the pressed one", pressed == ["Ours"], pressed)
 
 
 def own_circle(trial: Trial) -> None:
