@@ -15,11 +15,11 @@ from typing import Any, TypeVar
 
 import iodef_hub
 from iodef_hub_stix.excerpt import Excerpt, moment
-from iodef_hub_stix.making import objects_of
+from iodef_hub_stix.making import made_of
 
 from .store import Store
 
-FORM = b"1"  # of the objects that are made: another form is another content
+FORM = b"2"  # of the objects that are made: another form is another content
 LONGEST_EXCERPT = 4 * 1024 * 1024  # bytes of an answer; the hub's own limit of a report is 256 KiB
 PAGE = 100
 MOST_FRESH = 2
@@ -153,7 +153,7 @@ class Reader:
             self._store.same(self.number, number, answer)
             return
         created = stamp(kept.created if kept else 0)
-        made, _ = objects_of(excerpt, created, created)
+        made = made_of(excerpt, created, created)
         # Moments that stand for one that the report doesn't tell are no content.
         content = self._digest([{name: it for name, it in each.items() if it != created} for each in made])
         if kept is not None and kept.content == content:
@@ -165,7 +165,7 @@ class Reader:
         kept = self._store.kept(self.number, number)
         if kept is None:
             return []
-        made, _ = objects_of(excerpt, stamp(kept.modified), stamp(kept.created))
+        made = made_of(excerpt, stamp(kept.modified), stamp(kept.created))
         return with_names(made, self._store.renamed(self.number, number))
 
     def _excerpt(self, number: int) -> Excerpt | None:
