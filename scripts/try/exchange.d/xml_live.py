@@ -18,6 +18,7 @@ from small_hub import Hub, digest
 
 from . import xml_generated as generated
 from .context import Context, same
+from .xml_changes import Changes, path_in
 from .xml_cases import command
 
 ASK = TOP / "clients" / "python" / "iodef-hub-ask"
@@ -119,6 +120,7 @@ def difference(hub: Hub, key: str, number: int, document: dict[str, Any], gate: 
 def generated_reports(hub: Hub, context: Context) -> Iterator[tuple[bool, str]]:
     faults: list[str] = []
     seen = withheld = 0
+    changes = Changes(hub, SOURCE, tuple(READERS))
     for number in range(min(REPORTS, context.count)):
         chance = random.Random(f"{context.seed} gate {number}")
         document = to_json.document_of(generated.report(context.seed, number, is_whole=True), Notes())
@@ -129,12 +131,14 @@ def generated_reports(hub: Hub, context: Context) -> Iterator[tuple[bool, str]]:
             fault, more, less = difference(hub, key, incident, document, gate)
             seen, withheld = seen + more, withheld + less
             faults += [f"report {number} for {key}: {fault}"] if fault else []
+        changes.change(incident, document, path_in(document, chance, classes))
     yield same(
         f"of {min(REPORTS, context.count)} reports the XML of {len(READERS)} readers has the {seen} values that the policy shows, "
         f"and none of the {withheld} others",
         (faults[:5], seen > 0, withheld > 0),
         ([], True, True),
     )
+    yield from changes.told()
 
 
 def by_commands(hub: Hub, folder: pathlib.Path) -> Iterator[tuple[bool, str]]:
