@@ -3,10 +3,12 @@ logged."""
 from __future__ import annotations
 
 import base64
+import contextlib
 import copy
 import datetime
 import hashlib
 import http.client
+import io
 import json
 import pathlib
 import random
@@ -21,6 +23,7 @@ from collections.abc import Iterator
 from dataclasses import dataclass, field
 from typing import Any
 
+from iodef_hub_misp import Mapping, to_misp
 from iodef_hub_stix.excerpt import Excerpt
 from iodef_hub_stix.making import made_of
 
@@ -75,11 +78,17 @@ class Service:
 
 @dataclass
 class Seen:
-    """What a reader is served of an incident: the needles, and the ids of its objects; and the digest of these without moments."""
+    """What a reader is served of an incident: the needles, and the ids of its objects; and the digest of these without moments. And the
+    needles of its event for MISP."""
 
     needles: set[str]
     ids: set[str]
     digest: str
+    in_misp: set[str]
+
+
+MAPPING = Mapping.read(json.dumps({"hub": NAME, "groups": [], "organisations": [
+    {"number": reports.READERS["source"], "uuid": "55f6ea5e-2c60-40e5-964f-47a8950d210f", "name": "src.example"}]}).encode())
 
 
 def seen_in(answer: bytes) -> Seen:
@@ -87,7 +96,9 @@ def seen_in(answer: bytes) -> Seen:
     told = json.loads(answer)
     objects = made_of(Excerpt.of_answer(told, NAME), LATER, LATER)
     digest = hashlib.sha256(json.dumps(objects).encode()).hexdigest()
-    return Seen(reports.needles_in(told["document"]), {each["id"] for each in objects}, digest)
+    with contextlib.redirect_stderr(io.StringIO()):
+        event = to_misp(answer, MAPPING)
+    return Seen(reports.needles_in(told["document"]), {each["id"] for each in objects}, digest, reports.needles_in(event))
 
 
 @dataclass
@@ -126,7 +137,7 @@ class Trial:
         status, answer = self.hub.ask(reports.KEYS[reader], "GET", f"/incidents/{number}")
         assert status in (200, 404), (status, answer)
         if status == 404:
-            return Seen(set(), set(), "")
+            return Seen(set(), set(), "", set())
         digest = hashlib.sha256(answer).digest()
         if digest not in self.answers:
             self.answers[digest] = seen_in(answer)
@@ -155,6 +166,8 @@ class Trial:
         yield same(f"{name}: there is something seen and something withheld",
                    bool(needles) and (bool(withheld) or watch.reader == "source"))
         yield same(f"{name}: nothing withheld is in the collection", sorted(found - needles)[:5], [])
+        strange = {number: each.in_misp - each.needles for number, each in now.items() if each.in_misp - each.needles}
+        yield same(f"{name}: nor in an event for MISP", (strange, any(each.in_misp for each in now.values())), ({}, True))
         ids = {each for it in now.values() for each in it.ids}
         self.ids |= ids
         turned = [each for each in alive if each not in ids]
