@@ -117,10 +117,9 @@ class Trial:
         self.chance = random.Random(context.seed)
         self.count = min(context.count, REPORTS)
         self.hub = reports.circle(context.program, context.folder, next(context.ports))
-        # Of the two polls of a phase the second doesn't read all again; a phase begins so late that its first poll does.
-        self.again = max(1, self.count // 25)
-        self.service = Service(context.folder, self.hub.port, next(context.ports), "--again", str(self.again), "--look", "5")
+        self.service = Service(context.folder, self.hub.port, next(context.ports), "--look", "5", "--again", "9999")
         self.service.start()
+        self.again = 0.0
         self.answers: dict[bytes, Seen] = {}
         self.polled: dict[str, float] = {}
         self.reports: dict[int, reports.Report] = {}
@@ -143,6 +142,18 @@ class Trial:
             self.answers[digest] = seen_in(answer)
         return self.answers[digest]
 
+    def read_anew(self) -> None:
+        """Of the two polls of a phase the first reads all excerpts again, and the second doesn't: the service is started with a time that is
+        longer than a poll on this machine, and shorter than a phase."""
+        client = self.service.client("member")
+        (collection,) = client.collections()
+        began = time.monotonic()
+        Consumer(client, collection).poll()
+        self.again = 1 + 3 * (time.monotonic() - began)
+        self.service.stop()
+        self.service.words = ("--look", "5", "--again", f"{self.again:.1f}")
+        self.service.start()
+
     def phase(self, name: str) -> Check:
         """Each reader polls since its last poll, and all anew."""
         for reader in READERS:
@@ -150,7 +161,7 @@ class Trial:
             (collection,) = client.collections()
             watch = self.watches.setdefault(reader, Watch(reader, Consumer(client, collection)))
             now = {number: self.seen(reader, number) for number in self.reports}
-            time.sleep(max(self.polled.get(reader, 0) + self.again + 0.1 - time.monotonic(), 0))
+            time.sleep(max(self.polled.get(reader, 0) + self.again + 0.2 - time.monotonic(), 0))
             watch.consumer.poll()
             whole = Consumer(client, collection)
             whole.poll(limit="150")
@@ -310,6 +321,7 @@ KINDS = ["none", "grant", "grant to a person", "an end", "gate", "gate of a clas
 
 def of_changes(trial: Trial) -> Check:
     changes = Changes(trial)
+    trial.read_anew()
     yield from trial.phase("before")
     before = {reader: {number: it.digest for number, it in watch.seen.items()} for reader, watch in trial.watches.items()}
     changes.widen()
