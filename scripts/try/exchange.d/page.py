@@ -85,7 +85,8 @@ def by_page(desk: Desk, port: int, redact: str | None) -> Iterator[tuple[bool, s
     (desk.folder / "report.xml").write_bytes(REPORT.read_bytes())
     lines = block("iodef-hub-xml to-json")
     status, said, errors = desk.run(lines if redact else re.sub("^iodef-hub-ask preview.*\n", "", lines, flags=re.M), "ada")
-    yield same("the lines of XML post the report, and make XML of it", (status, said.splitlines()[-1:], errors if status else ""), (0, ["1"], ""))
+    found = status, said.splitlines()[-1:], errors if status else ""
+    yield same("the lines of XML post the report, and make XML of it", found, (0, ["1"], ""))
     yield told("XML", desk.run(lines.splitlines()[-1].partition(" > ")[0], "ben"), HASH)  # which is in base64 there
     lines = block("iodef-hub-ask --json show 1 | iodef-hub-stix")
     yield told("bundle", desk.run(lines.replace("> bundle.json", "| tee bundle.json"), "ben"))

@@ -143,8 +143,8 @@ class Trial:
         return self.answers[digest]
 
     def read_anew(self) -> None:
-        """Of the two polls of a phase the first reads all excerpts again, and the second doesn't: the service is started with a time that is
-        longer than a poll on this machine, and shorter than a phase."""
+        """Of the two polls of a phase the first reads all excerpts again, and the second doesn't: the service is started with a time
+        that is longer than a poll on this machine, and shorter than a phase."""
         client = self.service.client("member")
         (collection,) = client.collections()
         began = time.monotonic()
@@ -202,7 +202,8 @@ class Trial:
             (report,) = [it for it in each.ids if it.startswith("report--")] or [""]
             told[number] = of_report.get(report, {}).get("modified", "")
         known = {number: it for number, it in watch.seen.items() if told[number] and watch.modified.get(number)}
-        changed = [number for number in known if (told[number] != watch.modified[number]) != (now[number].digest != watch.seen[number].digest)]
+        changed = [number for number in known
+                   if (told[number] != watch.modified[number]) != (now[number].digest != watch.seen[number].digest)]
         yield same(f"{name}: a version is new exactly if the excerpt is", changed[:5], [])
         watch.modified = told
 
