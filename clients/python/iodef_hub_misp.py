@@ -10,6 +10,7 @@ fit, with status 1. clients/README.md has the tables, and the form of the file t
 from __future__ import annotations
 
 import argparse
+import base64
 import datetime
 import ipaddress
 import json
@@ -54,6 +55,18 @@ HASHES = {  # hexadecimal digits, and the name of the method
     "sha512": (128, "http://www.w3.org/2001/04/xmlenc#sha512"),
 }
 HASH_OF = {method: name for name, (_, method) in HASHES.items()}
+CVE = re.compile(r"(?i)CVE-[0-9]{4}-[0-9]{4,}")
+
+
+def hex_of(kind: str | None, digest: str) -> str:
+    """A digest of a kind in hexadecimal digits, if it is in base64, as XML writes it; else as it is."""
+    length = HASHES[kind][0] if kind in HASHES else 0
+    try:
+        held = base64.b64decode("".join(digest.split()), validate=True)
+    except ValueError:
+        return digest
+    return held.hex() if held and 2 * len(held) == length else digest
+
 
 # What the value of a type is made of, joined by bars.
 PARTS: dict[str, tuple[str, ...]] = {
@@ -1260,6 +1273,7 @@ class Writer:
             self.taken.all_of(value, "KeyName", *(["Value"] if isinstance(data, str) else []))
             self._add("regkey|value" if isinstance(data, str) else "regkey", value["KeyName"] + (f"|{data}" if isinstance(data, str) else ""), context)
         elif name == "Reference":
+            self._vulnerability(value, context)
             for url in self.texts(value, "URL"):
                 self._add("link", url, replace(context, to_ids=False))
         elif name == "RecordData":
@@ -1275,12 +1289,22 @@ class Writer:
             for each in self.wordings(value, "Description"):
                 self._add(None, self.take(each), replace(context, label=each.label or context.label))
 
+    def _vulnerability(self, reference: dict[str, Any], context: Context) -> None:
+        """The CVE's number that a ReferenceName has, as XML's reports name it."""
+        for each in inner_of(reference, "ReferenceName"):
+            for text in texts_of(each, "ID"):
+                if CVE.fullmatch(text):
+                    self.taken.all_of(each, "ID")
+                    label = max(label_of(each) or context.label, context.label, key=ORDER.index)
+                    self._add("vulnerability", text.upper(), replace(context, to_ids=False, label=label))
+
     def _file(self, value: dict[str, Any], context: Context) -> None:
         names = texts_of(value, "FileName")
         kinds = []
         for each in [each for data in inner_of(value, "HashData") for each in inner_of(data, "Hash")]:
-            for kind, digest in [(HASH_OF.get(method), digest) for method in texts_of(each, "DigestMethod") for digest in texts_of(each, "DigestValue")]:
+            for kind, told in [(HASH_OF.get(method), told) for method in texts_of(each, "DigestMethod") for told in texts_of(each, "DigestValue")]:
                 self.taken.all_of(each, "DigestMethod", "DigestValue")
+                digest = hex_of(kind, told)
                 self._add(f"filename|{kind}" if kind and names else kind, f"{names[0]}|{digest}" if kind and names else digest, context)
                 kinds.append(kind)
         if names and not kinds:

@@ -14,7 +14,7 @@ from collections.abc import Iterable, Sequence
 from dataclasses import dataclass, field
 from typing import Any
 
-from iodef_hub_misp import ORDER, Taken, Wording, main_language, texts_of, wordings_of
+from iodef_hub_misp import CVE, ORDER, Taken, Wording, main_language, texts_of, wordings_of
 
 from .excerpt import Excerpt, Place, inner_places, moment, places
 from .marking import MARKING_IDS, strictest
@@ -22,7 +22,6 @@ from .patterns import Alternative, alternatives_of
 from .values import Value, unfit_in, values_of
 
 Object = dict[str, Any]
-CVE = re.compile(r"(?i)CVE-[0-9]{4}-[0-9]{4,}")
 LANGUAGE = re.compile(r"[A-Za-z]{2,8}(-[A-Za-z0-9]{1,8})*")
 LONGEST_NAME = 200
 NOTED = ("EventData", "RecordData", "HistoryItem", "Method", "Discovery")  # whose descriptions become notes
@@ -244,9 +243,20 @@ class Maker:
         self.references += [({"source_name": "reference", "url": each}, place.label) for each in urls]
         for wording, label in self.wordings(place):
             if CVE.fullmatch(wording.text):
-                name = self.take(wording).upper()
-                self.put_versioned("vulnerability", "vulnerability", name, [label], {
-                    "name": name, "external_references": [{"source_name": "cve", "external_id": name}]})
+                self.expose(self.take(wording), label)
+
+    def refer_by_name(self, place: Place) -> None:
+        """A ReferenceName: a vulnerability, if its ID is a CVE's number."""
+        for text in texts_of(place.members, "ID"):
+            if CVE.fullmatch(text):
+                self.taken.all_of(place.members, "ID")
+                self.expose(text, place.label)
+
+    def expose(self, number: str, label: str) -> None:
+        """The vulnerability of a CVE's number."""
+        name = number.upper()
+        self.put_versioned("vulnerability", "vulnerability", name, [label], {
+            "name": name, "external_references": [{"source_name": "cve", "external_id": name}]})
 
     # The whole
 
@@ -265,6 +275,8 @@ class Maker:
                 self.count_unfit(place)
             if place.name == "Reference":
                 self.refer(place)
+            elif place.name == "ReferenceName":
+                self.refer_by_name(place)
         self.relate()
 
     def _read_outside(self, place: Place) -> None:
@@ -300,25 +312,36 @@ class Maker:
         language = self.excerpt.document.get("lang")
         members |= {"lang": language} if isinstance(language, str) and LANGUAGE.fullmatch(language) else {}
         self.put_versioned("report", "report", "", [*labels, *held], members)
-        self._count(incident)
 
-    def _count(self, incident: Place | None) -> None:
+    def count(self) -> None:
+        """How much of the excerpt isn't in the objects."""
         document = dict(self.excerpt.document)
-        for each in (document, *([incident.members] if incident else [])):
+        for each in (document, *([self.incident.members] if self.incident else [])):
             self.taken.open(each)
             self.taken.all_of(each, "version", "lang", "purpose")
         self.left_out += self.taken.left_out(document, "document")[1]
 
 
-def objects_of(excerpt: Excerpt, modified: str, created: str = "") -> tuple[list[Object], Counter[str]]:
-    """The objects of an excerpt, without the marking definitions, and how much of the excerpt isn't in them, by name.
-
-    `modified` is the moment of this version of them, and `created` that at which they were made, each in the form of STIX. By default
-    that is the GenerationTime of the report; UNTOLD, if there is none or its Incident is stricter than the object."""
+def _made(excerpt: Excerpt, modified: str, created: str) -> Maker:
     maker = Maker(excerpt, modified, created)
     maker.read()
     maker.conclude()
     maker.mark()
+    return maker
+
+
+def made_of(excerpt: Excerpt, modified: str, created: str = "") -> list[Object]:
+    """The objects of an excerpt, without the marking definitions.
+
+    `modified` is the moment of this version of them, and `created` that at which they were made, each in the form of STIX. By default
+    that is the GenerationTime of the report; UNTOLD, if there is none or its Incident is stricter than the object."""
+    return [draft.object for draft in _made(excerpt, modified, created).drafts.values()]
+
+
+def objects_of(excerpt: Excerpt, modified: str, created: str = "") -> tuple[list[Object], Counter[str]]:
+    """The same, and how much of the excerpt isn't in them, by name."""
+    maker = _made(excerpt, modified, created)
+    maker.count()
     return [draft.object for draft in maker.drafts.values()], maker.left_out
 
 

@@ -97,7 +97,7 @@ class Member:
 MEMBERS = (
     Member("Address", "value", None, CLIENT_MODULE),  # by `category`
     Member("BulkObservable", "BulkObservableList", None, CLIENT_MODULE),  # by `type`
-    Member("Hash", "DigestValue", None, CLIENT_MODULE),  # by `DigestMethod`, else by its length
+    Member("Hash", "DigestValue", None, CLIENT_MODULE),  # by `DigestMethod`, else by its length; in base64 too
     Member("DomainData", "Name", "domain-name", CLIENT_MODULE),
     Member("File", "FileName", "file-path", CLIENT_MODULE),
     Member("Key", "KeyName", "windows-reg-key", CLIENT_MODULE),
@@ -126,6 +126,7 @@ CLASSES = (
     Made("Incident/GenerationTime", "report published; created of all", "docs/examples/phishing.json"),
     Made("Reference/URL", "report external_references", "docs/examples/botnet.json"),
     Made("Reference/Description, if it is a CVE's number", "vulnerability", MISP_MODULE),
+    Made("ReferenceName/ID, if it is a CVE's number", "vulnerability", MEMORY),
     Made("the source", "identity, created_by_ref", "docs/HTTP.md"),
     Made("Contact", "identity", "docs/examples/phishing.json"),
     Made("Description of EventData, RecordData, HistoryItem, Method, Discovery", "note", "docs/examples/phishing.json"),

@@ -4,7 +4,7 @@ from __future__ import annotations
 from dataclasses import dataclass
 from typing import Any
 
-from iodef_hub_misp import HASH_OF, HASHES, texts_of
+from iodef_hub_misp import HASH_OF, HASHES, hex_of, texts_of
 
 from .excerpt import Place
 from .table import BY_KIND, MEMBERS, Row, quoted
@@ -75,7 +75,8 @@ def _texts(place: Place, member: str) -> list[str]:
 def _held(place: Place) -> list[tuple[str, str | None, str]]:
     """The texts of the members that hold values, each with its member and its kind, if one is told."""
     found = [(each, text) for each in MEMBERS if each.of == place.name for text in _texts(place, each.name)]
-    return [(each.name, _kind_of(place, each.kind, text), text) for each, text in found]
+    told = [(each.name, _kind_of(place, each.kind, text), text) for each, text in found]
+    return [(member, kind, hex_of(kind, text) if place.name == "Hash" else text) for member, kind, text in told]
 
 
 def values_of(place: Place) -> list[Value]:

@@ -15,11 +15,12 @@ from typing import Any, TypeVar
 
 import iodef_hub
 from iodef_hub_stix.excerpt import Excerpt, moment
-from iodef_hub_stix.making import objects_of
+from iodef_hub_stix.making import made_of
 
 from .store import Store
 
-FORM = b"1"  # of the objects that are made: another form is another content
+# What is made of an answer: another form makes each anew, and only what is another one then is a new version.
+ANSWER_FORM, CONTENT_FORM = b"2", b"1"
 LONGEST_EXCERPT = 4 * 1024 * 1024  # bytes of an answer; the hub's own limit of a report is 256 KiB
 PAGE = 100
 MOST_FRESH = 2
@@ -148,14 +149,14 @@ class Reader:
 
     def _note_content(self, excerpt: Excerpt, number: int) -> None:
         kept = self._store.kept(self.number, number)
-        answer = self._digest([excerpt.document, excerpt.withheld, excerpt.source, excerpt.name])
+        answer = self._digest(ANSWER_FORM, [excerpt.document, excerpt.withheld, excerpt.source, excerpt.name])
         if kept is not None and kept.answer == answer:
             self._store.same(self.number, number, answer)
             return
         created = stamp(kept.created if kept else 0)
-        made, _ = objects_of(excerpt, created, created)
+        made = made_of(excerpt, created, created)
         # Moments that stand for one that the report doesn't tell are no content.
-        content = self._digest([{name: it for name, it in each.items() if it != created} for each in made])
+        content = self._digest(CONTENT_FORM, [{name: it for name, it in each.items() if it != created} for each in made])
         if kept is not None and kept.content == content:
             self._store.same(self.number, number, answer)
         else:
@@ -165,7 +166,7 @@ class Reader:
         kept = self._store.kept(self.number, number)
         if kept is None:
             return []
-        made, _ = objects_of(excerpt, stamp(kept.modified), stamp(kept.created))
+        made = made_of(excerpt, stamp(kept.modified), stamp(kept.created))
         return with_names(made, self._store.renamed(self.number, number))
 
     def _excerpt(self, number: int) -> Excerpt | None:
@@ -185,10 +186,10 @@ class Reader:
         told = str(view.source)
         return Excerpt(self._settings.name, str(number), view.document, withheld, told, self._settings.names.get(told, ""))
 
-    def _digest(self, value: object) -> bytes:
+    def _digest(self, form: bytes, value: object) -> bytes:
         """An HMAC by the reader's key, which isn't kept: who has the file alone can't try out contents."""
         told = json.dumps(value, sort_keys=True, separators=(",", ":"), ensure_ascii=False).encode()
-        return hmac.new(self._key, FORM + told, hashlib.sha256).digest()
+        return hmac.new(self._key, form + told, hashlib.sha256).digest()
 
 
 def with_names(objects: list[Object], names: Mapping[str, str]) -> list[Object]:

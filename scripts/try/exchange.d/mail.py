@@ -6,7 +6,7 @@ from collections.abc import Iterator
 
 from common import TOP
 
-from . import mail_bad, mail_keys, mail_sent, mail_state
+from . import mail_bad, mail_keys, mail_many, mail_sent, mail_state
 from .context import Context, same
 
 SECTION = "mail"
@@ -29,6 +29,7 @@ def checks(context: Context) -> Iterator[tuple[bool, str]]:
         return
     yield from mail_bad.checks(context)
     if context.redact is not None:
+        yield from mail_many.checks(context)
         with mail_keys.ring() as ring:
             yield from mail_sent.checks(context, ring)
             yield from mail_state.checks(context, ring)

@@ -95,6 +95,10 @@ def bulk(kind: str, *values: str) -> Object:
     return {"BulkObservable": {"type": kind, "BulkObservableList": list(values)}}
 
 
+def hashed(method: str, digest: str) -> Object:
+    return {"Observable": {"FileData": {"File": [{"HashData": {"Hash": [{"DigestMethod": method, "DigestValue": digest}]}}]}}}
+
+
 # Patterns, worked out by hand
 
 NODE = {"Address": [{"category": "ipv4-addr", "value": "192.0.2.1"}]}
@@ -124,6 +128,10 @@ PATTERNS: list[tuple[str, Object, list[str]]] = [
     ("a file's name and hash together", {"Observable": {"FileData": {"File": [{"FileName": "a.exe", "HashData": {"Hash": [
         {"DigestMethod": "http://www.w3.org/2001/04/xmldsig-more#md5", "DigestValue": "b" * 32}]}}]}}},
      [f"[file:name = 'a.exe' AND file:hashes.MD5 = '{'b' * 32}']"]),
+    ("a hash in base64, as XML has it", hashed("http://www.w3.org/2001/04/xmlenc#sha256", "47DEQpj8HBSa+/TImW+5\n JCeuQeRkm5NMpJWZG3hSuFU="),
+     ["[file:hashes.'SHA-256' = 'e3b0c44298fc1c149afbf4c8996fb92427ae41e4649b934ca495991b7852b855']"]),
+    ("base64 of another length is none", hashed("http://www.w3.org/2000/09/xmldsig#sha1", "47DEQpj8HBSa+/TImW+5JCeuQeRkm5NMpJWZG3hSuFU="),
+     []),
     ("a name and its address", {"Observable": {"System": {"Node": {**NODE, "DomainData": [{"Name": "a.example"}]}}}},
      ["[domain-name:value = 'a.example' AND domain-name:resolves_to_refs[*].value = '192.0.2.1']"]),
     ("a key and its value", {"Observable": {"WindowsRegistryKeysModified": {"Key": [{"KeyName": "K", "Value": "V"}]}}},
@@ -161,6 +169,7 @@ def by_hand() -> Check:
                           ("/Incident/0/Indicator/0", 1), ("/Incident/0/Contact/0", 1)):
         yield same(f"with something withheld at {place}, patterns", len(patterns_of(both, (place,))), count)
     yield from markings_by_hand()
+    yield from vulnerabilities_by_hand()
     yield from relationships_by_hand()
     yield from moments_by_hand()
 
@@ -188,6 +197,19 @@ def moments_by_hand() -> Check:
         yield same(f"another run differs in modified alone: {what}", *([{**each, "modified": ""} if "modified" in each else each
                                                                         for each in it] for it in (objects, others)))
         yield same(f"and the rules hold: {what}", faults_of([*definitions_of(objects), *objects]), [])
+
+
+def vulnerabilities_by_hand() -> Check:
+    """A CVE's number as a Reference's name, or its Description; marked as the class that has it."""
+    for what, reference, wanted in (
+            ("a name", {"ReferenceName": {"ID": "CVE-2026-10001"}}, [("CVE-2026-10001", "green")]),
+            ("a stricter name", {"ReferenceName": {"restriction": "amber", "ID": "CVE-2026-10001"}}, [("CVE-2026-10001", "amber+strict")]),
+            ("a description", {"Description": ["cve-2026-10001"]}, [("CVE-2026-10001", "green")]),
+            ("both", {"ReferenceName": {"ID": "CVE-2026-10001"}, "Description": ["CVE-2026-10001"]}, [("CVE-2026-10001", "green")]),
+            ("another name", {"ReferenceName": {"ID": "CAPEC-98"}}, [])):
+        objects = made(answer(incident(Method=[{"Reference": [reference]}])))
+        found = [(each["name"], label_of(each)) for each in objects if each["type"] == "vulnerability"]
+        yield same(f"a vulnerability by {what}", found, wanted)
 
 
 def relationships_by_hand() -> Check:

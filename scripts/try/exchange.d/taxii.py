@@ -3,9 +3,12 @@ logged."""
 from __future__ import annotations
 
 import base64
+import contextlib
 import copy
 import datetime
+import hashlib
 import http.client
+import io
 import json
 import pathlib
 import random
@@ -20,8 +23,9 @@ from collections.abc import Iterator
 from dataclasses import dataclass, field
 from typing import Any
 
+from iodef_hub_misp import Mapping, to_misp
 from iodef_hub_stix.excerpt import Excerpt
-from iodef_hub_stix.making import objects_of
+from iodef_hub_stix.making import made_of
 
 from . import stix_reports as reports
 from .context import Context, same
@@ -74,19 +78,27 @@ class Service:
 
 @dataclass
 class Seen:
-    """What a reader is served of an incident: the needles, and the ids of its objects; and these without moments, as a text."""
+    """What a reader is served of an incident: the needles, and the ids of its objects; and the digest of these without moments. And the
+    needles of its event for MISP."""
 
     needles: set[str]
     ids: set[str]
-    text: str
+    digest: str
+    in_misp: set[str]
 
 
-def seen(hub: Any, reader: str, number: int) -> Seen:
-    told = reports.view(hub, reader, number)
-    if told is None:
-        return Seen(set(), set(), "")
-    objects, _ = objects_of(Excerpt.of_answer(told, NAME), LATER, LATER)
-    return Seen(reports.needles_in(told["document"]), {each["id"] for each in objects}, json.dumps(objects))
+MAPPING = Mapping.read(json.dumps({"hub": NAME, "groups": [], "organisations": [
+    {"number": reports.READERS["source"], "uuid": "55f6ea5e-2c60-40e5-964f-47a8950d210f", "name": "src.example"}]}).encode())
+
+
+def seen_in(answer: bytes) -> Seen:
+    """What is in the hub's answer, and so in no bridge anything else."""
+    told = json.loads(answer)
+    objects = made_of(Excerpt.of_answer(told, NAME), LATER, LATER)
+    digest = hashlib.sha256(json.dumps(objects).encode()).hexdigest()
+    with contextlib.redirect_stderr(io.StringIO()):
+        event = to_misp(answer, MAPPING)
+    return Seen(reports.needles_in(told["document"]), {each["id"] for each in objects}, digest, reports.needles_in(event))
 
 
 @dataclass
@@ -105,8 +117,11 @@ class Trial:
         self.chance = random.Random(context.seed)
         self.count = min(context.count, REPORTS)
         self.hub = reports.circle(context.program, context.folder, next(context.ports))
-        self.service = Service(context.folder, self.hub.port, next(context.ports), "--again", "0", "--look", "5")
+        self.service = Service(context.folder, self.hub.port, next(context.ports), "--look", "5", "--again", "9999")
         self.service.start()
+        self.again = 0.0
+        self.answers: dict[bytes, Seen] = {}
+        self.polled: dict[str, float] = {}
         self.reports: dict[int, reports.Report] = {}
         self.watches: dict[str, Watch] = {}
         self.ids: set[str] = set()  # of all objects that the excerpts ever made
@@ -116,16 +131,41 @@ class Trial:
             self.reports[number] = reports.made_report(self.chance, number)
             assert reports.post(self.hub, self.reports[number]) == number
 
+    def seen(self, reader: str, number: int) -> Seen:
+        """What the hub serves a reader. Each answer is judged once: most readers have the same, before and after a change."""
+        status, answer = self.hub.ask(reports.KEYS[reader], "GET", f"/incidents/{number}")
+        assert status in (200, 404), (status, answer)
+        if status == 404:
+            return Seen(set(), set(), "", set())
+        digest = hashlib.sha256(answer).digest()
+        if digest not in self.answers:
+            self.answers[digest] = seen_in(answer)
+        return self.answers[digest]
+
+    def read_anew(self) -> None:
+        """Of the two polls of a phase the first reads all excerpts again, and the second doesn't: the service is started with a time
+        that is longer than a poll on this machine, and shorter than a phase."""
+        client = self.service.client("member")
+        (collection,) = client.collections()
+        began = time.monotonic()
+        Consumer(client, collection).poll()
+        self.again = 1 + 3 * (time.monotonic() - began)
+        self.service.stop()
+        self.service.words = ("--look", "5", "--again", f"{self.again:.1f}")
+        self.service.start()
+
     def phase(self, name: str) -> Check:
         """Each reader polls since its last poll, and all anew."""
         for reader in READERS:
             client = self.service.client(reader)
             (collection,) = client.collections()
             watch = self.watches.setdefault(reader, Watch(reader, Consumer(client, collection)))
-            now = {number: seen(self.hub, reader, number) for number in self.reports}
+            now = {number: self.seen(reader, number) for number in self.reports}
+            time.sleep(max(self.polled.get(reader, 0) + self.again + 0.2 - time.monotonic(), 0))
             watch.consumer.poll()
             whole = Consumer(client, collection)
             whole.poll(limit="150")
+            self.polled[reader] = time.monotonic()
             yield from self._told(f"{name}, {reader}", watch, now, whole)
             watch.seen = now
 
@@ -137,6 +177,8 @@ class Trial:
         yield same(f"{name}: there is something seen and something withheld",
                    bool(needles) and (bool(withheld) or watch.reader == "source"))
         yield same(f"{name}: nothing withheld is in the collection", sorted(found - needles)[:5], [])
+        strange = {number: each.in_misp - each.needles for number, each in now.items() if each.in_misp - each.needles}
+        yield same(f"{name}: nor in an event for MISP", (strange, any(each.in_misp for each in now.values())), ({}, True))
         ids = {each for it in now.values() for each in it.ids}
         self.ids |= ids
         turned = [each for each in alive if each not in ids]
@@ -160,7 +202,8 @@ class Trial:
             (report,) = [it for it in each.ids if it.startswith("report--")] or [""]
             told[number] = of_report.get(report, {}).get("modified", "")
         known = {number: it for number, it in watch.seen.items() if told[number] and watch.modified.get(number)}
-        changed = [number for number in known if (told[number] != watch.modified[number]) != (now[number].text != watch.seen[number].text)]
+        changed = [number for number in known
+                   if (told[number] != watch.modified[number]) != (now[number].digest != watch.seen[number].digest)]
         yield same(f"{name}: a version is new exactly if the excerpt is", changed[:5], [])
         watch.modified = told
 
@@ -264,14 +307,14 @@ class Changes:
 
     def let_end(self) -> None:
         """The permissions with an end get one that is near, which shows the same; and it passes."""
-        end = until(max(3, self.trial.count / 50))
         for number in self.trial.reports:
             if KINDS[number % len(KINDS)] == "an end":
-                self._do(number, "grant", ("revision", 1), ("path", self._path(number)), ("org", reports.READERS["member"]), ("until", end))
-        left = datetime.datetime.fromisoformat(end) - datetime.datetime.now(datetime.timezone.utc)
-        time.sleep(max(left.total_seconds() + 1, 0))
+                words = ("revision", 1), ("path", self._path(number)), ("org", reports.READERS["member"]), ("until", until(NEAR))
+                self._do(number, "grant", *words)
+        time.sleep(NEAR + 1)
 
 
+NEAR = 5  # seconds: longer than a request takes, on a machine with other work too
 GRANTEES = {"grant": "stranger", "grant to a person": "client", "an end": "member"}
 KINDS = ["none", "grant", "grant to a person", "an end", "gate", "gate of a class", "address an organisation", "address a person",
          "replace"]
@@ -279,15 +322,16 @@ KINDS = ["none", "grant", "grant to a person", "an end", "gate", "gate of a clas
 
 def of_changes(trial: Trial) -> Check:
     changes = Changes(trial)
+    trial.read_anew()
     yield from trial.phase("before")
-    before = {reader: {number: it.text for number, it in watch.seen.items()} for reader, watch in trial.watches.items()}
+    before = {reader: {number: it.digest for number, it in watch.seen.items()} for reader, watch in trial.watches.items()}
     changes.widen()
     yield from trial.phase("shown more")
-    wider = {reader: {number: it.text for number, it in watch.seen.items()} for reader, watch in trial.watches.items()}
+    wider = {reader: {number: it.digest for number, it in watch.seen.items()} for reader, watch in trial.watches.items()}
     changes.let_end()
     changes.narrow()
     yield from trial.phase("shown less")
-    after = {reader: {number: it.text for number, it in watch.seen.items()} for reader, watch in trial.watches.items()}
+    after = {reader: {number: it.digest for number, it in watch.seen.items()} for reader, watch in trial.watches.items()}
     changes.widen(3)
     yield from trial.phase("shown again")
     consumer = trial.watches["member"].consumer

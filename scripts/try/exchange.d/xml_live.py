@@ -18,6 +18,7 @@ from small_hub import Hub, digest
 
 from . import xml_generated as generated
 from .context import Context, same
+from .xml_changes import Changes, path_in
 from .xml_cases import command
 
 ASK = TOP / "clients" / "python" / "iodef-hub-ask"
@@ -99,26 +100,27 @@ def posted(hub: Hub, text: bytes, gate: str) -> int:
     return found[0]
 
 
-def difference(hub: Hub, key: str, number: int, document: dict[str, Any], gate: str) -> tuple[str, int, int]:
-    """What of a reader's XML isn't as the policy says, and how many needles the reader sees and doesn't see."""
+def difference(hub: Hub, key: str, number: int, document: dict[str, Any], gate: str) -> tuple[str, set[str], int]:
+    """What of a reader's XML isn't as the policy says, the needles that the reader sees, and how many it doesn't see."""
     is_there, wanted = wanted_of(document, gate, READERS[key])
     all_of = set().union(*(needles_of(value) for _, _, value in places(document, "", RED)))
     status, answer = hub.ask(key, "GET", f"/incidents/{number}")
     if status != 200:
-        return ("" if status == 404 and not is_there else f"status {status}"), 0, len(all_of)
+        return ("" if status == 404 and not is_there else f"status {status}"), set(), len(all_of)
     excerpt, _ = documents.document_of(answer)
     text = tree.document_text(to_xml.root_of(excerpt, Notes()))
     found = set(generated.NEEDLE.findall(text))
     if found != wanted:
-        return f"needles {sorted(found ^ wanted)[:3]}", 0, 0
+        return f"needles {sorted(found ^ wanted)[:3]}", found, 0
     if to_json.document_of(text.encode(), Notes()) != excerpt:
-        return "the excerpt isn't the same behind XML", 0, 0
-    return "", len(wanted), len(all_of - wanted)
+        return "the excerpt isn't the same behind XML", found, 0
+    return "", found, len(all_of - wanted)
 
 
 def generated_reports(hub: Hub, context: Context) -> Iterator[tuple[bool, str]]:
     faults: list[str] = []
     seen = withheld = 0
+    changes = Changes(hub, SOURCE, tuple(READERS))
     for number in range(min(REPORTS, context.count)):
         chance = random.Random(f"{context.seed} gate {number}")
         document = to_json.document_of(generated.report(context.seed, number, is_whole=True), Notes())
@@ -126,15 +128,18 @@ def generated_reports(hub: Hub, context: Context) -> Iterator[tuple[bool, str]]:
         gate = chance.choice(classes) if chance.random() < 0.5 else ""
         incident = posted(hub, json.dumps(document).encode(), gate)
         for key in READERS:
-            fault, more, less = difference(hub, key, incident, document, gate)
-            seen, withheld = seen + more, withheld + less
+            fault, found, less = difference(hub, key, incident, document, gate)
+            seen, withheld = seen + len(found), withheld + less
+            changes.before[incident, key] = found
             faults += [f"report {number} for {key}: {fault}"] if fault else []
+        changes.change(incident, document, path_in(document, chance, incident, classes))
     yield same(
         f"of {min(REPORTS, context.count)} reports the XML of {len(READERS)} readers has the {seen} values that the policy shows, "
         f"and none of the {withheld} others",
         (faults[:5], seen > 0, withheld > 0),
         ([], True, True),
     )
+    yield from changes.told()
 
 
 def by_commands(hub: Hub, folder: pathlib.Path) -> Iterator[tuple[bool, str]]:
