@@ -205,6 +205,37 @@ def keys(queue: Queue) -> Checks:
         yield same(f"an exchange with {what} isn't passed on", BAD_BODY, queue.ask(third, "POST", "/me/key", body))
 
 
+def two_lists(queue: Queue, what: str, dead: str, present: str) -> Checks:
+    """What a key that was exchanged has in hand isn't its person's."""
+    with queue.held() as stack:
+        for _ in range(2):
+            queue.hold(stack, dead, "GET", "/incidents")
+        own = queue.hold(stack, present, "GET", "/incidents")
+        queue.hub.gate.set()
+        yield same(f"two lists in hand by {what} leave its person's be", DONE, told(own))
+
+
+def dead_keys(queue: Queue) -> Checks:
+    """A key that was exchanged counts by itself, whoever had it since."""
+    first, second, other, left, added = (queue.person() for _ in range(5))
+    yield same("a first key is exchanged", DONE, queue.ask(first, "POST", "/me/key", exchange(second)))
+    yield from two_lists(queue, "it", first, second)
+    with queue.held() as stack:
+        queue.hold(stack, first, "GET", "/incidents/1")
+        yield same("no exchange back while it has a View in hand", TURNS, queue.ask(second, "POST", "/me/key", exchange(first)))
+    ends = [queue.ask(other, "POST", "/me/key", exchange(first)), queue.ask(first, "POST", "/me/key", exchange(left))]
+    yield same("another person takes it and leaves it", [DONE] * 2, ends)
+    for present in (second, left):
+        yield from two_lists(queue, "it then", first, present)
+    yield same("a person that was added with it exchanges it", DONE, queue.ask(first, "POST", "/me/key", exchange(added)))
+    yield from two_lists(queue, "it after that", first, added)
+    ends = [queue.ask(second, "POST", "/me/key", exchange(first)), *(queue.ask(first, "POST", "/groups") for _ in range(20))]
+    yield same("the first person takes it back", [DONE] * 21, ends)
+    yield from two_lists(queue, "the second key", second, first)
+    yield same("and has the day of one person", 429, queue.ask(first, "POST", "/groups")[0])
+    yield same("also by a third", (DONE[0], 429), (queue.ask(first, "POST", "/me/key", exchange(second))[0], queue.ask(second, "POST", "/groups")[0]))
+
+
 def keys_in_hand(queue: Queue) -> Checks:
     """With a key that an exchange in hand makes nothing is in hand, so that all counts for its person."""
     who, made, last = (queue.person() for _ in range(3))
@@ -290,7 +321,7 @@ def queued() -> Checks:
     with tempfile.TemporaryDirectory() as name:
         queue = Queue(pathlib.Path(name))
         try:
-            for part in (in_hand, large, in_a_day, keys, keys_in_hand, keys_behind, names, turns, room, passed_on):
+            for part in (in_hand, large, in_a_day, keys, dead_keys, keys_in_hand, keys_behind, names, turns, room, passed_on):
                 yield from part(queue)
         finally:
             queue.close()
