@@ -250,13 +250,13 @@ def dead_keys(queue: Queue) -> Checks:
 
 
 def keys_in_hand(queue: Queue) -> Checks:
-    """With a key that an exchange in hand makes nothing is in hand, so that all counts for its person."""
+    """By a new key nothing is in hand while its exchange is, so that all counts for its person."""
     who, made, last = (queue.person() for _ in range(3))
     yield same("a View", DONE, queue.ask(who, "GET", "/incidents/1"))
     with queue.held() as stack:
         own = queue.hold(stack, who, "POST", "/me/key", exchange(made))
         for what, words in (("View", ("GET", "/incidents/1")), ("report", ("POST", "/incidents")), ("exchange", ("POST", "/me/key", exchange(last)))):
-            yield same(f"no {what} with a key that an exchange in hand makes", TURNS, queue.ask(made, *words))
+            yield same(f"no {what} by a new key while its exchange is in hand", TURNS, queue.ask(made, *words))
         view = queue.hold(stack, who, "GET", "/incidents/1")
         queue.hub.gate.set()
         yield same("the exchange, and a View by the old key, are answered", [DONE] * 2, [told(it) for it in (own, view)])
