@@ -531,7 +531,7 @@ ATTACKS: dict[str, tuple[Callable[[Served, Changes], Iterator[Check]], Changes]]
                                                    "    http-response track-sc2 var(txn.person) table iodef_hub_posts")]}),
     "one-key-many-addresses": (one_key_many_addresses, {"haproxy.cfg": [(" or is_report { sc_conn_cur(0) gt 2 }", ""), *WITHOUT_CLASS["haproxy.cfg"]]}),
     "exchanged-keys": (exchanged_keys, {"haproxy.cfg": [("    http-response set-map(/dev/null) %[var(txn.next)] %[var(txn.person)] if is_key { status 200 }\n", ""),
-                                                        ("if { var(txn.person),concat(/next),table_conn_cur(iodef_hub_turns) gt 0 } or is_key", "if is_key")]}),
+                                                        ("if !is_known { var(txn.own),concat(/next),table_conn_cur(iodef_hub_turns) gt 0 } or is_key", "if is_key")]}),
     "health-key": (health_key, {"haproxy.cfg": [('    http-request set-var-fmt(txn.person)  "%[var(txn.person)]/own" if !{ var(txn.address) -m found }', "")]}),
     "long-names": (long_names, {"haproxy.cfg": [("if is_report has_long_name", "if { always_false }")]}),
     "posts-within-the-watch": (posts_within_the_watch, {"haproxy.cfg": [(" if is_report { sc_conn_cur(1) gt 4 }", " if { always_false }")],

@@ -39,7 +39,7 @@ LIMITS = {
     "reports in hand with 1,024 commas and opening brackets or more, of a circle": "4",
     "reports and new revisions of one person in a day": "500",
     "new groups of one person in a day": "20",
-    "requests in hand with a key that an exchange in hand makes": "0",
+    "requests by a new key while its exchange is in hand": "0",
     "bytes of the name of a member in a report, an escape of JSON as one to five": "256",
     "memory that the next start needs": "80 % of what it may take",
     "time until a request is whole": "15 s",

@@ -31,7 +31,9 @@ DONE: Told = (200, None, None, None)
 
 
 class Hub(threading.Thread):
-    """Takes one request after another, and answers each when the gate is open, `/fails` with F2 and what has `/none` with 404."""
+    """Takes one request after another, and answers each when the gate is open: 200, but what has one of these words with its code."""
+
+    CODES = {"/fails": "F2", "/none": "N1", "/nobody": "K1", "/taken": "S1"}
 
     def __init__(self) -> None:
         super().__init__(daemon=True)
@@ -53,8 +55,8 @@ class Hub(threading.Thread):
             given.read(int(fields["Content-Length"] or 0))
             self.heads.append(" ".join([*head.split()[:2], *(f"{name}={value}" for name, value in fields.items() if name.lower() == "x-forwarded-for")]))
             self.gate.wait(30)
-            code = "F2" if "/fails" in head else "N1" if "/none" in head else ""
-            status = {"F2": "503 Service Unavailable", "N1": "404 Not Found", "": "200 OK"}[code]
+            code = next((code for word, code in self.CODES.items() if word in head), "")
+            status = {"F2": "503 Service Unavailable", "N1": "404 Not Found", "K1": "401 Unauthorized", "S1": "409 Conflict", "": "200 OK"}[code]
             body = json.dumps({"code": code}) if code else "{}"
             caller.sendall(f"HTTP/1.1 {status}\r\nContent-Type: application/json\r\nContent-Length: {len(body)}\r\nConnection: close\r\n\r\n{body}".encode())
 
@@ -90,6 +92,15 @@ class Queue:
 
     def ask(self, key: str, method: str, target: str, body: bytes = b"", address: str = "") -> Told:
         with contextlib.closing(self.begin(key, method, target, body, address)) as it:
+            return told(it)
+
+    def ask_by(self, words: list[str], method: str, target: str) -> Told:
+        """A request with several fields of that name."""
+        with contextlib.closing(http.client.HTTPConnection("127.0.0.1", self.port, timeout=60)) as it:
+            it.putrequest(method, target)
+            for name, value in (("X-Forwarded-For", NONE), *(("Authorization", word) for word in words)):
+                it.putheader(name, value)
+            it.endheaders()
             return told(it)
 
     @contextlib.contextmanager
@@ -188,6 +199,8 @@ def keys(queue: Queue) -> Checks:
     yield same("20 groups of three keys of a person are taken in a day, and two exchanges", [DONE] * 22, ends)
     full = (429, "posts", "3600", "too many groups in a day")
     yield same("the next key has none left", full, queue.ask(third, "POST", "/groups"))
+    queue.ask_by(["Bearer none", f"Bearer {third}"], "GET", "/me?/nobody")
+    yield same("also after a request with two keys, which the hub reads as none", full, queue.ask(third, "POST", "/groups"))
     yield same("an exchange for a key that another had", DONE, queue.ask(other, "POST", "/me/key", exchange(first)))
     yield same("leaves each its own counts", (DONE, full), (queue.ask(first, "POST", "/groups"), queue.ask(third, "POST", "/groups")))
     yield same("a key that is nobody's since counts by itself", DONE, queue.ask(second, "POST", "/groups"))
@@ -205,13 +218,45 @@ def keys(queue: Queue) -> Checks:
         yield same(f"an exchange with {what} isn't passed on", BAD_BODY, queue.ask(third, "POST", "/me/key", body))
 
 
+def two_lists(queue: Queue, what: str, dead: str, present: str) -> Checks:
+    """What a key that was exchanged has in hand isn't its person's."""
+    with queue.held() as stack:
+        for _ in range(2):
+            queue.hold(stack, dead, "GET", "/incidents?/nobody")
+        own = queue.hold(stack, present, "GET", "/incidents")
+        queue.hub.gate.set()
+        yield same(f"two lists in hand by {what} leave its person's be", DONE, told(own))
+
+
+def dead_keys(queue: Queue) -> Checks:
+    """A key that was exchanged counts by itself, whoever had it since."""
+    first, second, other, left, added = (queue.person() for _ in range(5))
+    yield same("a first key is exchanged", DONE, queue.ask(first, "POST", "/me/key", exchange(second)))
+    yield from two_lists(queue, "it", first, second)
+    with queue.held() as stack:
+        queue.hold(stack, first, "GET", "/incidents/1?/nobody")
+        yield same("no exchange back while it has a View in hand", TURNS, queue.ask(second, "POST", "/me/key", exchange(first)))
+    ends = [queue.ask(other, "POST", "/me/key", exchange(first)), queue.ask(first, "POST", "/me/key", exchange(left))]
+    yield same("another person takes it and leaves it", [DONE] * 2, ends)
+    for present in (second, left):
+        yield from two_lists(queue, "it then", first, present)
+    yield same("a person that was added with it exchanges it", DONE, queue.ask(first, "POST", "/me/key", exchange(added)))
+    yield from two_lists(queue, "it after that", first, added)
+    ends = [queue.ask(second, "POST", "/me/key", exchange(first)), *(queue.ask(first, "POST", "/groups") for _ in range(20))]
+    yield same("the first person takes it back", [DONE] * 21, ends)
+    yield from two_lists(queue, "the second key", second, first)
+    yield same("and has the day of one person", 429, queue.ask(first, "POST", "/groups")[0])
+    yield same("also by a third", (DONE[0], 429), (queue.ask(first, "POST", "/me/key", exchange(second))[0], queue.ask(second, "POST", "/groups")[0]))
+
+
 def keys_in_hand(queue: Queue) -> Checks:
-    """With a key that an exchange in hand makes nothing is in hand, so that all counts for its person."""
+    """By a new key nothing is in hand while its exchange is, so that all counts for its person."""
     who, made, last = (queue.person() for _ in range(3))
+    yield same("a View", DONE, queue.ask(who, "GET", "/incidents/1"))
     with queue.held() as stack:
         own = queue.hold(stack, who, "POST", "/me/key", exchange(made))
         for what, words in (("View", ("GET", "/incidents/1")), ("report", ("POST", "/incidents")), ("exchange", ("POST", "/me/key", exchange(last)))):
-            yield same(f"no {what} with a key that an exchange in hand makes", TURNS, queue.ask(made, *words))
+            yield same(f"no {what} by a new key while its exchange is in hand", TURNS, queue.ask(made, *words))
         view = queue.hold(stack, who, "GET", "/incidents/1")
         queue.hub.gate.set()
         yield same("the exchange, and a View by the old key, are answered", [DONE] * 2, [told(it) for it in (own, view)])
@@ -221,6 +266,33 @@ def keys_in_hand(queue: Queue) -> Checks:
         with queue.held() as stack:
             queue.hold(stack, taken, *words)
             yield same(f"no exchange for a key with {what} in hand", TURNS, queue.ask(queue.person(), "POST", "/me/key", exchange(taken)))
+
+
+def keys_of_others(queue: Queue) -> Checks:
+    """Who sends another's digest holds nobody off: a stranger never, a member only until the hub says once that it is taken."""
+    stranger, member, gone, posting = (queue.person() for _ in range(4))
+    asked = [(member, "GET", "/incidents/1"), (gone, "GET", "/incidents/1"), (gone, "GET", "/me?/nobody"), (posting, "POST", "/incidents")]
+    yield same("who was served, who isn't any person since, and who posted", [200, 200, 401, 200], [queue.ask(*words)[0] for words in asked])
+    for what, by, word, is_served, is_told in (
+        ("a stranger", stranger, "/nobody", False, False),
+        ("a key that was served and is nobody's", gone, "/nobody", False, False),
+        ("a member, and its person was served", member, "/taken", True, False),
+        ("a poster, and the hub has told that it is taken", posting, "/taken", False, True),
+    ):
+        victim = queue.person()
+        if is_served:
+            yield same("a person is served", DONE, queue.ask(victim, "GET", "/incidents/1"))
+        if is_told:
+            yield same("an exchange for a key that is taken", 409, queue.ask(by, "POST", f"/me/key?{word}", exchange(victim))[0])
+        with queue.held() as stack:
+            queue.hold(stack, by, "POST", f"/me/key?{word}", exchange(victim))
+            view = queue.hold(stack, victim, "GET", "/incidents/1")
+            queue.hub.gate.set()
+            yield same(f"while a key's digest is sent by {what}, a View by it is answered", DONE, told(view))
+    yield same("the last of these keys is exchanged", DONE, queue.ask(victim, "POST", "/me/key", exchange(queue.person())))
+    with queue.held() as stack:
+        queue.hold(stack, member, "POST", "/me/key", exchange(victim))
+        yield same("it is a new key again", TURNS, queue.ask(victim, "GET", "/incidents/1"))
 
 
 def keys_behind(queue: Queue) -> Checks:
@@ -290,7 +362,7 @@ def queued() -> Checks:
     with tempfile.TemporaryDirectory() as name:
         queue = Queue(pathlib.Path(name))
         try:
-            for part in (in_hand, large, in_a_day, keys, keys_in_hand, keys_behind, names, turns, room, passed_on):
+            for part in (in_hand, large, in_a_day, keys, dead_keys, keys_in_hand, keys_of_others, keys_behind, names, turns, room, passed_on):
                 yield from part(queue)
         finally:
             queue.close()
