@@ -113,6 +113,34 @@ def by_lost_key(check: Check, asker: Any, between: Any, folder: pathlib.Path, bu
     check("command new-key that is sent again", (ask("new-key", "--key-file", str(folder / "again.key"))[0], between.asked), (0, ["POST /me/key", "POST /me/key", "GET /me"]))
 
 
+def by_failed_key(check: Check, asker: Any, between: Any, folder: pathlib.Path, failed: str, busy: str) -> None:
+    """An exchange that the hub gives up. If its machine stops then, the new key may hold, so the file with it stays, and each hub gets it."""
+    old, url = (folder / "again.key").read_text().strip(), f"http://127.0.0.1:{between.port}"
+    ask = asker(between.port, old, "--tries", "1")
+    for name, act in (("F1", failed), ("F2", failed.replace("F1", "F2"))):
+        file = folder / f"{name}.key"
+        between.take(act)
+        check(f"command new-key that gets {name}", (ask("new-key", "--key-file", str(file))[0], file.exists()), (1, True))
+        check("  it says to keep both", f"keep both keys: the new one, in {file}, may come to hold; run this again with --made" in ask.errors)
+    check("  then by --made it is exchanged", (ask("new-key", "--key-file", str(file), "--made")[0], ask("me")[0]), (0, 1))
+    again = asker(between.port, file.read_text().strip(), "--tries", "2")
+    for name, act in (("another refusal", failed.replace("503 Service Unavailable", "409 Conflict").replace("F1", "S1")), ("a busy proxy's", busy)):
+        other = folder / f"{name}.key"
+        between.take(failed, act)
+        check(f"the file stays at F1 and then {name}", (again("new-key", "--key-file", str(other))[0], other.exists()), (1, True))
+    ask, other = asker(between.port, file.read_text().strip(), "--tries", "1"), folder / "busy.key"
+    between.take(busy)
+    check("and goes at the latter alone", (ask("new-key", "--key-file", str(other))[0], other.exists()), (1, False))
+    between.take(failed)
+    check("the second hub gets the key of which the first one gave F1", (ask("--url", url, "--url", url, "new-key", "--key-file", str(other))[0], between.asked), (
+        1, ["POST /me/key", "GET /me", "POST /me/key", "GET /me"]))
+    check("  the same one", (between.bodies[0], asker(between.port, other.read_text().strip())("me")[0]), (between.bodies[2], 0))
+    between.take(failed)
+    admin, late = asker(between.port, "admin-key", "--tries", "1"), folder / "late.key"
+    check("command add-person that gets F1 keeps the key's file", (admin("add-person", "4", "Gus", "reader", "--key-file", str(late))[0], late.exists(), admin.errors.splitlines()[0]), (
+        1, True, f"iodef-hub-ask: the key is in {late}, in case the person was added"))
+
+
 def by_meanwhile(check: Check, asker: Any, between: Any, answer: Callable[..., str]) -> None:
     """A colleague gives one of two ended permissions a later end, between the first look and the second."""
     bank = asker(between.port, "bank-key", TZ="UTC0")
