@@ -10,7 +10,7 @@ from iodef_hub import Hub, HubError, MayBeTaken, Refused, digest_of, new_key
 from .characters import shown
 from .reading import key_of
 from .sharing import check_circle
-from .telling import Teller, warn
+from .telling import Teller, Usage, warn
 
 
 TAKEN = b'{"done":true}'  # the answer to a change
@@ -36,9 +36,12 @@ def is_taken(hub: Hub, key: str) -> bool:
 
 
 def key_to_take(given: argparse.Namespace) -> str:
-    """A new key, written into its file; with --made the one that is there."""
+    """A new key, written into its file; with --made the one that is there, which isn't the caller's."""
     if given.made:
-        return key_of({"IODEF_HUB_KEY_FILE": given.key_file})
+        key = key_of({"IODEF_HUB_KEY_FILE": given.key_file})
+        if key == key_of(os.environ):
+            raise Usage(f"{given.key_file} has the key that you use, and --made wants the new one: nothing was sent")
+        return key
     key = new_key()
     write_key(given.key_file, key)
     return key

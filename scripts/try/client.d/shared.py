@@ -94,6 +94,9 @@ def by_new_key(check: Check, asker: Callable[..., Any], folder: pathlib.Path) ->
     ran = asker(key)("new-key", "--key-file", str(other), "--made")
     check("command new-key --made", (ran[0], asker(key)("me")[0], asker("ones-own-key")("me")[0]), (0, 1, 0))
     check("and again, as it was taken", asker(key)("new-key", "--key-file", str(other), "--made"), ran)
+    own = asker("ones-own-key")
+    check("command new-key --made of the key that is used", (own("new-key", "--key-file", str(other), "--made"), own.errors), (
+        (2, ""), f"iodef-hub-ask: {other} has the key that you use, and --made wants the new one: nothing was sent\n"))
     (folder / "eve.key").write_text("ones-own-key\n")
 
 
