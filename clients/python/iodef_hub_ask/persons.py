@@ -17,11 +17,18 @@ TAKEN = b'{"done":true}'  # the answer to a change
 
 
 def write_key(name: str, key: str) -> None:
-    """Writes a key before it is sent, so that one which was taken is never lost; a file that is there stays as it is."""
+    """Writes a key before it is sent, durable in its folder, so that one which was taken is never lost. A file that is there stays as it is."""
     with os.fdopen(os.open(name, os.O_WRONLY | os.O_CREAT | os.O_EXCL, 0o600), "w") as file:
         file.write(key + "\n")
         file.flush()
         os.fsync(file.fileno())
+    if os.name != "posix":  # there a folder can't be opened
+        return
+    folder = os.open(os.path.dirname(name) or ".", os.O_RDONLY)
+    try:
+        os.fsync(folder)
+    finally:
+        os.close(folder)
 
 
 def is_taken(hub: Hub, key: str) -> bool:

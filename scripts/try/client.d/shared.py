@@ -2,10 +2,15 @@
 from __future__ import annotations
 
 import json
+import os
 import pathlib
+import stat
 import time
+import unittest.mock
 from collections.abc import Callable
 from typing import Any
+
+from iodef_hub_ask import persons
 
 Check = Callable[..., None]
 FIRST, SECOND = "/Incident/0/EventData/0", "/Incident/0/EventData/1"
@@ -78,10 +83,19 @@ def by_withdrawing(check: Check, asker: Callable[..., Any], number: str, ended: 
     check("the others are there", sorted(row[1:4] for row in left), [["org", 3, None], ["person", 4, 2066918400]])
 
 
+def synced(file: pathlib.Path) -> list[bool]:
+    """Of all that is synced when a key is written whether it is a folder."""
+    found: list[bool] = []
+    with unittest.mock.patch("os.fsync", lambda it: found.append(stat.S_ISDIR(os.fstat(it).st_mode))):
+        persons.write_key(str(file), "key")
+    return found
+
+
 def by_new_key(check: Check, asker: Callable[..., Any], folder: pathlib.Path) -> None:
     file = folder / "new.key"
     eve = asker((folder / "eve.key").read_text().strip())
     check("command new-key", eve("new-key", "--key-file", str(file)), (0, f"your key is the one in {file}; the old one is nobody's\n"))
+    check("a key is durable before it is sent, and so is its place in the folder", synced(folder / "synced.key"), [False, True])
     key = file.read_text().strip()
     check("the key's file is its owner's alone, and its key new", (oct(file.stat().st_mode & 0o777), len(key) >= 43), ("0o600", True))
     check("the hub knows the new key, and the old one is nobody's", (json.loads(asker(key)("me")[1])["number"], eve("me")[0]), (6, 1))
