@@ -4,7 +4,7 @@ from __future__ import annotations
 import argparse
 import datetime
 
-from iodef_hub import RULES, Hub, Labelled, Permission, Sharing, View, label_of, labelled_classes
+from iodef_hub import RULES, Hub, Labelled, Permission, Refused, Sharing, View, label_of, labelled_classes
 
 from .characters import shown
 from .sharing import CLEARED, INCIDENT, at_path, class_line, level_words
@@ -81,7 +81,10 @@ def do_sharing(hub: Hub, given: argparse.Namespace, teller: Teller) -> None:
     view = hub.view(given.number)
     given.names.learn("group", {str(each.number): each.name for each in hub.groups()})
     given.names.learn("community", {str(each.number): each.name for each in hub.communities()})
-    found = hub.sharing(given.number)
+    try:
+        found = hub.sharing(given.number)
+    except Refused as fault:  # the View was served
+        raise Refused(fault.status, "N1", "only its source can ask how it is shared") if fault.code == "N1" else fault from None
     if found.revision != view.revision:
         raise Undone(f"incident {given.called} has become revision {found.revision} meanwhile: run this again")
     if given.path is not None:

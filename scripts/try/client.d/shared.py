@@ -63,7 +63,9 @@ def by_sharing(check: Check, asker: Callable[..., Any], folder: pathlib.Path) ->
           ((2, ""), f"iodef-hub-ask: incident {number} has no class at /Incident/0/Method/0\n"))
     raw = json.loads(asker("bank-key", "--json")("sharing", number)[1])
     check("command sharing, the hub's own JSON", (raw["gates"], raw["recipients"], len(raw["permissions"])), ([["", 3, 0], [SECOND, 4, 1]], [["person", 4], ["org", 3]], 3))
-    check("command sharing of another's report", (telco("sharing", number), telco.errors), ((1, ""), "iodef-hub-ask: N1: no such incident for you\n"))
+    check("command sharing of another's report", (telco("sharing", number), telco.errors), ((1, ""), "iodef-hub-ask: N1: only its source can ask how it is shared\n"))
+    check("command sharing of another's report, the hub's own JSON", asker("telco-key", "--json")("sharing", number)[1].splitlines()[-1:],
+          ['{"code":"N1","detail":"","reason":"no such incident for you"}'])
     by_withdrawing(check, asker, number, "\t".join(last).split(", ended ")[1].split("\t")[0])
     by_new_key(check, asker, folder)
 
