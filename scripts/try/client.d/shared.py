@@ -79,7 +79,7 @@ def by_withdrawing(check: Check, asker: Callable[..., Any], number: str, ended: 
     bank = asker("bank-key")
     bank.environment["TZ"] = "UTC0"
     check("command withdraw-ended", (bank("withdraw-ended", number), bank.errors), (
-        (0, f"community 1 has no permission any more at {FIRST} of incident {number}: it ended {ended}\n"), ""))
+        (0, f"community 1 has no permission at {FIRST} of incident {number}: it ended {ended}\n"), ""))
     check("and again", (bank("withdraw-ended", number), bank.errors), ((0, ""), f"no permission of incident {number} has ended\n"))
     left = json.loads(asker("bank-key", "--json")("sharing", number)[1])["permissions"]
     check("the others are there", sorted(row[1:4] for row in left), [["org", 3, None], ["person", 4, 2066918400]])
@@ -170,7 +170,7 @@ def by_meanwhile(check: Check, asker: Any, between: Any, answer: Callable[..., s
     bank("grant", number, FIRST, "org", "3", "--until", "2035-01-01T00:00:00Z")
     between.take(answer("200 OK", before))
     check("command withdraw-ended of what a colleague has changed", (bank("withdraw-ended", number), bank.errors), (
-        (0, f"organisation 3 has no permission any more at {SECOND} of incident {number}: it ended 2024-06-01T00:00:00+00:00\n"),
+        (0, f"organisation 3 has no permission at {SECOND} of incident {number}: it ended 2024-06-01T00:00:00+00:00\n"),
         f"organisation 3 keeps what it has at {FIRST}: it was changed meanwhile\n"))
     look = f"GET /incidents/{number}/sharing"
     check("  it looks again before each", between.asked, [look, look, look, f"POST /incidents/{number}/withdraw"])
