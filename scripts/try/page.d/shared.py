@@ -299,6 +299,11 @@ def new_key_of_lost_answer(trial: Trial) -> None:
     away = (503, "application/json", b'{"code":"Away","detail":"","reason":"hub restarts or is busy"}')
     trial.enter("gil")
     key = begin_key(trial)
+    for code in ("F1", "F2"):
+        trial.origin.instead["/me/key"] = (503, "application/json", json.dumps({"code": code, "detail": "", "reason": "given up"}).encode())
+        exchange(trial)
+        trial.check_has(f"of {code} it says when the change may hold", trial.browser.text("#refused"), "if its machine stops, a change may be there all the same", f"({code})")
+    trial.check("and the new key stays, and can't be discarded", [trial.browser.text("#pane .secret"), "Discard" in trial.browser.text("#pane")] == [key, False])
     trial.origin.instead["/me/key"] = away
     exchange(trial)
     trial.check_has("of a lost request the old key holds", trial.browser.text("#refused"), "does not know the new key, so the old one still holds")
