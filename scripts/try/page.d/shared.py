@@ -272,6 +272,10 @@ def exchange(trial: Trial) -> None:
     trial.browser.settle()
 
 
+def have_it(trial: Trial) -> None:
+    trial.browser.run("[...document.querySelectorAll('#pane button')].find(one => one.textContent === 'I have it')?.click()")
+
+
 def new_key(trial: Trial) -> None:
     trial.enter("gil-key")
     before = trial.sent("POST", "/me/key")
@@ -288,7 +292,11 @@ def new_key(trial: Trial) -> None:
     trial.check("the hub knows the new key, and the old one is nobody's", told == ["K1", "", "K1"], told)
     forms = trial.origin.forms("POST", "/me/key")[before:]
     trial.check("its digest alone was sent", forms == [{"key": hashlib.sha256(other.encode()).hexdigest()}], forms)
+    trial.check("it is shown until it is said to be stored", trial.browser.text("#pane .secret") == other, trial.browser.text("#pane"))
+    trial.check("and can't be sent again", "exchange the keys" not in trial.browser.text("#pane"), trial.browser.text("#pane"))
+    have_it(trial)
     trial.check("it isn't shown a second time", other not in str(trial.browser.run("return document.documentElement.outerHTML")))
+    trial.check_has("what is sent is told", trial.browser.text("#pane"), "asks each hub of the circle with it", "sends its SHA-256")
     trial.go("#incidents/1")
     head = trial.origin.heads[-1][1]["Authorization"]
     trial.check("the page goes on with it", head == f"Bearer {other}" and trial.browser.text("#refused") == "", head)
