@@ -447,6 +447,8 @@ class Hub:
         self._tls = ssl.create_default_context(cafile=ca) if parts.scheme == "https" else None
         self.heard = b""
         """The bytes of the newest answer's body, as received."""
+        self.failed = False
+        """Whether F1 or F2 answered a try of the newest request. If the hub's machine stops then, a change may be there all the same."""
 
     def with_key(self, key: str) -> Hub:
         """The same hub, as the person with this key sees it."""
@@ -498,6 +500,7 @@ class Hub:
         """The value of the answer. `again` says what the answer to a change means if it is sent again; a read has none."""
         # Slashes and colons as they are: 16 gates are to fit a head.
         target = self._path + path + ("?" + urllib.parse.urlencode(query, safe="/:") if query else "")
+        self.failed = False
         for left in range(self._tries - 1, -1, -1):
             pause = self._pause * 2 ** (self._tries - 1 - left)
             heard = self._once(method, target, body)
@@ -520,7 +523,9 @@ class Hub:
                 return value
             refusal = _refusal(status, value)
             # By F1 and F2 the hub says that nothing was changed, by 429 a proxy that the hub wasn't asked.
-            is_untaken = status == 429 or status == 503 and refusal is not None and refusal.code in ("F1", "F2")
+            is_given_up = status == 503 and refusal is not None and refusal.code in ("F1", "F2")
+            self.failed |= is_given_up
+            is_untaken = status == 429 or is_given_up
             if left and (is_untaken or not again and status in (502, 503, 504)):
                 time.sleep(min(int(wait) if wait and wait.isascii() and wait.isdigit() and len(wait) < 6 else pause, 30))
                 continue

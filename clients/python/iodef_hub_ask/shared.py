@@ -148,7 +148,7 @@ def do_withdraw_ended(hub: Hub, given: argparse.Namespace, teller: Teller) -> No
     for each in ended:
         if each in hub.sharing(given.number).permissions:
             hub.withdraw(given.number, each.path, each.kind, each.target)
-            teller.tell_change(hub.heard, f"{given.names(each.kind, each.target)} has no permission any more at {shown(each.path)} of incident"
+            teller.tell_change(hub.heard, f"{given.names(each.kind, each.target)} has no permission at {shown(each.path)} of incident"
                                           f" {given.called}: it {end_words(each)}")
         else:
             note(f"{given.names(each.kind, each.target)} keeps what it has at {shown(each.path)}: it was changed meanwhile")

@@ -133,7 +133,7 @@ class Words:
                  "the sharing groups of your organisation")
         self.add("communities", told(lambda hub, given: [shown(json.dumps(asdict(each), ensure_ascii=False)) for each in hub.communities()]),
                  "the communities of your organisation, their members, and the communities connected to them")
-        fresh = self.add("new-key", do_new_key, "exchanges your key for a new one, and asks the hub with it")
+        fresh = self.add("new-key", do_new_key, "exchanges your key for a new one, and asks the hub with the new one")
         fresh.add_argument("--key-file", required=True, help="write the new key into this file, which must not exist")
         fresh.add_argument("--made", action="store_true", help="the file has the new key already, such as for a hub that lacks it")
         fresh.set_defaults(fresh=None)

@@ -2,10 +2,15 @@
 from __future__ import annotations
 
 import json
+import os
 import pathlib
+import stat
 import time
+import unittest.mock
 from collections.abc import Callable
 from typing import Any
+
+from iodef_hub_ask import persons
 
 Check = Callable[..., None]
 FIRST, SECOND = "/Incident/0/EventData/0", "/Incident/0/EventData/1"
@@ -65,6 +70,8 @@ def by_sharing(check: Check, asker: Callable[..., Any], folder: pathlib.Path) ->
     check("command sharing, the hub's own JSON", (raw["gates"], raw["recipients"], len(raw["permissions"])), ([["", 3, 0], [SECOND, 4, 1]], [["person", 4], ["org", 3]], 3))
     check("command sharing of another's report", (telco("sharing", number), telco.errors), ((1, ""), text_of(
         f"incident {number} is of organisation 2, and the hub tells only its source how a report is shared", "iodef-hub-ask: N1: no such incident for you")))
+    check("command sharing of another's report, the hub's own JSON", asker("telco-key", "--json")("sharing", number)[1].splitlines()[-1:],
+          ['{"code":"N1","detail":"","reason":"no such incident for you"}'])
     check("command sharing --help says what a path is", "/Incident/0/EventData/1" in bank("sharing", "--help")[1])
     by_circle(check, asker)
     by_withdrawing(check, asker, number, "\t".join(last).split(", ended ")[1].split("\t")[0])
@@ -100,16 +107,25 @@ def by_withdrawing(check: Check, asker: Callable[..., Any], number: str, ended: 
     bank = asker("bank-key")
     bank.environment["TZ"] = "UTC0"
     check("command withdraw-ended", (bank("withdraw-ended", number), bank.errors), (
-        (0, f"community 1 has no permission any more at {FIRST} of incident {number}: it ended {ended}\n"), ""))
+        (0, f"community 1 has no permission at {FIRST} of incident {number}: it ended {ended}\n"), ""))
     check("and again", (bank("withdraw-ended", number), bank.errors), ((0, ""), f"no permission of incident {number} has ended\n"))
     left = json.loads(asker("bank-key", "--json")("sharing", number)[1])["permissions"]
     check("the others are there", sorted(row[1:4] for row in left), [["org", 3, None], ["person", 4, 2066918400]])
+
+
+def synced(file: pathlib.Path) -> list[bool]:
+    """Of all that is synced when a key is written whether it is a folder."""
+    found: list[bool] = []
+    with unittest.mock.patch("os.fsync", lambda it: found.append(stat.S_ISDIR(os.fstat(it).st_mode))):
+        persons.write_key(str(file), "key")
+    return found
 
 
 def by_new_key(check: Check, asker: Callable[..., Any], folder: pathlib.Path) -> None:
     file = folder / "new.key"
     eve = asker((folder / "eve.key").read_text().strip())
     check("command new-key", eve("new-key", "--key-file", str(file)), (0, f"your key is the one in {file}; the old one is nobody's\n"))
+    check("a key is durable before it is sent, and so is its place in the folder", synced(folder / "synced.key"), [False, True])
     key = file.read_text().strip()
     check("the key's file is its owner's alone, and its key new", (oct(file.stat().st_mode & 0o777), len(key) >= 43), ("0o600", True))
     check("the hub knows the new key, and the old one is nobody's", (json.loads(asker(key)("me")[1])["number"], eve("me")[0]), (6, 1))
@@ -122,6 +138,9 @@ def by_new_key(check: Check, asker: Callable[..., Any], folder: pathlib.Path) ->
     ran = asker(key)("new-key", "--key-file", str(other), "--made")
     check("command new-key --made", (ran[0], asker(key)("me")[0], asker("ones-own-key")("me")[0]), (0, 1, 0))
     check("and again, as it was taken", asker(key)("new-key", "--key-file", str(other), "--made"), ran)
+    own = asker("ones-own-key")
+    check("command new-key --made of the key that is used", (own("new-key", "--key-file", str(other), "--made"), own.errors), (
+        (2, ""), f"iodef-hub-ask: {other} has the key that you use, and --made wants the new one: nothing was sent\n"))
     (folder / "eve.key").write_text("ones-own-key\n")
 
 
@@ -141,6 +160,34 @@ def by_lost_key(check: Check, asker: Any, between: Any, folder: pathlib.Path, bu
     check("command new-key that is sent again", (ask("new-key", "--key-file", str(folder / "again.key"))[0], between.asked), (0, ["POST /me/key", "POST /me/key", "GET /me"]))
 
 
+def by_failed_key(check: Check, asker: Any, between: Any, folder: pathlib.Path, failed: str, busy: str) -> None:
+    """An exchange that the hub gives up. If its machine stops then, the new key may hold, so the file with it stays, and each hub gets it."""
+    old, url = (folder / "again.key").read_text().strip(), f"http://127.0.0.1:{between.port}"
+    ask = asker(between.port, old, "--tries", "1")
+    for name, act in (("F1", failed), ("F2", failed.replace("F1", "F2"))):
+        file = folder / f"{name}.key"
+        between.take(act)
+        check(f"command new-key that gets {name}", (ask("new-key", "--key-file", str(file))[0], file.exists()), (1, True))
+        check("  it says to keep both", f"keep both keys: the new one, in {file}, may come to hold; run this again with --made" in ask.errors)
+    check("  then by --made it is exchanged", (ask("new-key", "--key-file", str(file), "--made")[0], ask("me")[0]), (0, 1))
+    again = asker(between.port, file.read_text().strip(), "--tries", "2")
+    for name, act in (("another refusal", failed.replace("503 Service Unavailable", "409 Conflict").replace("F1", "S1")), ("a busy proxy's", busy)):
+        other = folder / f"{name}.key"
+        between.take(failed, act)
+        check(f"the file stays at F1 and then {name}", (again("new-key", "--key-file", str(other))[0], other.exists()), (1, True))
+    ask, other = asker(between.port, file.read_text().strip(), "--tries", "1"), folder / "busy.key"
+    between.take(busy)
+    check("and goes at the latter alone", (ask("new-key", "--key-file", str(other))[0], other.exists()), (1, False))
+    between.take(failed)
+    check("the second hub gets the key of which the first one gave F1", (ask("--url", url, "--url", url, "new-key", "--key-file", str(other))[0], between.asked), (
+        1, ["POST /me/key", "GET /me", "POST /me/key", "GET /me"]))
+    check("  the same one", (between.bodies[0], asker(between.port, other.read_text().strip())("me")[0]), (between.bodies[2], 0))
+    between.take(failed)
+    admin, late = asker(between.port, "admin-key", "--tries", "1"), folder / "late.key"
+    check("command add-person that gets F1 keeps the key's file", (admin("add-person", "4", "Gus", "reader", "--key-file", str(late))[0], late.exists(), admin.errors.splitlines()[0]), (
+        1, True, f"iodef-hub-ask: the key is in {late}, in case the person was added"))
+
+
 def by_meanwhile(check: Check, asker: Any, between: Any, answer: Callable[..., str]) -> None:
     """A colleague gives one of two ended permissions a later end, between the first look and the second."""
     bank = asker(between.port, "bank-key", TZ="UTC0")
@@ -151,7 +198,7 @@ def by_meanwhile(check: Check, asker: Any, between: Any, answer: Callable[..., s
     bank("grant", number, FIRST, "org", "3", "--until", "2035-01-01T00:00:00Z")
     between.take(answer("200 OK", before))
     check("command withdraw-ended of what a colleague has changed", (bank("withdraw-ended", number), bank.errors), (
-        (0, f"organisation 3 has no permission any more at {SECOND} of incident {number}: it ended 2024-06-01T00:00:00+00:00\n"),
+        (0, f"organisation 3 has no permission at {SECOND} of incident {number}: it ended 2024-06-01T00:00:00+00:00\n"),
         f"organisation 3 keeps what it has at {FIRST}: it was changed meanwhile\n"))
     look = f"GET /incidents/{number}/sharing"
     check("  it looks again before each", between.asked, [look, look, look, f"POST /incidents/{number}/withdraw"])

@@ -330,6 +330,10 @@ def exchange(trial: Trial) -> None:
     trial.browser.settle()
 
 
+def have_it(trial: Trial) -> None:
+    trial.browser.run("[...document.querySelectorAll('#pane button')].find(one => one.textContent === 'I have it')?.click()")
+
+
 def new_key(trial: Trial) -> None:
     trial.enter("gil-key")
     before = trial.sent("POST", "/me/key")
@@ -346,7 +350,11 @@ def new_key(trial: Trial) -> None:
     trial.check("the hub knows the new key, and the old one is nobody's", told == ["K1", "", "K1"], told)
     forms = trial.origin.forms("POST", "/me/key")[before:]
     trial.check("its digest alone was sent", forms == [{"key": hashlib.sha256(other.encode()).hexdigest()}], forms)
+    trial.check("it is shown until it is said to be stored", trial.browser.text("#pane .secret") == other, trial.browser.text("#pane"))
+    trial.check("and can't be sent again", "exchange the keys" not in trial.browser.text("#pane"), trial.browser.text("#pane"))
+    have_it(trial)
     trial.check("it isn't shown a second time", other not in str(trial.browser.run("return document.documentElement.outerHTML")))
+    trial.check_has("what is sent is told", trial.browser.text("#pane"), "asks each hub of the circle with it", "sends its SHA-256")
     trial.go("#incidents/1")
     head = trial.origin.heads[-1][1]["Authorization"]
     trial.check("the page goes on with it", head == f"Bearer {other}" and trial.browser.text("#refused") == "", head)
@@ -357,6 +365,11 @@ def new_key_of_lost_answer(trial: Trial) -> None:
     away = (503, "application/json", b'{"code":"Away","detail":"","reason":"hub restarts or is busy"}')
     trial.enter("gil")
     key = begin_key(trial)
+    for code in ("F1", "F2"):
+        trial.origin.instead["/me/key"] = (503, "application/json", json.dumps({"code": code, "detail": "", "reason": "given up"}).encode())
+        exchange(trial)
+        trial.check_has(f"of {code} it says when the change may hold", trial.browser.text("#refused"), "if its machine stops, a change may be there all the same", f"({code})")
+    trial.check("and the new key stays, and can't be discarded", [trial.browser.text("#pane .secret"), "Discard" in trial.browser.text("#pane")] == [key, False])
     trial.origin.instead["/me/key"] = away
     exchange(trial)
     trial.check_has("of a lost request the old key holds", trial.browser.text("#refused"), "does not know the new key, so the old one still holds")
