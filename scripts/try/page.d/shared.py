@@ -351,6 +351,7 @@ def new_key(trial: Trial) -> None:
     forms = trial.origin.forms("POST", "/me/key")[before:]
     trial.check("its digest alone was sent", forms == [{"key": hashlib.sha256(other.encode()).hexdigest()}], forms)
     trial.check("it is shown until it is said to be stored", trial.browser.text("#pane .secret") == other, trial.browser.text("#pane"))
+    trial.check_has("and so is what a restored hub knows", trial.browser.text("#pane"), "Keep the old one for some hours", "restored from an earlier copy")
     trial.check("and can't be sent again", "exchange the keys" not in trial.browser.text("#pane"), trial.browser.text("#pane"))
     have_it(trial)
     trial.check("it isn't shown a second time", other not in str(trial.browser.run("return document.documentElement.outerHTML")))
