@@ -10,8 +10,8 @@ use std::os::unix::fs::{MetadataExt, OpenOptionsExt};
 /// The most bytes of a store's file that has no tables.
 const MOST_OF_BLANK: u64 = 4096;
 
-/// More bytes than the head of a log has, and fewer than that head and the first page.
-const HEAD_OF_LOG: usize = 64;
+/// More bytes than a log has with its head and one page, and fewer than with a store's pages.
+const BLANK_LOG: usize = 8192;
 
 /// Which file it is, whatever its name.
 #[derive(Clone, Copy, PartialEq, Eq)]
@@ -108,11 +108,11 @@ fn is_blank(rt: &HostRuntime, path: &str, made: Identity) -> bool {
     }
 }
 
-/// Returns whether no page is in the log: behind its head it has zeros alone, as room that is reserved. A log that isn't
-/// there has no page.
+/// Returns whether no tables are in the log: behind its first page it has zeros alone, as room that is reserved. A log
+/// that isn't there has none.
 fn is_blank_log(rt: &HostRuntime, path: &str) -> bool {
     match fs::read(rt, path) {
-        Ok(bytes) => bytes.iter().skip(HEAD_OF_LOG).all(|byte| *byte == 0),
+        Ok(bytes) => bytes.iter().skip(BLANK_LOG).all(|byte| *byte == 0),
         Err(error) => error.kind() == ErrorKind::NotFound,
     }
 }
