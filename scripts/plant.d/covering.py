@@ -23,7 +23,7 @@ def of_section(name: str) -> Check:
 
 
 class Sections:
-    """What a whole run without a fault ran of the page's script, and what it told, which is known of each section then."""
+    """What a whole run without a fault ran of the page's script. What it told is known of its first section, which begins as it does alone."""
 
     def __init__(self, programs: dict[str, str], tree: Tree, known: Known) -> None:
         script = SCRIPT.search((tree.folder / PAGE).read_bytes())
@@ -37,8 +37,7 @@ class Sections:
     def run(self, command: list[str], tree: Tree, known: Known, file: pathlib.Path) -> None:
         new = ROOM / "page.new"
         holds, fails = ran(tree.lines([*command, "--covered", str(new)], float("inf")))
-        for name in json.loads(new.read_text()):
-            known.add(of_section(name).words, holds, fails)
+        known.add(of_section(next(iter(json.loads(new.read_text())))).words, holds, fails)
         new.rename(file)
 
     def checks(self, fault: Fault) -> list[Check]:
