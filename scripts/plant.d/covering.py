@@ -4,12 +4,15 @@ from __future__ import annotations
 import json
 import pathlib
 import re
+import time
 from typing import Any
 
 from fault import Fault
 from trying import ROOM, Answer, Check, Known, Tree, all_checks, ran
 
 PAGE = "web/index.html"
+# A whole run takes three minutes on a machine that has nothing else to do.
+MOST_SECONDS = 7200
 SCRIPT = re.compile(rb"<script[^>]*>(.*?)</script>", re.S)
 
 
@@ -36,7 +39,7 @@ class Sections:
 
     def run(self, command: list[str], tree: Tree, known: Known, file: pathlib.Path) -> None:
         new = ROOM / "page.new"
-        holds, fails = ran(tree.lines([*command, "--covered", str(new)], float("inf")))
+        holds, fails = ran(tree.lines([*command, "--covered", str(new)], time.monotonic() + MOST_SECONDS))
         known.add(of_section(next(iter(json.loads(new.read_text())))).words, holds, fails)
         new.rename(file)
 
