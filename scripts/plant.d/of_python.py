@@ -2,13 +2,21 @@
 from __future__ import annotations
 
 import ast
+import functools
 import itertools
+import pathlib
 import re
+import shutil
+import subprocess
+import sys
+import tempfile
 from collections.abc import Callable, Iterator
 
 from fault import SWITCHES, TURNED, Change, other_number
 
 OPERATOR = re.compile(rb"==|!=|<=|>=|<|>|\bnot\s+in\b|\bis\s+not\b|\bin\b|\bis\b")
+TOP = pathlib.Path(__file__).resolve().parent.parent.parent
+CLIENTS = "clients/python"
 # So long is a text that is compared at most, for it to be changed.
 LONGEST_TEXT = 30
 
@@ -126,9 +134,21 @@ def changes(text: bytes) -> Iterator[Change]:
 
 
 def refusal(text: bytes, path: str) -> str:
-    """Why Python refuses the file, or nothing."""
+    """Why Python refuses the file, or a client's module when it is imported; or nothing."""
     try:
         compile(text, path, "exec")
     except (SyntaxError, ValueError) as fault:
         return str(fault)
-    return ""
+    return refused_import(text, path) if path.startswith(f"{CLIENTS}/iodef") and path.endswith(".py") else ""
+
+
+@functools.cache
+def refused_import(text: bytes, path: str) -> str:
+    """What a module raises when it is imported, beside the others as they are."""
+    with tempfile.TemporaryDirectory() as name:
+        folder = pathlib.Path(name)
+        shutil.copytree(TOP / CLIENTS, folder / CLIENTS, symlinks=True, ignore=shutil.ignore_patterns("__pycache__"))
+        (folder / path).write_bytes(text)
+        module = path.removeprefix(f"{CLIENTS}/").removesuffix(".py").replace("/", ".")
+        ran = subprocess.run([sys.executable, "-B", "-c", f"import {module}"], cwd=folder / CLIENTS, capture_output=True, text=True)
+    return ran.stderr[-300:] if ran.returncode else ""

@@ -16,7 +16,7 @@ import tempfile
 import threading
 import time
 import tomllib
-from collections.abc import Generator, Iterator
+from collections.abc import Generator, Iterable, Iterator
 from dataclasses import dataclass
 
 from fault import Fault, changed
@@ -24,12 +24,10 @@ from fault import Fault, changed
 HERE = pathlib.Path(__file__).resolve().parent
 TOP = HERE.parent.parent
 ROOM = TOP / "out" / "plant"
-FAILURE = re.compile(r"FAIL(?:ED)?:? +(.*)")
+FAILURE, HOLDS = re.compile(r"FAIL(?:ED)?:? +(.*)"), re.compile(r"ok:? +(.+)")
 # Failed checks that say nothing of behaviour: that a part broke off, or that a text is another.
 BROKEN_OFF = re.compile(r"is asked to its end|comes to its end|came to its end|ended early|can be tried here")
 OF_TEXT = re.compile(r"mypy|has its lines|in deploy/promises.toml")
-# What is known of a command that breaks off also without a fault: it isn't asked.
-UNFIT = "breaks off"
 # What says that a part can't be asked. With a fault alone it means that what reads the file refuses it at once.
 SKIPPED = re.compile(r"skip [\w-]+(?=: )")
 # A run has its own processes, its own loopback and nothing else of the network. Its session has the priority of the one that began it.
@@ -174,12 +172,10 @@ class Tree:
             ended(process)
             shutil.rmtree(room, ignore_errors=True)
 
-    def failing(self, command: list[str], seconds: float) -> list[str]:
-        """The names of all checks that fail, and of parts that are skipped, within so many seconds."""
-        end = time.monotonic() + seconds
-        answers = [it for line in self.lines(command, end) if (it := judged(line, frozenset()))]
-        broken = {UNFIT} if any(it.kind == "broke off" for it in answers) else set[str]()
-        return sorted({promise_of(it.line) for it in answers} | broken)
+    def without(self, command: list[str], told: Answer, seconds: float) -> tuple[list[str], list[str]]:
+        """What holds and what fails without a fault, up to the check that told one, within so many seconds."""
+        with contextlib.closing(self.lines(command, time.monotonic() + seconds)) as lines:
+            return ran(lines, told)
 
     def ask(self, command: list[str], known: frozenset[str], seconds: float) -> Answer:
         """Runs a script until a check fails that isn't known to fail."""
@@ -195,21 +191,43 @@ class Tree:
         return Answer("kept" if re.fullmatch(r"\d+ passed, \d+ failed", last) else "broke off", without_folders(last))
 
 
+def is_decided(told: Answer, holds: list[str], fails: list[str]) -> bool:
+    """Whether it is known what the check that told a fault says without it."""
+    return promise_of(told.line) in fails or any(told.line.startswith(it) for it in holds)
+
+
+def ran(lines: Iterable[str], told: Answer | None = None) -> tuple[list[str], list[str]]:
+    """What holds and what fails by the lines of a run, up to the check that told a fault. A part in which anything is asked isn't skipped."""
+    holds, fails = list[str](), list[str]()
+    for line in lines:
+        if found := HOLDS.match(line):
+            holds.append(without_folders(found[1]))
+        elif failure := judged(line, frozenset()):
+            fails.append(promise_of(failure.line))
+        if told and (is_decided(told, holds[-1:], fails[-1:]) or holds and told.kind == "refused"):
+            break
+    return holds, fails
+
+
 class Known:
-    """The checks that fail also without a fault, by commands; they tell nothing. A command is asked once, until something changes that
-    it tries."""
+    """By commands, what holds and what fails without a fault, as far as it was asked. What fails tells nothing. It is asked anew when
+    something changes that it tries."""
 
     def __init__(self, state: str) -> None:
         self.file, self.state, self.writing = ROOM / "known.json", state, threading.Lock()
-        self.said: dict[str, list[str]] = json.loads(self.file.read_text()) if self.file.exists() else {}
+        self.said: dict[str, dict[str, list[str]]] = json.loads(self.file.read_text()) if self.file.exists() else {}
 
-    def has(self, words: str) -> bool:
-        return f"{self.state} {words}" in self.said
+    def of(self, words: str, what: str) -> list[str]:
+        return self.said.get(f"{self.state} {words}", {}).get(what, [])
 
-    def of(self, words: str) -> frozenset[str]:
-        return frozenset(self.said.get(f"{self.state} {words}", ()))
+    def fails(self, words: str) -> frozenset[str]:
+        return frozenset(self.of(words, "fails"))
 
-    def put(self, words: str, names: list[str]) -> None:
+    def decides(self, words: str, told: Answer) -> bool:
+        return is_decided(told, self.of(words, "holds"), self.of(words, "fails"))
+
+    def add(self, words: str, holds: list[str], fails: list[str]) -> None:
         with self.writing:
-            self.said[f"{self.state} {words}"] = names
+            both = {"holds": sorted({*self.of(words, "holds"), *holds}), "fails": sorted({*self.of(words, "fails"), *fails})}
+            self.said[f"{self.state} {words}"] = both
             self.file.write_text(json.dumps(self.said, indent=1))

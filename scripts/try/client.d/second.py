@@ -109,7 +109,7 @@ def second_store(check: Check, given: str, folder: pathlib.Path, port: int) -> p
     names.write_text('{"orgs":{},"hubs":[{"path":"/","name":"older"},{"path":"/2/","name":"newest"}]}')
     ran(TOOLS / "iodef-hub-directory", store, "--names", names)
     value = json.loads(names.read_text())
-    check("  names that are published anew keep the hubs", ([each["name"] for each in value["hubs"]], value["orgs"]["2"]), (["older", "newest"], "Bank & S\u00f6hne"))
+    check("  names that are published anew keep the hubs", ([each["name"] for each in value.get("hubs", [])], value["orgs"]["2"]), (["older", "newest"], "Bank & S\u00f6hne"))
     again = ran("bash", script, store, str(port))
     check("  a store that is there stays", (again.returncode, again.stderr), (1, f"{store} exists\n"))
     altered = folder / "altered.sh"

@@ -6,6 +6,7 @@ that yields for each check whether it holds and what it is; if it doesn't hold, 
 """
 from __future__ import annotations
 
+import contextlib
 import pathlib
 from collections.abc import Iterator
 from dataclasses import dataclass
@@ -22,6 +23,19 @@ class Context:
     count: int
     seed: int
     redact: str | None = None
+
+
+class NotTaken(Exception):
+    """A conversion fails where it must not, which is a failed check, and ends the section."""
+
+
+@contextlib.contextmanager
+def taken(what: str) -> Iterator[None]:
+    """A conversion of what a case has, which must not fail."""
+    try:
+        yield
+    except Exception as fault:
+        raise NotTaken(f"{what} is converted: {type(fault).__name__}: {fault}") from fault
 
 
 def same(what: str, got: object, wanted: object = True) -> tuple[bool, str]:

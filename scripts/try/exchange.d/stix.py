@@ -20,7 +20,7 @@ from iodef_hub_stix.making import objects_of
 from iodef_hub_stix.marking import definitions_of
 
 from . import stix_reports as reports
-from .context import Context, same
+from .context import Context, same, taken
 from .stix_rules import fault_of_pattern, faults_of, texts_in_pattern
 
 SECTION = "stix"
@@ -72,7 +72,8 @@ def answer(document: Object, withheld: tuple[str, ...] = (), number: int = 1) ->
 
 
 def made(value: Object, now: str = NOW) -> list[Object]:
-    return objects_of(Excerpt.of_answer(value, "hub.example.org"), now)[0]
+    with taken("an answer of the hub"):
+        return objects_of(Excerpt.of_answer(value, "hub.example.org"), now)[0]
 
 
 def incident(**members: Any) -> Object:
@@ -409,7 +410,8 @@ def indicator(pattern: str, **members: Any) -> Object:
 
 
 def back(*objects: Object) -> Object:
-    document: Object = report_of(bundle(*objects), "csirt.example", NOW)[0]
+    with taken("a bundle with " + " and ".join(sorted({str(each["type"]) for each in objects}))):
+        document: Object = report_of(bundle(*objects), "csirt.example", NOW)[0]
     (found,) = document["Incident"]
     assert isinstance(found, dict)
     return found

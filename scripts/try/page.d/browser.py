@@ -21,6 +21,10 @@ Date.now = () => now() + window.setForward;
 """
 
 
+class NotDone(RuntimeError):
+    """The driver can't do what it is told, as the page doesn't have it, or the page still asks."""
+
+
 class Browser:
     def __init__(self, folder: pathlib.Path, port: int) -> None:
         words = ["chromedriver", f"--port={port}"]
@@ -61,7 +65,7 @@ class Browser:
         value = json.loads(connection.getresponse().read())["value"]
         connection.close()
         if isinstance(value, dict) and "error" in value:
-            raise RuntimeError(f"{value['error']}: {value['message']}")
+            raise NotDone(f"{value['error']}: {value['message'].splitlines()[0]}")
         return value
 
     def cdp(self, command: str, **parameters: object) -> typing.Any:
@@ -133,7 +137,7 @@ class Browser:
         """Waits until the page asks nothing; a list of a hundred incidents takes minutes on a busy machine."""
         time.sleep(0.1)
         if not self.wait("document.body.getAttribute('aria-busy') !== 'true'", seconds=600):
-            raise RuntimeError("the page still asks")
+            raise NotDone("the page still asks")
 
     def size(self, width: int, height: int) -> None:
         self.cdp("Emulation.setDeviceMetricsOverride", width=width, height=height, deviceScaleFactor=1, mobile=False)

@@ -1,4 +1,4 @@
-"""The package: which files it has, with which modes, and which folders its installation makes. By hand.
+"""The package: which files it has, with which modes, which folders its installation makes, and what a purge leaves. By hand.
 
 The program in it is another one, as only its name and mode are looked at.
 """
@@ -11,6 +11,7 @@ import re
 import shutil
 import tempfile
 
+import purged
 from asking import DEPLOY, Check, Checks, Missing, program, run
 
 # Folders with all their files. A folder that isn't named has no program and no setting.
@@ -91,3 +92,4 @@ def installed(folder: pathlib.Path, package: pathlib.Path) -> Checks:
     told = dict(line.split(" ", 1) for line in ran.stdout.split("\n") if line)
     wrong = [f"{place} is {told.get(place)}" for place, mode in MADE.items() if told.get(place) != mode]
     yield Check("its installation makes the folders, that of the copies for root alone", "; ".join(wrong) + (ran.stderr[-200:] if wrong else ""))
+    yield from purged.left(folder / "control" / "postrm")
