@@ -1,12 +1,13 @@
 -- The walk down the tree meets the texts that the definition finds among the lines.
-use Rattle.std.proofs.Common.{◌≡◌, ℕ, suc, List, [], ◌∷◌, ◌++◌, false, cond, ◌&&◌, map, filter, refl, sym, ◌∙◌, ap, append-nil, append_assoc}
+use Rattle.std.proofs.Common.{◌≡◌, ℕ, suc, List, [], ◌∷◌, ◌++◌, false, cond, ◌&&◌, map, filter, refl, sym, ◌∙◌, ap, append-nil, append_assoc, Option}
 use Rattle.std.specs.List.{flat_map}
 use Rattle.std.proofs.lemmas.Bool.{cond_both, true≢false}
+use Rattle.std.proofs.lemmas.List.{map-append}
 use Rattle.std.proofs.lemmas.List.Concat.{flat_map-append}
 use Rattle.std.proofs.lemmas.List.Elements.{filter-append}
 use Rattle.iodef_tree.specs.Text.{Bytes, Tokens, same_path, is_under}
 use Rattle.iodef_tree.specs.Tree.{Content, text, value, Forest, end, leaf, branch, steps, lines, kind_of, text_of}
-use Rattle.iodef_tree.specs.Paths.{LocatedLine, located, below}
+use Rattle.iodef_tree.specs.Paths.{LocatedLine, located, below, is_class, class_paths}
 use Rattle.iodef_tree.specs.Sound.{IsSound}
 use Rattle.iodef_tree.specs.Walk.{walk, leaf_entry, AreBlocks}
 use Rattle.iodef_tree.specs.declared.line.Line.{Line}
@@ -17,7 +18,9 @@ use Rattle.marking.proofs.Bad.{no_class-kind}
 use Rattle.marking.proofs.Written.{AreUnderParents}
 use Rattle.sketch.specs.Holdings.{held_in, is_text_in, texts_at, held_by, holdings}
 use Rattle.redact.specs.Told.{is_text_kind}
-use Rattle.sketch.specs.inner.Held.{content_texts, texts_in, holdings_below}
+use Rattle.marking.specs.declared.label.Handling.{Handling}
+use Rattle.sketch.specs.Labels.{handling_at, handlings}
+use Rattle.sketch.specs.inner.Held.{content_texts, texts_in, left_below, holdings_below}
 
 -- the text of a line
 abbrev its_text : LocatedLine → Bytes
@@ -70,21 +73,64 @@ texts-block es d q kids under block = ap (map its_text) (filter-below es q under
 
 -- ---- all classes
 
-module _ (es : List LocatedLine) (under : AreUnderParents es) where
-  held-walk : (f : Forest) (d : ℕ) (p : Tokens) → AreBlocks es d p f → flat_map (held_by es) (walk d p f) ≡ holdings_below f
-  held-walk end d p blocks = refl
-  held-walk (leaf i rest) d p blocks =
-      ap (λ b. cond b (map (held_in i.name) (texts_at es (leaf_entry d p i).path)) [] ++ flat_map (held_by es) (walk d p rest)) (no_class-kind i.content)
-      ∙ held-walk rest d p blocks
-  held-walk (branch n o kids rest) d p blocks =
-      let q = p ++ steps n o in
-      ap (λ ts. map (held_in n) ts ++ flat_map (held_by es) (walk (suc d) q kids ++ walk d p rest)) (texts-block es (suc d) q kids under blocks.0)
-      ∙ ap (λ hs. map (held_in n) (texts_in kids) ++ hs)
-      (flat_map-append (held_by es) (walk (suc d) q kids) (walk d p rest)
-      ∙ ap (λ hs. hs ++ flat_map (held_by es) (walk d p rest)) (held-walk kids (suc d) q blocks.1)
-      ∙ ap (λ hs. holdings_below kids ++ hs) (held-walk rest d p blocks.2))
+-- the path of a line
+abbrev its_path : LocatedLine → Tokens
+its_path e = e.path
 
-pub held-all : (f : Forest) (ls : List Line) → IsSound f → lines 1 f ≡ ls → holdings_below f ≡ holdings ls
-held-all f ls sound is =
+module _ (es : List LocatedLine) (under : AreUnderParents es) where
+  -- the handlings of the classes among these lines
+  abbrev handled : List LocatedLine → List (Option Handling)
+  handled ws = map (handling_at es) (class_paths ws)
+
+  handled-append : (vs ws : List LocatedLine) → handled (vs ++ ws) ≡ handled vs ++ handled ws
+  handled-append vs ws =
+      ap (λ xs. map (handling_at es) (map its_path xs)) (filter-append is_class vs ws)
+      ∙ ap (map (handling_at es)) (map-append its_path (filter is_class vs) (filter is_class ws))
+      ∙ map-append (handling_at es) (class_paths vs) (class_paths ws)
+
+  handled-both : (vs ws : List LocatedLine) (more : List (Option Handling)) → handled (vs ++ ws) ++ more ≡ handled vs ++ (handled ws ++ more)
+  handled-both vs ws more = ap (λ hs. hs ++ more) (handled-append vs ws) ∙ append_assoc (handled vs) (handled ws) more
+
+  -- the classes of a walk take their own handlings
+  left-walk : (f : Forest) (d : ℕ) (p : Tokens) (more : List (Option Handling)) → left_below (handled (walk d p f) ++ more) f ≡ more
+  left-walk end d p more = refl
+  left-walk (leaf i rest) d p more =
+      let W = filter is_class (walk d p rest) in
+      ap (λ b. left_below (map (handling_at es) (map its_path (cond b (leaf_entry d p i ∷ W) W)) ++ more) rest) (no_class-kind i.content) ∙ left-walk rest d p more
+  left-walk (branch n o kids rest) d p more =
+      let q = p ++ steps n o in
+      let K = walk (suc d) q kids in
+      let W = walk d p rest in
+      ap (λ hs. left_below (left_below hs kids) rest) (handled-both K W more)
+      ∙ ap (λ hs. left_below hs rest) (left-walk kids (suc d) q (handled W ++ more))
+      ∙ left-walk rest d p more
+
+  held-walk : (f : Forest) (d : ℕ) (p : Tokens) (more : List (Option Handling)) → AreBlocks es d p f → flat_map (held_by es) (walk d p f) ≡ holdings_below (handled (walk d p f) ++ more) f
+  held-walk end d p more blocks = refl
+  held-walk (leaf i rest) d p more blocks =
+      let W = filter is_class (walk d p rest) in
+      let e = leaf_entry d p i in
+      ap (λ b. cond b (map (held_in i.name (handling_at es e.path)) (texts_at es e.path)) [] ++ flat_map (held_by es) (walk d p rest)) (no_class-kind i.content)
+      ∙ held-walk rest d p more blocks
+      ∙ sym (ap (λ b. holdings_below (map (handling_at es) (map its_path (cond b (e ∷ W) W)) ++ more) rest) (no_class-kind i.content))
+  held-walk (branch n o kids rest) d p more blocks =
+      let q = p ++ steps n o in
+      let K = walk (suc d) q kids in
+      let W = walk d p rest in
+      let own = held_in n (handling_at es q) in
+      let inner = handled K ++ (handled W ++ more) in
+      ap (λ ts. map own ts ++ flat_map (held_by es) (K ++ W)) (texts-block es (suc d) q kids under blocks.0)
+      ∙ ap (λ hs. map own (texts_in kids) ++ hs)
+      (flat_map-append (held_by es) K W
+      ∙ ap (λ hs. hs ++ flat_map (held_by es) W) (held-walk kids (suc d) q (handled W ++ more) blocks.1)
+      ∙ ap (λ hs. holdings_below inner kids ++ hs) (held-walk rest d p more blocks.2)
+      ∙ ap (λ hs. holdings_below inner kids ++ holdings_below hs rest) (sym (left-walk kids (suc d) q (handled W ++ more)))
+      ∙ ap (λ hs. holdings_below hs kids ++ holdings_below (left_below hs kids) rest) (sym (handled-both K W more)))
+
+pub held-all : (f : Forest) (ls : List Line) (hs : List (Option Handling)) → IsSound f → lines 1 f ≡ ls → hs ≡ handlings ls → holdings_below hs f ≡ holdings ls
+held-all f ls hs sound is handled_is =
     let es = located (lines 1 f) in
-    sym (ap (flat_map (held_by es)) (located-lines f sound) ∙ held-walk es (below-parents (lines 1 f)) f 1 [] (blocks-located f sound)) ∙ ap holdings is
+    let under = below-parents (lines 1 f) in
+    let W = walk 1 [] f in
+    ap (λ xs. holdings_below xs f) (handled_is ∙ ap handlings (sym is) ∙ ap (handled es under) (located-lines f sound) ∙ sym (append-nil (handled es under W)))
+    ∙ sym (ap (flat_map (held_by es)) (located-lines f sound) ∙ held-walk es under f 1 [] [] (blocks-located f sound)) ∙ ap holdings is

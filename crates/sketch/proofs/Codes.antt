@@ -7,8 +7,7 @@ use Rattle.iodef_tree.specs.declared.line.Line.{Line}
 use Rattle.marking.specs.Marks.{Marked, marked_at, label_at}
 use Rattle.marking.specs.declared.label.Handling.{Handling}
 use Rattle.marking.specs.declared.label.Handling.TheVariants.{Clear, Green, Amber, Strict, Red}
-use Rattle.sketch.specs.Labels.{fixed_handling, handlings}
-use Rattle.sketch.specs.inner.Codes.{code_of}
+use Rattle.sketch.specs.Labels.{fixed_handling, code_of, handlings}
 
 -- the handling of a byte
 abbrev decoded : ℕ → Option Handling

@@ -1,8 +1,8 @@
 -- What a sketch says of a want is so.
-use Rattle.std.proofs.Common.{arith, ◌≡◌, ◌≢◌, ◌<◌, ◌≤◌, List, [], ◌∷◌, Bool, true, false, not, ◌&&◌, if◌then◌else◌, length, refl, sym, ◌∙◌, ap, ◌⊎◌, inl, inr, Option, Some, None}
+use Rattle.std.proofs.Common.{arith, ℕ, ◌≡◌, ◌≢◌, ◌<◌, ◌≤◌, List, [], ◌∷◌, Bool, true, false, not, ◌&&◌, if◌then◌else◌, length, refl, sym, ◌∙◌, ap, ◌⊎◌, inl, inr, Option, Some, None}
 use Rattle.std.specs.Prelude.{is_none, is_some, option_map, string_bytes}
 use Rattle.std.specs.Option.{option_map_or}
-use Rattle.std.proofs.lemmas.Bool.{and_right, false≢true, true≢false}
+use Rattle.std.proofs.lemmas.Bool.{and_right, or_left, or_right, false≢true, true≢false}
 use Rattle.iodef_tree.specs.Text.{Bytes, Tokens}
 use Rattle.iodef_tree.specs.Paths.{located}
 use Rattle.iodef_tree.specs.declared.line.Line.{Line}
@@ -19,8 +19,8 @@ use Rattle.sketch.specs.Bits.{holds}
 use Rattle.sketch.specs.Holdings.{holdings}
 use Rattle.sketch.specs.Labels.{has_some_class}
 use Rattle.sketch.specs.Runs.{runs}
-use Rattle.sketch.specs.Sketched.{runs_in, names_in, text_bytes, Summarises, IsKeptOf, IsSketchOf}
-use Rattle.sketch.specs.Judged.{meets_marked, has_words, may_hold, reader_least, is_cleared, judged_shown, looked_for, judged_by, judged}
+use Rattle.sketch.specs.Sketched.{runs_in, handled_runs_in, names_in, text_bytes, Summarises, IsKeptOf, IsSketchOf}
+use Rattle.sketch.specs.Judged.{meets_marked, has_words, may_hold, may_show, reader_least, is_cleared, cleared_for, judged_shown, looked_for, judged_by, judged}
 use Rattle.sketch.specs.Laws.{least_for}
 use Rattle.sketch.specs.declared.judged.Judged.{Judged}
 use Rattle.sketch.specs.declared.judged.Judged.TheVariants.{Met, Unmet, Unsure}
@@ -28,7 +28,7 @@ use Rattle.sketch.specs.declared.sketch.Summary.{Summary}
 use Rattle.sketch.specs.declared.sketch.Sketch.{Sketch}
 use Rattle.redact.proofs.Promised.{found-listed}
 use Rattle.sketch.proofs.Sets.{all-held, size-within}
-use Rattle.sketch.proofs.Words.{found-held, kept-words}
+use Rattle.sketch.proofs.Words.{found-held, found-cleared, kept-words, kept-handled}
 use Rattle.sketch.proofs.Shown.{source-shown, shut-hides, above-hides, within-shows, no-class-shown}
 
 -- ---- the tests of `judged_shown`: a class, the source, a gate at the root, the clearance, any gate, any permission
@@ -62,6 +62,14 @@ unmet-tests true false false true false permits h = cc
 unmet-tests true false false false refuses true h = cc
 unmet-tests true false false false refuses false h = inr (refl, inr (refl, refl))
 
+-- a needle is never met by the sketch alone
+never-met : (b m : Bool) (v : Judged) → (if b then (if m then looked_for v else Unmet) else Unmet) ≢ Met
+never-met true true Met h = cc
+never-met true true Unmet h = cc
+never-met true true Unsure h = cc
+never-met true false v h = cc
+never-met false m v h = cc
+
 module _ (k : Summary) (ls : List Line) (is : Summarises k ls) (c : Case) (s : Standing) where
   least-is : reader_least k.arranged k.least s ≡ least_for ls s
   least-is = λ i. reader_least (is.arranged i) (is.least i) s
@@ -94,29 +102,39 @@ module _ (k : Summary) (ls : List Line) (is : Summarises k ls) (c : Case) (s : S
       kept-words (holds k.run_bits) (holds k.name_bits) (holdings ls) needle class (all-held k.run_bits (runs_in (holdings ls)) some is.run) (all-held k.name_bits (names_in (holdings ls)) some_names is.name)
       (found-held ls c s needle class found)
 
+  found-shows : (needle : Bytes) (class : Option Bytes) → finds ls c s needle class ≡ true → may_show k (reach_of c.gates c.permissions s) s needle ≡ true
+  found-shows needle class found = by_rights s.source (reach_of c.gates c.permissions s).permitted refl refl
+    where
+      by_rights : (a b : Bool) → s.source ≡ a → (reach_of c.gates c.permissions s).permitted ≡ b → may_show k (reach_of c.gates c.permissions s) s needle ≡ true
+      by_rights true b source permitted = or_left s.source _ source
+      by_rights false true source permitted = or_right s.source _ (or_left (reach_of c.gates c.permissions s).permitted _ permitted)
+      by_rights false false source permitted =
+          let some : 0 < length k.handled_bits = let size = size-within (text_bytes (holdings ls)) (length k.handled_bits) is.handled_size in omega (arith, size.0) in
+          or_right s.source _ (or_right (reach_of c.gates c.permissions s).permitted _
+          (kept-handled (cleared_for s) (holds k.handled_bits) (holdings ls) needle class (all-held k.handled_bits (handled_runs_in (holdings ls)) some is.handled)
+          (found-cleared ls c s needle class source permitted found)))
+
   pub missing-words : (needle class : Option Bytes) → has_words k needle class ≡ false → meets_by needle class ls c s ≡ false
   missing-words None class h = absurd (true≢false h)
   missing-words (Some needle) class h = is_false (finds ls c s needle class) (λ found. false≢true (sym h ∙ found-words needle class found))
 
   pub by-met : (needle class : Option Bytes) → judged_by k (reach_of c.gates c.permissions s) s needle class ≡ Met → meets_by needle class ls c s ≡ true
   by-met None class h = shown-met h
-  by-met (Some needle) class h = never (has_words k (Some needle) class) (judged_shown k (reach_of c.gates c.permissions s) s) h
-    where
-      never : (b : Bool) (v : Judged) → (if b then looked_for v else Unmet) ≡ Met → finds ls c s needle class ≡ true
-      never true Met h = cc
-      never true Unmet h = cc
-      never true Unsure h = cc
-      never false v h = cc
+  by-met (Some needle) class h =
+      let r = reach_of c.gates c.permissions s in absurd (never-met (has_words k (Some needle) class) (may_show k r s needle) (judged_shown k r s) h)
 
   pub by-unmet : (needle class : Option Bytes) → judged_by k (reach_of c.gates c.permissions s) s needle class ≡ Unmet → meets_by needle class ls c s ≡ false
   by-unmet None class h = shown-unmet h
-  by-unmet (Some needle) class h = by_words (has_words k (Some needle) class) (judged_shown k (reach_of c.gates c.permissions s) s) refl refl h
+  by-unmet (Some needle) class h =
+      let r = reach_of c.gates c.permissions s in by_words (has_words k (Some needle) class) (may_show k r s needle) (judged_shown k r s) refl refl refl h
     where
-      by_words : (b : Bool) (v : Judged) → has_words k (Some needle) class ≡ b → judged_shown k (reach_of c.gates c.permissions s) s ≡ v → (if b then looked_for v else Unmet) ≡ Unmet → finds ls c s needle class ≡ false
-      by_words false v words shown h = missing-words (Some needle) class words
-      by_words true Met words shown h = cc
-      by_words true Unsure words shown h = cc
-      by_words true Unmet words shown h =
+      by_words : (b m : Bool) (v : Judged) → has_words k (Some needle) class ≡ b → may_show k (reach_of c.gates c.permissions s) s needle ≡ m → judged_shown k (reach_of c.gates c.permissions s) s ≡ v →
+          (if b then (if m then looked_for v else Unmet) else Unmet) ≡ Unmet → finds ls c s needle class ≡ false
+      by_words false m v words shows shown h = missing-words (Some needle) class words
+      by_words true false v words shows shown h = is_false (finds ls c s needle class) (λ found. false≢true (sym shows ∙ found-shows needle class found))
+      by_words true true Met words shows shown h = cc
+      by_words true true Unsure words shows shown h = cc
+      by_words true true Unmet words shows shown h =
           is_false (finds ls c s needle class) (λ found. false≢true (sym (shown-unmet shown) ∙ found-listed ls c s needle class found))
 
 -- ---- of a sketch
@@ -156,20 +174,14 @@ sketch-unmet k ls c s w is of unmet = kept-unmet ls c s (option_map string_bytes
 
 -- ---- the laws of answers
 
-pub short-runs : (needle : Bytes) → length needle < 3 → runs needle ≡ []
-short-runs [] h = refl
-short-runs (a ∷ []) h = refl
-short-runs (a ∷ (b ∷ [])) h = refl
-short-runs (a ∷ (b ∷ (c ∷ t))) h = absurd (omega (arith, h))
+pub short-runs : (base : ℕ) (needle : Bytes) → length needle < 3 → runs base needle ≡ []
+short-runs base [] h = refl
+short-runs base (a ∷ []) h = refl
+short-runs base (a ∷ (b ∷ [])) h = refl
+short-runs base (a ∷ (b ∷ (c ∷ t))) h = absurd (omega (arith, h))
 
 pub looked-for : (k : Summary) (r : Reach) (s : Standing) (needle : Bytes) (class : Option Bytes) → judged_by k r s (Some needle) class ≢ Met
-looked-for k r s needle class = never (has_words k (Some needle) class) (judged_shown k r s)
-  where
-    never : (b : Bool) (v : Judged) → (if b then looked_for v else Unmet) ≢ Met
-    never true Met h = cc
-    never true Unmet h = cc
-    never true Unsure h = cc
-    never false v h = cc
+looked-for k r s needle class = never-met (has_words k (Some needle) class) (may_show k r s needle) (judged_shown k r s)
 
 pub unaccepted-unmet : (k : Sketch) (ls : List Line) (r : Reach) (s : Standing) (w : Want) → IsSketchOf k ls → is_some (first_bad_marking (located ls)) ≡ true → judged k r s w ≡ Unmet
 unaccepted-unmet k ls r s w is bad = kept k.summary is
@@ -178,5 +190,8 @@ unaccepted-unmet k ls r s w is bad = kept k.summary is
     kept None is = refl
     kept (Some x) is = absurd (false≢true (sym (ap is_some is.marked) ∙ bad))
 
-pub sketch-small : (k : Summary) (ls : List Line) → Summarises k ls → (64 ≤ length k.run_bits) × (length k.run_bits ≤ 65536) × (length k.name_bits ≡ 32)
-sketch-small k ls is = let size = size-within (text_bytes (holdings ls)) (length k.run_bits) is.size in (size.0, size.1, is.names)
+pub sketch-small : (k : Summary) (ls : List Line) → Summarises k ls →
+    (64 ≤ length k.run_bits) × (length k.run_bits ≤ 65536) × (64 ≤ length k.handled_bits) × (length k.handled_bits ≤ 65536) × (length k.name_bits ≡ 32)
+sketch-small k ls is =
+    let size = size-within (text_bytes (holdings ls)) (length k.run_bits) is.size in
+    let handled = size-within (text_bytes (holdings ls)) (length k.handled_bits) is.handled_size in (size.0, size.1, handled.0, handled.1, is.names)

@@ -6,33 +6,33 @@ use Rattle.sketch.specs.Bits.{holds}
 use Rattle.sketch.specs.Runs.{run_of, runs}
 use Rattle.sketch.specs.inner.Puts.{put, put_all}
 
-next : (xs : List ℕ) (j : ℕ) → j + 2 < length xs → runs (drop j xs) ≡ run_of (get_or xs j 0) (get_or xs (suc j) 0) (get_or xs (suc (suc j)) 0) ∷ runs (drop (suc j) xs)
-next [] j h = absurd (omega (arith, h))
-next (a ∷ []) j h = absurd (omega (arith, h))
-next (a ∷ (b ∷ [])) j h = absurd (omega (arith, h))
-next (a ∷ (b ∷ (c ∷ t))) zero h = refl
-next (a ∷ (b ∷ (c ∷ t))) (suc j) h = next (b ∷ (c ∷ t)) j (omega (arith, h))
+next : (base : ℕ) (xs : List ℕ) (j : ℕ) → j + 2 < length xs → runs base (drop j xs) ≡ run_of base (get_or xs j 0) (get_or xs (suc j) 0) (get_or xs (suc (suc j)) 0) ∷ runs base (drop (suc j) xs)
+next base [] j h = absurd (omega (arith, h))
+next base (a ∷ []) j h = absurd (omega (arith, h))
+next base (a ∷ (b ∷ [])) j h = absurd (omega (arith, h))
+next base (a ∷ (b ∷ (c ∷ t))) zero h = refl
+next base (a ∷ (b ∷ (c ∷ t))) (suc j) h = next base (b ∷ (c ∷ t)) j (omega (arith, h))
 
-pub runs-next : (xs : List ℕ) (j : ℕ) → j + 2 < length xs → runs (drop j xs) ≡ run_of (get_or xs j 0) (get_or xs (j + 1) 0) (get_or xs (j + 2) 0) ∷ runs (drop (j + 1) xs)
-runs-next xs j h = grind (arith, next)
+pub runs-next : (base : ℕ) (xs : List ℕ) (j : ℕ) → j + 2 < length xs → runs base (drop j xs) ≡ run_of base (get_or xs j 0) (get_or xs (j + 1) 0) (get_or xs (j + 2) 0) ∷ runs base (drop (j + 1) xs)
+runs-next base xs j h = grind (arith, next)
 
-pub runs-end : (xs : List ℕ) (j : ℕ) → length xs ≤ j + 2 → runs (drop j xs) ≡ []
-runs-end [] zero h = refl
-runs-end [] (suc j) h = refl
-runs-end (a ∷ []) zero h = refl
-runs-end (a ∷ (b ∷ [])) zero h = refl
-runs-end (a ∷ (b ∷ (c ∷ t))) zero h = absurd (omega (arith, h))
-runs-end (a ∷ t) (suc j) h = runs-end t j (omega (arith, h))
+pub runs-end : (base : ℕ) (xs : List ℕ) (j : ℕ) → length xs ≤ j + 2 → runs base (drop j xs) ≡ []
+runs-end base [] zero h = refl
+runs-end base [] (suc j) h = refl
+runs-end base (a ∷ []) zero h = refl
+runs-end base (a ∷ (b ∷ [])) zero h = refl
+runs-end base (a ∷ (b ∷ (c ∷ t))) zero h = absurd (omega (arith, h))
+runs-end base (a ∷ t) (suc j) h = runs-end base t j (omega (arith, h))
 
 -- one more run is put into a set
-pub put-next : (xs : List ℕ) (j : ℕ) (old here new : List ℕ) (n : ℕ) → j + 2 < length xs → n ≡ run_of (get_or xs j 0) (get_or xs (j + 1) 0) (get_or xs (j + 2) 0) → new ≡ put here n →
-    put_all here (runs (drop j xs)) ≡ put_all old (runs xs) → put_all new (runs (drop (j + 1) xs)) ≡ put_all old (runs xs)
-put-next xs j old here new n low is set all = rw (set, is) (sym (ap (put_all here) (runs-next xs j low)) ∙ all)
+pub put-next : (base : ℕ) (xs : List ℕ) (j : ℕ) (old here new : List ℕ) (n : ℕ) → j + 2 < length xs → n ≡ run_of base (get_or xs j 0) (get_or xs (j + 1) 0) (get_or xs (j + 2) 0) → new ≡ put here n →
+    put_all here (runs base (drop j xs)) ≡ put_all old (runs base xs) → put_all new (runs base (drop (j + 1) xs)) ≡ put_all old (runs base xs)
+put-next base xs j old here new n low is set all = rw (set, is) (sym (ap (put_all here) (runs-next base xs j low)) ∙ all)
 
 -- one more run is asked for
-pub holds-next : (xs : List ℕ) (j : ℕ) (bits : List ℕ) (n : ℕ) {here whole : Bool} → j + 2 < length xs → n ≡ run_of (get_or xs j 0) (get_or xs (j + 1) 0) (get_or xs (j + 2) 0) → here ≡ holds bits n →
-    list_all (holds bits) (runs (drop j xs)) ≡ whole → (here && list_all (holds bits) (runs (drop (j + 1) xs))) ≡ whole
-holds-next xs j bits n low is at all = rw (at, is) (sym (ap (list_all (holds bits)) (runs-next xs j low)) ∙ all)
+pub holds-next : (base : ℕ) (xs : List ℕ) (j : ℕ) (bits : List ℕ) (n : ℕ) {here whole : Bool} → j + 2 < length xs → n ≡ run_of base (get_or xs j 0) (get_or xs (j + 1) 0) (get_or xs (j + 2) 0) → here ≡ holds bits n →
+    list_all (holds bits) (runs base (drop j xs)) ≡ whole → (here && list_all (holds bits) (runs base (drop (j + 1) xs))) ≡ whole
+holds-next base xs j bits n low is at all = rw (at, is) (sym (ap (list_all (holds bits)) (runs-next base xs j low)) ∙ all)
 
 pub ruleset run_steps = (runs-next, runs-end)
 

@@ -7,8 +7,8 @@ use Rattle.std.proofs.lemmas.List.{get_or-set_same, get_or-set_other, length-set
 use Rattle.std.proofs.lemmas.List.Folds.{list_any-append}
 use Rattle.std.proofs.lemmas.Nat.Bits.{bit_at_set_same, bit_at_set_other, bit_at-zero}
 use Rattle.sketch.specs.Bits.{byte_of, place_of, is_one, holds, is_at, AreBitsOf}
-use Rattle.sketch.specs.Runs.{runs}
-use Rattle.sketch.specs.Sketched.{runs_in, IsSizeFor}
+use Rattle.sketch.specs.Runs.{runs, base_of}
+use Rattle.sketch.specs.Sketched.{runs_in, handled_runs_in, IsSizeFor}
 use Rattle.sketch.specs.inner.Held.{shown}
 use Rattle.sketch.specs.inner.Puts.{put, put_all}
 use Rattle.sketch.specs.declared.holding.Holding.{Holding}
@@ -110,12 +110,23 @@ all-held bytes ns some are = held-behind bytes [] ns some are
 -- ---- the texts put into a set, one after another
 
 -- the runs of one more text are put into a set
-pub put-held : (held : List Holding) (i : ℕ) (d : Holding) (here text : List ℕ) {new whole : List ℕ} → i < length held → text ≡ (get_or held i d).text.now → new ≡ put_all here (runs text) →
+pub put-held : (held : List Holding) (i : ℕ) (d : Holding) (here text : List ℕ) {new whole : List ℕ} → i < length held → text ≡ (get_or held i d).text.now → new ≡ put_all here (runs 0 text) →
     put_all here (runs_in (map shown (drop i held))) ≡ whole → put_all new (runs_in (map shown (drop (i + 1) held))) ≡ whole
 put-held held i d here text h is set all =
     let behind = runs_in (map shown (drop (i + 1) held)) in
-    ap (λ bs. put_all bs behind) (set ∙ ap (λ t. put_all here (runs t)) is)
-    ∙ sym (at_drop_more (λ hs. put_all here (runs_in (map shown hs))) held i d h ∙ put_all-append here (runs (get_or held i d).text.now) behind)
+    ap (λ bs. put_all bs behind) (set ∙ ap (λ t. put_all here (runs 0 t)) is)
+    ∙ sym (at_drop_more (λ hs. put_all here (runs_in (map shown hs))) held i d h ∙ put_all-append here (runs 0 (get_or held i d).text.now) behind)
+    ∙ all
+
+-- the same, with the handling of its class
+pub put-handled : (held : List Holding) (i : ℕ) (d : Holding) (base : ℕ) (here text : List ℕ) {new whole : List ℕ} → i < length held → base ≡ base_of (get_or held i d).handling →
+    text ≡ (get_or held i d).text.now → new ≡ put_all here (runs base text) →
+    put_all here (handled_runs_in (map shown (drop i held))) ≡ whole → put_all new (handled_runs_in (map shown (drop (i + 1) held))) ≡ whole
+put-handled held i d base here text h at is set all =
+    let behind = handled_runs_in (map shown (drop (i + 1) held)) in
+    let own = base_of (get_or held i d).handling in
+    ap (λ bs. put_all bs behind) (set ∙ ap (λ b. put_all here (runs b text)) at ∙ ap (λ t. put_all here (runs own t)) is)
+    ∙ sym (at_drop_more (λ hs. put_all here (handled_runs_in (map shown hs))) held i d h ∙ put_all-append here (runs own (get_or held i d).text.now) behind)
     ∙ all
 
 -- ---- the size

@@ -25,8 +25,8 @@ use Rattle.redact.specs.Told.{is_seen_class, is_listed}
 use Rattle.redact.proofs.Searching.{any_map}
 use Rattle.redact.proofs.Shut.{root-tells-nothing}
 use Rattle.redact.proofs.Unrefused.{unrefused}
-use Rattle.sketch.specs.Labels.{fixed_handling, handlings, lesser, least_from, least_of, has_some_class}
-use Rattle.sketch.specs.Judged.{reader_least, is_cleared}
+use Rattle.sketch.specs.Labels.{fixed_handling, handling_at, handlings, lesser, least_from, least_of, has_some_class}
+use Rattle.sketch.specs.Judged.{reader_least, is_cleared, cleared_for}
 use Rattle.sketch.specs.Laws.{least_for}
 
 -- ---- the least of some handlings
@@ -35,11 +35,7 @@ at_most-trans : (a b c : Handling) → is_at_most a b ≡ true → is_at_most b 
 at_most-trans a b c h k = grind arith
 
 module _ (s : Standing) where
-  -- whether the reader is cleared for a handling; for none, that is, for `default`, by the arrangement
-  abbrev cleared_for : Option Handling → Bool
-  cleared_for h = is_at_most (unwrap_or h (handling_for s by_arrangement)) (clearance_of s).0
-
-  label-cleared : (l : LabelValue) → is_cleared_for s l ≡ cleared_for (fixed_handling l)
+  label-cleared : (l : LabelValue) → is_cleared_for s l ≡ cleared_for s (fixed_handling l)
   label-cleared public = refl
   label-cleared white = refl
   label-cleared partner = refl
@@ -75,22 +71,22 @@ module _ (s : Standing) where
 
   -- the others, and `default` if it is there
   cleared-any : (hs : List (Option Handling)) →
-      list_any cleared_for hs ≡ (list_any (is_cleared s) hs || (list_any is_none hs && cleared_for None))
+      list_any (cleared_for s) hs ≡ (list_any (is_cleared s) hs || (list_any is_none hs && cleared_for s None))
   cleared-any [] = refl
-  cleared-any (None ∷ hs) = first (cleared_for None) (list_any cleared_for hs) (list_any (is_cleared s) hs) (list_any is_none hs) (cleared-any hs)
+  cleared-any (None ∷ hs) = first (cleared_for s None) (list_any (cleared_for s) hs) (list_any (is_cleared s) hs) (list_any is_none hs) (cleared-any hs)
     where
       first : (a g w n : Bool) → g ≡ (w || (n && a)) → (a || g) ≡ (w || a)
       first a g w n h = grind arith
-  cleared-any (Some h ∷ hs) = later (is_at_most h (clearance_of s).0) (cleared_for None) (list_any cleared_for hs) (list_any (is_cleared s) hs) (list_any is_none hs) (cleared-any hs)
+  cleared-any (Some h ∷ hs) = later (is_at_most h (clearance_of s).0) (cleared_for s None) (list_any (cleared_for s) hs) (list_any (is_cleared s) hs) (list_any is_none hs) (cleared-any hs)
     where
       later : (b a g w n : Bool) → g ≡ (w || (n && a)) → (b || g) ≡ ((b || w) || (n && a))
       later b a g w n h = grind arith
 
-  arranged-cleared : (n : Bool) → is_cleared s (cond n (Some (handling_for s by_arrangement)) None) ≡ (n && cleared_for None)
+  arranged-cleared : (n : Bool) → is_cleared s (cond n (Some (handling_for s by_arrangement)) None) ≡ (n && cleared_for s None)
   arranged-cleared true = refl
   arranged-cleared false = refl
 
-  least-cleared : (hs : List (Option Handling)) → is_cleared s (reader_least (list_any is_none hs) (least_of hs) s) ≡ list_any cleared_for hs
+  least-cleared : (hs : List (Option Handling)) → is_cleared s (reader_least (list_any is_none hs) (least_of hs) s) ≡ list_any (cleared_for s) hs
   least-cleared hs =
       let arranged = cond (list_any is_none hs) (Some (handling_for s by_arrangement)) None in
       cleared-lesser (least_of hs) arranged
@@ -142,6 +138,14 @@ only-cleared a s r k v other none h = grind arith
 none-covered : (es : List LocatedLine) (c : Case) (s : Standing) (p : Tokens) → (reach_of c.gates c.permissions s).permitted ≡ false → is_covered es c s p ≡ false
 none-covered es c s p none =
     is_false (is_covered es c s p) (λ h. false≢true (sym none ∙ any-weaker (covers es s p) (holds_for s) (λ x k. (and_parts (holds_for s x) (reaches es x.path p) k).0) c.permissions h))
+
+-- a reader who isn't of the source, and for whom no permission holds, is cleared for each class that is visible
+pub visible-cleared : (ls : List Line) (c : Case) (s : Standing) → s.source ≡ false → (reach_of c.gates c.permissions s).permitted ≡ false → (p : Tokens) →
+    is_visible (located ls) c s p ≡ true → cleared_for s (handling_at (located ls) p) ≡ true
+visible-cleared ls c s other none p seen =
+    let es = located ls in
+    sym (label-cleared s (label_at es p))
+    ∙ only-cleared true s.source (is_none (refusal_at c s p)) (is_cleared_for s (label_at es p)) (is_covered es c s p) other (none-covered es c s p none) seen
 
 pub above-hides : (ls : List Line) (c : Case) (s : Standing) → s.source ≡ false → is_cleared s (least_for ls s) ≡ false → (reach_of c.gates c.permissions s).permitted ≡ false → is_listed ls c s ≡ false
 above-hides ls c s other above none =

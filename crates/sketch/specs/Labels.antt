@@ -1,9 +1,11 @@
 -- How the classes of a document are handled, as far as it doesn't depend on the reader.
-use Rattle.std.specs.Prelude.{List, [], ◌∷◌, map, Bool, if◌then◌else◌, Option, Some, None, is_none}
+use Rattle.std.specs.Prelude.{ℕ, List, [], ◌∷◌, map, Bool, if◌then◌else◌, Option, Some, None, is_none}
 use Rattle.std.specs.List.{list_any}
-use Rattle.iodef_tree.specs.Paths.{is_class, located, class_paths}
+use Rattle.std.specs.Option.{option_map_or}
+use Rattle.iodef_tree.specs.Text.{Tokens}
+use Rattle.iodef_tree.specs.Paths.{LocatedLine, is_class, located, class_paths}
 use Rattle.iodef_tree.specs.declared.line.Line.{Line}
-use Rattle.marking.specs.Label.{LabelValue, by_arrangement, handling_of, is_at_most}
+use Rattle.marking.specs.Label.{LabelValue, by_arrangement, handling_of, is_at_most, rank}
 use Rattle.marking.specs.Marks.{label_at}
 use Rattle.marking.specs.declared.label.Handling.{Handling}
 
@@ -12,9 +14,17 @@ abbrev pub fixed_handling : LabelValue → Option Handling
 fixed_handling by_arrangement = None
 fixed_handling l = Some (handling_of l None)
 
+-- a handling by its rank; 5 for `default`
+abbrev pub code_of : Option Handling → ℕ
+code_of h = option_map_or rank h 5
+
+-- how the label in force at the class at a path is handled
+abbrev pub handling_at : List LocatedLine → Tokens → Option Handling
+handling_at es p = fixed_handling (label_at es p)
+
 -- how the label in force at each class of an outline is handled, in stored order
 abbrev pub handlings : List Line → List (Option Handling)
-handlings ls = let es = located ls in map (λ p. fixed_handling (label_at es p)) (class_paths es)
+handlings ls = let es = located ls in map (handling_at es) (class_paths es)
 
 -- whether the label in force at some class is `default`
 abbrev pub has_default : List Line → Bool

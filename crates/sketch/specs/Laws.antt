@@ -16,7 +16,7 @@ use Rattle.sketch.specs.Holdings.{HeldText, holdings}
 use Rattle.sketch.specs.Labels.{has_some_class, has_default, least_handling}
 use Rattle.sketch.specs.Runs.{runs}
 use Rattle.sketch.specs.Sketched.{Summarises, IsSketchOf}
-use Rattle.sketch.specs.Judged.{reader_least, is_cleared, judged_by, judged}
+use Rattle.sketch.specs.Judged.{reader_least, is_cleared, cleared_for, judged_by, judged}
 use Rattle.sketch.specs.declared.judged.Judged.TheVariants.{Met, Unmet}
 use Rattle.sketch.specs.declared.sketch.Summary.{Summary}
 use Rattle.sketch.specs.declared.sketch.Sketch.{Sketch}
@@ -49,14 +49,21 @@ abbrev pub FoundIsHeld : Type 0
 FoundIsHeld = (ls : List Line) (c : Case) (s : Standing) (needle : Bytes) (name : Option Bytes) → finds ls c s needle name ≡ true →
     list_any (λ (h : HeldText). is_named name h.class && has_needle needle h.text) (holdings ls) ≡ true
 
+-- What a search finds for a reader who isn't of the source, and for whom no permission holds, is a text of a class for
+-- which the reader is cleared.
+abbrev pub FoundIsCleared : Type 0
+FoundIsCleared = (ls : List Line) (c : Case) (s : Standing) (needle : Bytes) (name : Option Bytes) → s.source ≡ false →
+    (reach_of c.gates c.permissions s).permitted ≡ false → finds ls c s needle name ≡ true →
+    list_any (λ (h : HeldText). cleared_for s h.handling && (is_named name h.class && has_needle needle h.text)) (holdings ls) ≡ true
+
 -- A text has each run of a needle that it contains.
 abbrev pub ContainedRuns : Type 0
-ContainedRuns = (needle text : Bytes) (test : ℕ → Bool) → has_needle needle text ≡ true → list_all test (runs text) ≡ true →
-    list_all test (runs needle) ≡ true
+ContainedRuns = (base : ℕ) (needle text : Bytes) (test : ℕ → Bool) → has_needle needle text ≡ true → list_all test (runs base text) ≡ true →
+    list_all test (runs base needle) ≡ true
 
 -- A needle of fewer than three bytes has no run.
 abbrev pub ShortHasNoRun : Type 0
-ShortHasNoRun = (needle : Bytes) → length needle < 3 → runs needle ≡ []
+ShortHasNoRun = (base : ℕ) (needle : Bytes) → length needle < 3 → runs base needle ≡ []
 
 -- Without a needle the class's name counts for nothing.
 abbrev pub NameNeedsNeedle : Type 0
@@ -71,7 +78,7 @@ abbrev pub UnacceptedIsUnmet : Type 0
 UnacceptedIsUnmet = (k : Sketch) (ls : List Line) (r : Reach) (s : Standing) (w : Want) → IsSketchOf k ls →
     is_some (first_bad_marking (located ls)) ≡ true → judged k r s w ≡ Unmet
 
--- The limits of a sketch: from 64 to 65,536 bytes for the runs, and 32 for the names.
+-- The limits of a sketch: from 64 to 65,536 bytes for the runs, as many for those with a handling, and 32 for the names.
 abbrev pub SketchIsSmall : Type 0
 SketchIsSmall = (k : Summary) (ls : List Line) → Summarises k ls →
-    (64 ≤ length k.run_bits) × (length k.run_bits ≤ 65536) × (length k.name_bits ≡ 32)
+    (64 ≤ length k.run_bits) × (length k.run_bits ≤ 65536) × (64 ≤ length k.handled_bits) × (length k.handled_bits ≤ 65536) × (length k.name_bits ≡ 32)

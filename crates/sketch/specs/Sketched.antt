@@ -7,13 +7,17 @@ use Rattle.marking.specs.Marks.{first_bad_marking}
 use Rattle.sketch.specs.Bits.{AreBitsOf}
 use Rattle.sketch.specs.Holdings.{HeldText, holdings}
 use Rattle.sketch.specs.Labels.{has_some_class, has_default, least_handling}
-use Rattle.sketch.specs.Runs.{runs, number_of}
+use Rattle.sketch.specs.Runs.{runs, base_of, number_of}
 use Rattle.sketch.specs.declared.sketch.Summary.{Summary}
 use Rattle.sketch.specs.declared.sketch.Sketch.{Sketch}
 
 -- the numbers of the three-byte runs of these texts
 abbrev pub runs_in : List HeldText → List ℕ
-runs_in hs = flat_map (λ h. runs h.text) hs
+runs_in hs = flat_map (λ h. runs 0 h.text) hs
+
+-- the same, each in the range of the handling of the class that holds the text
+abbrev pub handled_runs_in : List HeldText → List ℕ
+handled_runs_in hs = flat_map (λ h. runs (base_of h.handling) h.text) hs
 
 -- the numbers of the names of the classes that hold these texts
 abbrev pub names_in : List HeldText → List ℕ
@@ -34,8 +38,8 @@ pub record IsSizeFor (bytes size : ℕ) : Type 0 where
   pub no_more : 6 < exponent → 2 * size < bytes
 
 -- What is kept of a document whose markings are accepted: whether it has a class; whether the label in force at some
--- class is `default`; the least handling at the others; a bit for each run of the texts that classes directly hold; and
--- a bit for the name of each class that directly holds one.
+-- class is `default`; the least handling at the others; a bit for each run of the texts that classes directly hold, and
+-- one for the run with the handling of the class; and a bit for the name of each class that directly holds a text.
 pub record Summarises (k : Summary) (ls : List Line) : Type 0 where
   pub marked : first_bad_marking (located ls) ≡ None
   pub class : k.classes ≡ has_some_class ls
@@ -43,6 +47,8 @@ pub record Summarises (k : Summary) (ls : List Line) : Type 0 where
   pub least : k.least ≡ least_handling ls
   pub size : IsSizeFor (text_bytes (holdings ls)) (length k.run_bits)
   pub run : AreBitsOf k.run_bits (runs_in (holdings ls))
+  pub handled_size : IsSizeFor (text_bytes (holdings ls)) (length k.handled_bits)
+  pub handled : AreBitsOf k.handled_bits (handled_runs_in (holdings ls))
   pub names : length k.name_bits ≡ 32
   pub name : AreBitsOf k.name_bits (names_in (holdings ls))
 

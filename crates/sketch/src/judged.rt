@@ -1,16 +1,16 @@
 //! What a sketch says of a want.
 
-ghost use Rattle.std.specs.Prelude.{◌≡◌, List, true, false, option_map, string_bytes};
+ghost use Rattle.std.specs.Prelude.{◌≡◌, ◌&&◌, List, true, false, option_map, string_bytes};
 ghost use Rattle.iodef_tree.specs.declared.line.Line.{Line};
 ghost use Rattle.policy.specs.declared.standing.Standing.{Standing as TheStanding};
 ghost use Rattle.policy.specs.declared.case.Case.{Case as TheCase};
 ghost use Rattle.policy.specs.Reach.{reach_of};
 ghost use Rattle.sketch.specs.Sketched.{IsSketchOf};
-ghost use Rattle.sketch.specs.Judged.{meets_marked, judged};
+ghost use Rattle.sketch.specs.Judged.{meets_marked, cleared_for, has_runs_at, judged};
 ghost use Rattle.sketch.specs.Judged as spec;
 
 use crate::labels::lesser;
-use crate::runs::{has_runs, number};
+use crate::runs::{base_of, has_runs, number};
 use crate::sketch::{Sketch, Summary};
 use marking::{Handling, Label};
 use policy::{Reach, Standing, clearance};
@@ -67,7 +67,7 @@ fn has_words(summary: &Summary, want: &Want) -> bool
     match &want.needle {
         None => true,
         Some(needle) => {
-            has_runs(&summary.run_bits, needle.as_str().as_bytes())
+            has_runs(&summary.run_bits, 0, needle.as_str().as_bytes())
                 && has_name(summary, &want.class)
         }
     }
@@ -94,7 +94,11 @@ fn judge_by(summary: &Summary, reach: Reach, standing: &Standing, want: &Want) -
     let shown = judge_shown(summary, reach, standing);
     match &want.needle {
         None => shown,
-        Some(_) => look_for(shown),
+        Some(needle) => if may_show(summary, reach, standing, needle.as_str().as_bytes()) {
+            look_for(shown)
+        } else {
+            Judged::Unmet
+        },
     }
 }
 
@@ -107,6 +111,49 @@ fn look_for(shown: Judged) -> Judged
         Judged::Unmet => Judged::Unmet,
         Judged::Unsure => Judged::Unsure,
     }
+}
+
+/// Returns whether a class that the reader is shown may hold the needle.
+fn may_show(summary: &Summary, reach: Reach, standing: &Standing, needle: &[u8]) -> bool
+    ensures { result ≡ spec.may_show summary.now reach standing.entry.now needle.now }
+{
+    standing.source || reach.permitted || has_cleared_runs(summary, standing, needle)
+}
+
+/// Returns whether a class for which the reader is cleared may hold the needle.
+fn has_cleared_runs(summary: &Summary, standing: &Standing, needle: &[u8]) -> bool
+    ensures { result ≡ spec.has_cleared_runs summary.now standing.entry.now needle.now }
+{
+    may_hold_at(summary, standing, needle, Some(Handling::Clear))
+        || may_hold_at(summary, standing, needle, Some(Handling::Green))
+        || may_hold_at(summary, standing, needle, Some(Handling::Amber))
+        || may_hold_at(summary, standing, needle, Some(Handling::Strict))
+        || may_hold_at(summary, standing, needle, Some(Handling::Red))
+        || may_hold_at(summary, standing, needle, None)
+}
+
+/// Returns whether the reader is cleared for classes that are handled so, and one of them may hold the needle.
+fn may_hold_at(
+    summary: &Summary,
+    standing: &Standing,
+    needle: &[u8],
+    handling: Option<Handling>,
+) -> bool
+    ensures { result ≡ (cleared_for standing.entry.now handling
+        && has_runs_at summary.now needle.now handling) }
+{
+    is_cleared_for(standing, handling) && has_runs(&summary.handled_bits, base_of(handling), needle)
+}
+
+/// Returns whether the reader is cleared for classes that are handled so; for `default`, as it is arranged.
+fn is_cleared_for(standing: &Standing, handling: Option<Handling>) -> bool
+    ensures { result ≡ cleared_for standing.entry.now handling }
+{
+    let handling = match handling {
+        Some(handling) => handling,
+        None => Label::Default.handling(standing.arrangement),
+    };
+    handling.is_at_most(clearance(standing).0)
 }
 
 /// Returns whether the reader is shown some class.

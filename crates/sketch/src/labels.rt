@@ -19,8 +19,7 @@ struct HandlingWriter {
 
 impl MarkWriter for HandlingWriter {
     ghost use Rattle.std.specs.Prelude.{map, [], ◌∷◌};
-    ghost use Rattle.sketch.specs.Labels.{fixed_handling};
-    ghost use Rattle.sketch.specs.inner.Codes.{code_of};
+    ghost use Rattle.sketch.specs.Labels.{fixed_handling, code_of};
 
     ghost text = { λ w. map code_of w.found.items };
 

@@ -1,7 +1,7 @@
 //! Laws of sketches, for every document, case, reader and want. Each law is the contract of a function that does
 //! nothing.
 
-ghost use Rattle.sketch.specs.Laws.{SourceIsShown, ShutShowsNothing, AboveShowsNothing, WithinShowsSome, FoundIsHeld, ContainedRuns, ShortHasNoRun, NameNeedsNeedle, NeedleIsLookedFor, UnacceptedIsUnmet, SketchIsSmall};
+ghost use Rattle.sketch.specs.Laws.{SourceIsShown, ShutShowsNothing, AboveShowsNothing, WithinShowsSome, FoundIsHeld, FoundIsCleared, ContainedRuns, ShortHasNoRun, NameNeedsNeedle, NeedleIsLookedFor, UnacceptedIsUnmet, SketchIsSmall};
 
 /// The source is shown something exactly if there is a class.
 pub fn source_is_shown()
@@ -26,6 +26,12 @@ pub fn within_shows_some()
 /// What a search finds is a text that a class of the given name directly holds.
 pub fn found_is_held()
     ensures { FoundIsHeld }
+{}
+
+/// What a search finds for a reader who isn't of the source, and for whom no permission holds, is a text of a class for
+/// which the reader is cleared.
+pub fn found_is_cleared()
+    ensures { FoundIsCleared }
 {}
 
 /// A text has each three-byte run of a needle that it contains.
@@ -53,7 +59,8 @@ pub fn unaccepted_is_unmet()
     ensures { UnacceptedIsUnmet }
 {}
 
-/// A sketch has from 64 to 65,536 bytes for the runs of texts, and 32 for names of classes.
+/// A sketch has from 64 to 65,536 bytes for the runs of texts, as many for those with a handling, and 32 for names of
+/// classes.
 pub fn sketch_is_small()
     ensures { SketchIsSmall }
 {}

@@ -4,14 +4,14 @@ ghost use Rattle.std.specs.Prelude.{◌≡◌, None, is_none, IfOk, map, length,
 ghost use Rattle.std.specs.List.{list_any};
 ghost use Rattle.iodef_tree.specs.Paths.{located};
 ghost use Rattle.marking.specs.Marks.{first_bad_marking};
-ghost use Rattle.sketch.specs.Sketched.{runs_in, names_in, text_bytes as bytes_of, IsSizeFor, Summarises, IsSketchOf};
+ghost use Rattle.sketch.specs.Sketched.{runs_in, handled_runs_in, names_in, text_bytes as bytes_of, IsSizeFor, Summarises, IsSketchOf};
 ghost use Rattle.sketch.specs.inner.Held.{shown};
 ghost use Rattle.sketch.specs.inner.Puts.{put_all};
 
 use crate::bits::Bits;
 use crate::holding::{Holding, holdings};
 use crate::labels::{handlings, least};
-use crate::runs::{number, put_runs};
+use crate::runs::{base_of, number, put_runs};
 use crate::sizes::{size_for, text_bytes};
 use iodef_tree::Document;
 use marking::{Handling, MarkingFault, check};
@@ -31,6 +31,8 @@ pub struct Summary {
     pub(crate) least: Option<Handling>,
     /// The three-byte runs of the texts that classes directly hold.
     pub(crate) run_bits: Bits,
+    /// The same runs, each with the handling of its class.
+    pub(crate) handled_bits: Bits,
     /// The names of these classes.
     pub(crate) name_bits: Bits,
 }
@@ -64,14 +66,16 @@ fn summarise(alloc: Global, document: &Document) -> Result<Summary, AllocError>
     ensures { IfOk result (λ k. Summarises k document.now) }
 {
     let handlings = handlings(alloc, document)?;
-    let held = holdings(alloc, document)?;
+    let held = holdings(alloc, document, handlings.as_slice())?;
     let run_bits = run_bits(alloc, held.as_slice())?;
+    let handled_bits = handled_bits(alloc, held.as_slice())?;
     let name_bits = name_bits(alloc, held.as_slice())?;
     Ok(Summary {
         classes: !handlings.as_slice().is_empty(),
         arranged: has_none(handlings.as_slice()),
         least: least(handlings.as_slice()),
         run_bits,
+        handled_bits,
         name_bits,
     })
 }
@@ -91,7 +95,24 @@ fn run_bits(alloc: Global, held: &[Holding<'_>]) -> Result<Bits, AllocError>
 {
     let mut bits = Bits::none(alloc, size_for(text_bytes(held)))?;
     for holding in held {
-        put_runs(&mut bits, holding.text.as_bytes());
+        put_runs(&mut bits, 0, holding.text.as_bytes());
+    }
+    Ok(bits)
+}
+
+/// Returns the set of the runs of these texts, each with the handling of its class.
+fn handled_bits(alloc: Global, held: &[Holding<'_>]) -> Result<Bits, AllocError>
+    ensures size { IfOk result (λ b. IsSizeFor (bytes_of (map shown held.now)) (length b)) }
+    ensures runs { IfOk result (λ b.
+        b ≡ put_all (replicate (length b) 0) (handled_runs_in (map shown held.now))) }
+{
+    let mut bits = Bits::none(alloc, size_for(text_bytes(held)))?;
+    for holding in held {
+        put_runs(
+            &mut bits,
+            base_of(holding.handling),
+            holding.text.as_bytes(),
+        );
     }
     Ok(bits)
 }

@@ -7,4 +7,4 @@ use Rattle.sketch.proofs.holding.push_member_texts.Given as goal
 
 abbrev pub invariant-loop-item : goal.invariant-loop-item
 invariant-loop-item l =
-    map shown l.held.items ++ map (held_in l.class) (flat_map body_texts (map body (drop l.item-index l.item-items))) ≡ map shown l.fn.held.items ++ map (held_in l.class) (bodies_texts (bodies l.member))
+    map shown l.held.items ++ map (held_in l.class l.handling) (flat_map body_texts (map body (drop l.item-index l.item-items))) ≡ map shown l.fn.held.items ++ map (held_in l.class l.handling) (bodies_texts (bodies l.member))

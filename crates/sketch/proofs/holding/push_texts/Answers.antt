@@ -5,5 +5,5 @@ use Rattle.sketch.proofs.holding.push_texts.Goals as goal
 
 pub loop-member-preserved : goal.loop-member-preserved
 loop-member-preserved c =
-    texts_next c.args.class.now c.deref-member-items.result.now c.loop-member.member-index c.loop-member-item.result (map shown c.loop-member.held.items) (omega arith) c.loop-member-item.is
+    texts_next c.args.class.now c.args.handling c.deref-member-items.result.now c.loop-member.member-index c.loop-member-item.result (map shown c.loop-member.held.items) (omega arith) c.loop-member-item.is
     c.in_ok-push_member_texts.ensures c.loop-member.invariant

@@ -6,4 +6,4 @@ use Rattle.sketch.proofs.holding.push_texts.Given as goal
 
 abbrev pub invariant-loop-member : goal.invariant-loop-member
 invariant-loop-member l =
-    map shown l.held.items ++ map (held_in l.class) (texts_in (members_forest (drop l.member-index l.member-items))) ≡ map shown l.fn.held.items ++ map (held_in l.class) (texts_in (forest l.object))
+    map shown l.held.items ++ map (held_in l.class l.handling) (texts_in (members_forest (drop l.member-index l.member-items))) ≡ map shown l.fn.held.items ++ map (held_in l.class l.handling) (texts_in (forest l.object))

@@ -2,7 +2,7 @@ use Rattle.std.proofs.Common.{◌∙◌, ap, ◌++◌, map}
 use Rattle.std.specs.List.{flat_map}
 use Rattle.iodef_tree.specs.Paths.{located, class_paths}
 use Rattle.marking.specs.Marks.{marked_at}
-use Rattle.sketch.specs.inner.Codes.{code_of}
+use Rattle.sketch.specs.Labels.{code_of}
 use Rattle.sketch.proofs.Codes.{line_of, coded-all}
 use Rattle.sketch.proofs.labels.handlings.Goals as goal
 

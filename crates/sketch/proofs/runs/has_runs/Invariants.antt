@@ -5,4 +5,4 @@ use Rattle.sketch.specs.Runs.{runs}
 use Rattle.sketch.proofs.runs.has_runs.Given as goal
 
 abbrev pub invariant-loop-start : goal.invariant-loop-start
-invariant-loop-start l = list_all (holds l.bits) (runs (drop l.start l.text)) ≡ list_all (holds l.bits) (runs l.text)
+invariant-loop-start l = list_all (holds l.bits) (runs l.base (drop l.start l.text)) ≡ list_all (holds l.bits) (runs l.base l.text)

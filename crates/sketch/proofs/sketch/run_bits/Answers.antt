@@ -10,7 +10,7 @@ use Rattle.sketch.proofs.sketch.run_bits.Goals as goal
 pub loop-holding-preserved : goal.loop-holding-preserved
 loop-holding-preserved c = record {
   put = put-held c.args.held.now c.loop-holding.holding-index _ c.loop-holding.bits c.as_bytes.result.now c.loop-holding-test.true c.as_bytes.ensures.value c.put_runs.ensures c.loop-holding.invariant.put;
-  size = ap length c.put_runs.ensures ∙ length-put_all c.loop-holding.bits (runs c.as_bytes.result.now) ∙ c.loop-holding.invariant.size;
+  size = ap length c.put_runs.ensures ∙ length-put_all c.loop-holding.bits (runs 0 c.as_bytes.result.now) ∙ c.loop-holding.invariant.size;
 }
 
 pub returns-clause-size : goal.returns-clause-size

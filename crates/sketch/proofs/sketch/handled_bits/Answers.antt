@@ -1,0 +1,20 @@
+use Rattle.std.proofs.Common.{◌≡◌, map, length, sym, ◌∙◌, ap, subst}
+use Rattle.std.proofs.lemmas.List.{length-replicate}
+use Rattle.sketch.specs.Runs.{runs}
+use Rattle.sketch.specs.Sketched.{text_bytes, IsSizeFor}
+use Rattle.sketch.specs.inner.Held.{shown}
+use Rattle.sketch.proofs.Numbers.{length-put_all}
+use Rattle.sketch.proofs.Sets.{put-handled, size-for}
+use Rattle.sketch.proofs.sketch.handled_bits.Goals as goal
+
+pub loop-holding-preserved : goal.loop-holding-preserved
+loop-holding-preserved c = record {
+  put = put-handled c.args.held.now c.loop-holding.holding-index _ c.base_of.result c.loop-holding.bits c.as_bytes.result.now c.loop-holding-test.true c.base_of.ensures.is c.as_bytes.ensures.value c.put_runs.ensures c.loop-holding.invariant.put;
+  size = ap length c.put_runs.ensures ∙ length-put_all c.loop-holding.bits (runs c.base_of.result c.as_bytes.result.now) ∙ c.loop-holding.invariant.size;
+}
+
+pub returns-clause-size : goal.returns-clause-size
+returns-clause-size c =
+    let total = text_bytes (map shown c.args.held.now) in
+    let size : length c.loop-holding.bits ≡ c.size_for.result = c.loop-holding.invariant.size ∙ ap length (c.in_ok-bits.ensures) ∙ length-replicate c.size_for.result 0 in
+    subst (IsSizeFor total) (sym size) (size-for total c.size_for.result (subst (λ b. IsSizeFor b c.size_for.result) c.text_bytes.ensures c.size_for.ensures))

@@ -1,0 +1,11 @@
+use Rattle.std.proofs.Common.{◌≡◌, drop, map, length}
+use Rattle.sketch.specs.Sketched.{handled_runs_in}
+use Rattle.sketch.specs.inner.Held.{shown}
+use Rattle.sketch.specs.inner.Puts.{put_all}
+use Rattle.sketch.proofs.sketch.handled_bits.Given as goal
+
+abbrev pub invariant-loop-holding : goal.invariant-loop-holding
+invariant-loop-holding l = record {
+  put : put_all l.bits (handled_runs_in (map shown (drop l.holding-index l.held))) ≡ put_all l.initial.bits (handled_runs_in (map shown l.held));
+  size : length l.bits ≡ length l.initial.bits;
+}
