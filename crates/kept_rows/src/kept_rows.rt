@@ -196,7 +196,14 @@ impl<Sh: Shelf> Shelf for KeptRows<Sh> {
         self.shelf.failures()
     }
 
-    fn person_by_key(&mut self, key: &[u8; 32]) -> Result<Option<Person>, ShelfFault> {
+    fn person_by_key(&mut self, key: &[u8; 32]) -> Result<Option<Person>, ShelfFault>
+        ensures reads { Reads (λ k s. Sh.has k.shelf s × Keeps k.rows k.sketches k.seen s)
+            (λ k. Sh.doubts k.shelf) (λ k. Sh.failed k.shelf)
+            (λ k left. Sh.may_remain k.shelf left) self.old self.new (λ s found. found ≡
+            spec.person_by_key key.now s) result }
+        ensures below { Reads Sh.has Sh.doubts Sh.failed Sh.may_remain self.old.shelf self.new.shelf
+            (λ s found. found ≡ spec.person_by_key key.now s) result }
+    {
         self.shelf.person_by_key(key)
     }
 

@@ -1,5 +1,5 @@
 //! The person whose page is made, kept from one incident to the next.
-ghost use Rattle.std.specs.Prelude.{◌≡◌, Some, None, IfOk, IfSome, is_none, true};
+ghost use Rattle.std.specs.Prelude.{◌≡◌, ◌==◌, Some, None, IfOk, IfSome, is_none, true};
 ghost use Rattle.circle.specs.Reads.{person_of};
 ghost use Rattle.circle.specs.declared.directory.Person.{Person};
 ghost use Rattle.hub_state.specs.Reads.{standing_for};
@@ -44,7 +44,7 @@ impl Seen {
 
     /// Whether this is the person of the number.
     pub(crate) fn is_of(&self, person: u32) -> bool
-        ensures { result ≡ true → self.now.number ≡ person }
+        ensures { result ≡ (self.now.number == person) }
     {
         self.number == person
     }

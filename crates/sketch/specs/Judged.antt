@@ -1,8 +1,8 @@
 -- What a sketch alone says of a want.
-use Rattle.std.specs.Prelude.{Bool, true, false, not, ◌&&◌, ◌||◌, List, [], ◌∷◌, Option, Some, None, is_none, is_some, option_map, unwrap_or, if◌then◌else◌, string_bytes}
+use Rattle.std.specs.Prelude.{Bool, true, false, not, ◌&&◌, ◌||◌, List, [], ◌∷◌, Option, Some, None, is_none, option_map, unwrap_or, if◌then◌else◌, string_bytes}
 use Rattle.std.specs.List.{list_any, list_all}
 use Rattle.std.specs.Option.{option_map_or}
-use Rattle.iodef_tree.specs.Text.{Bytes, is_root}
+use Rattle.iodef_tree.specs.Text.{Bytes}
 use Rattle.iodef_tree.specs.Paths.{located}
 use Rattle.iodef_tree.specs.declared.line.Line.{Line}
 use Rattle.marking.specs.Label.{is_at_most, by_arrangement}

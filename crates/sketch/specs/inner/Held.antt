@@ -37,11 +37,12 @@ texts_in (branch name place kids rest) = texts_in rest
 
 -- ---- in all classes
 
--- the front one of some handlings, and those behind it
+-- the front one of some handlings
 abbrev pub front : List (Option Handling) → Option Handling
 front [] = None
 front (h ∷ hs) = h
 
+-- those behind it
 abbrev pub behind : List (Option Handling) → List (Option Handling)
 behind [] = []
 behind (h ∷ hs) = hs
@@ -59,29 +60,32 @@ holdings_below hs (leaf i rest) = holdings_below hs rest
 holdings_below hs (branch name place kids rest) =
     map (held_in name (front hs)) (texts_in kids) ++ (holdings_below (behind hs) kids ++ holdings_below (left_below (behind hs) kids) rest)
 
--- the same for one thing in a member of this name
+-- the handlings that one thing leaves
 abbrev pub body_left : List (Option Handling) → Body → List (Option Handling)
 body_left hs (holds kids) = left_below (behind hs) kids
 body_left hs (says content) = hs
 
+-- the texts that one thing in a member of this name holds, with the classes below
 abbrev pub body_holdings : List (Option Handling) → Bytes → Body → List HeldText
 body_holdings hs name (holds kids) = map (held_in name (front hs)) (texts_in kids) ++ holdings_below (behind hs) kids
 body_holdings hs name (says content) = []
 
--- the same for the elements of an array in a member of this name
+-- the handlings that the elements of an array leave
 abbrev pub many_left : List (Option Handling) → List Body → List (Option Handling)
 many_left hs [] = hs
 many_left hs (b ∷ bs) = many_left (body_left hs b) bs
 
+-- the texts that the elements of an array in a member of this name hold
 abbrev pub many_holdings : List (Option Handling) → Bytes → List Body → List HeldText
 many_holdings hs name [] = []
 many_holdings hs name (b ∷ bs) = body_holdings hs name b ++ many_holdings (body_left hs b) name bs
 
--- the same for a member of this name
+-- the handlings that a member leaves
 abbrev pub bodies_left : List (Option Handling) → Bodies → List (Option Handling)
 bodies_left hs (one b) = body_left hs b
 bodies_left hs (many bs) = many_left hs bs
 
+-- the texts that a member of this name holds
 abbrev pub bodies_holdings : List (Option Handling) → Bytes → Bodies → List HeldText
 bodies_holdings hs name (one b) = body_holdings hs name b
 bodies_holdings hs name (many bs) = many_holdings hs name bs
