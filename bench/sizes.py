@@ -64,7 +64,7 @@ PAGE = 100
 CIRCLE = "sizes"
 MIB = 1 << 20
 # As deploy/lib/limit-memory has them.
-BESIDE, REQUESTS, PROGRAM, ROW, INCIDENT, POLICY = 64, 128, 16, 220, 700, 200
+BESIDE, REQUESTS, PROGRAM, ROW, INCIDENT, POLICY = 64, 128, 16, 220, 800, 200
 GIGABYTES = (1, 2, 4)
 
 FILE, OPENED, OPENED_CLOCK, DATA = "the store's file", "opening, of a processor", "opening, by the clock", "data behind the opening (VmData)"
@@ -552,7 +552,7 @@ def row_bytes(store: pathlib.Path, number: int) -> Rows:
     """Of a store that nobody serves."""
     rows = sqlite3.connect(store)
     lines, texts = rows.execute(
-        "SELECT count(*), sum(length(CAST(name AS BLOB)) + length(CAST(text AS BLOB)) * 3 / 2) FROM item WHERE incident = ?", (number,)
+        "SELECT count(*), sum(length(CAST(name AS BLOB)) + length(CAST(text AS BLOB)) * 2) FROM item WHERE incident = ?", (number,)
     ).fetchone()
     (ident,) = rows.execute("SELECT 4 * length(CAST(ident AS BLOB)) FROM incident WHERE number = ?", (number,)).fetchone()
     rows.close()

@@ -3,7 +3,7 @@
 use crate::store::{FileShelf, close, open_store};
 use hub::Hub;
 use hub_core::{Reply, Request};
-use hub_service::{Fault, Status, print, read_line, reply_lines, reply_to, seconds, status_of};
+use hub_service::{Fault, Status, print, read_caller, reply_lines, reply_to, status_of};
 use std::alloc::Global;
 use std::io::{Read, Write};
 
@@ -48,9 +48,8 @@ fn reply_from<R: Read>(
     request: &Request,
     reader: &mut R,
 ) -> Result<Reply, Fault> {
-    let line = read_line(rt.alloc(), reader)?;
-    let now = seconds(rt)?;
-    Ok(hub.reply(rt.alloc(), now, &line, request))
+    let caller = read_caller(rt.alloc(), rt, reader)?;
+    Ok(hub.reply(rt.alloc(), caller.now, &caller.line, request))
 }
 
 /// Asks the hub at the present moment, with the first line of the input as the caller's key, and prints the reply.

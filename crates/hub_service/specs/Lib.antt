@@ -7,3 +7,4 @@ pub mod Keys
 pub mod FirstRows
 pub mod Serving
 pub mod Replies
+pub mod Printing

@@ -1,8 +1,9 @@
 //! One request to the hub.
-ghost use Rattle.std.specs.Prelude.{◌≡◌};
+ghost use Rattle.std.specs.Prelude.{◌≡◌, ℕ, ℤ, List, IfOk, OnErr};
 ghost use Rattle.hub_core.specs.State.{State};
 ghost use Rattle.hub_core.specs.Sound.{IsSound};
 ghost use Rattle.hub.specs.Machine.{IsStep};
+ghost use Rattle.hub_service.specs.Keys.{IsFirstLine};
 ghost use Rattle.hub_service.specs.Keys as spec;
 
 use crate::clock::seconds;
@@ -30,16 +31,42 @@ pub fn reply_to<Sh: Shelf>(
     hub.answer(alloc, now, &line_key(line), request)
 }
 
+/// What is read of a caller: the line that has the key, and the moment, in seconds since the beginning of 1970 (UTC).
+#[derive(Drop)]
+pub struct Caller {
+    pub line: Vec<u8>,
+    pub now: i64,
+}
+
+/// Reads the first line of the input, and then the clock. Fails with `ReadFailed` if either can't be read.
+pub fn read_caller<R: Read, C: Clock>(
+    alloc: Global,
+    clock: &C,
+    reader: &mut R,
+) -> Result<Caller, Fault>
+    ensures { IfOk result (λ caller.
+        IsFirstLine (R.remaining reader.old) (R.remaining reader.new) caller.line.items) }
+{
+    let line = read_line(alloc, reader)?;
+    let now = seconds(clock)?;
+    Ok(Caller { line, now })
+}
+
 /// Returns the reply to the caller whose key is the first line of the input, at the present moment. Fails with
-/// `ReadFailed` if the line or the clock can't be read.
+/// `ReadFailed`, and asks nothing, if the line or the clock can't be read.
 pub fn reply_to_input<Sh: Shelf, R: Read, C: Clock>(
     alloc: Global,
     hub: &mut Hub<Sh>,
     clock: &C,
     request: &Request,
     reader: &mut R,
-) -> Result<Reply, Fault> {
-    let line = read_line(alloc, reader)?;
-    let now = seconds(clock)?;
-    Ok(reply_to(alloc, hub, now, &line, request))
+) -> Result<Reply, Fault>
+    ensures step { IfOk result (λ reply. Sh.doubts hub.new ≡ 0 → (s : State) → Sh.has hub.old s →
+        IsSound s → (line : List ℕ) × (now : ℤ) × (left : State) ×
+        IsFirstLine (R.remaining reader.old) (R.remaining reader.new) line ×
+        IsStep s (now, spec.line_key line, request.now) reply left × Sh.has hub.new left) }
+    ensures unasked { OnErr result (hub.new ≡ hub.old) }
+{
+    let caller = read_caller(alloc, clock, reader)?;
+    Ok(reply_to(alloc, hub, caller.now, &caller.line, request))
 }

@@ -1,8 +1,8 @@
 //! What the program `iodef-hub` does over any shelf: standard input, keys, what it prints, connections and the clock.
 //!
 //! To read first, in `specs/`: `Mark`, `Lines` and `Hints`, what `mark` prints for a body; `Serving`, what serving connections
-//! leaves; `FirstRows`, what a new store holds; `Keys`, the key of a line; `Replies`, `Faults` and `Status`, what is
-//! printed, and the exit status.
+//! leaves; `FirstRows`, what a new store holds; `Keys`, the key of a line; `Replies`, `Faults`, `Printing`
+//! and `Status`, what is printed, and the exit status.
 //!
 //! The modules:
 //!
@@ -12,7 +12,7 @@
 //!   too ([`shelf_fault`]), and the program's outcome ([`Status`]);
 //! - `mark`: [`mark_text`], the labels of a report, and the hint of a [`MarkFault`];
 //! - `first_rows`: [`put_first_rows`], the rows of a new store;
-//! - `asking`: [`reply_to`] and [`reply_to_input`], one request to the hub; `replies`: what is printed of a reply;
+//! - `asking`: [`reply_to`] and [`reply_to_input`], one request to the hub of a [`Caller`]; `replies`: what is printed of a reply;
 //! - `listen`: [`serve_count`], connections one after the other; `peer`: a peer that is silent, slow, or still sending;
 //! - `clock`: [`seconds`], the present moment.
 #![tactic(auto)]
@@ -30,7 +30,7 @@ mod peer;
 mod replies;
 mod status;
 
-pub use asking::{reply_to, reply_to_input};
+pub use asking::{Caller, read_caller, reply_to, reply_to_input};
 pub use clock::seconds;
 pub use fault::{Fault, Reason, shelf_fault};
 pub use first_rows::put_first_rows;
