@@ -33,6 +33,8 @@ ORGS = ("Source", "Readers", "Shut out", "Uncleared", "Gated", "Permitted")
 COMMUNITY = (2, 3, 6)
 OUTER, INNER = (3, 5, 6, 7), (3, 5)
 EVENTS, LABELS = 20, (None, "green", "amber", "red", "need-to-know")
+# A text of each report's fourth EventData, which is red.
+ABOVE = "step%203%20of"
 PERMITTED_CLASS, GATED_CLASS = "/Incident/0/EventData/1", "/Incident/0"
 TEXT, PIECE = 2_500, 500
 # The reports 10, 20, .. 100 are addressed to the reader's organisation.

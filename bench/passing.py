@@ -156,6 +156,7 @@ def search_rows() -> Iterator[Row]:
         yield from (search_row("found", mixed.there, it, holder) for it in NEEDLES)
     yield from (search_row("woven", woven, it) for it in NEEDLES[-2:])
     yield search_row("elsewhere", mixed.there, 8, MISSING)
+    yield Row("above the clearance, 9 bytes", get(mixed.READER, f"/search?needle={mixed.ABOVE}", LISTS), shows=False)
 
 
 def change_rows() -> Iterator[Row]:

@@ -6,6 +6,7 @@ ghost use Rattle.hub_service.specs.Faults.{fault_status};
 
 use crate::fault::Fault;
 use crate::status::Status;
+use std::io;
 use std::io::Write;
 
 /// Prints a text as it is. Fails with `WriteFailed` if it can't be written.
@@ -14,13 +15,18 @@ pub fn print<W: Write>(writer: &mut W, text: &str) -> Result<Status, Fault>
     ensures done { IfOk result (λ status. status ≡ Status.Done) }
     ensures fault { IfErr result (λ fault. fault ≡ Fault.WriteFailed) }
 {
-    match writer
-        .write_all(text.as_bytes())
-        .and_then(|_| writer.flush())
-    {
+    match write_out(writer, text.as_bytes()) {
         Ok(()) => Ok(Status::Done),
         Err(_) => Err(Fault::WriteFailed),
     }
+}
+
+/// Writes the bytes, and what the writer has held back.
+fn write_out<W: Write>(writer: &mut W, bytes: &[u8]) -> io::Result<()>
+    ensures { OnOk result (Appends (W.contents writer.old) (W.contents writer.new) bytes.now) }
+{
+    writer.write_all(bytes)?;
+    writer.flush()
 }
 
 /// Prints a fault's name, or its reason, on a line of its own to standard error. Returns the status, or `Failed` if it
