@@ -198,10 +198,10 @@ INSERT INTO incident VALUES (1, '0123456789'), (2, 'é');
 INSERT INTO recipient VALUES (1), (2), (2);
 INSERT INTO pair VALUES ('m');
 """
-# 144 MiB, 220 for each of 14 rows, the names of lines (6 bytes) and twice each text (24); for each of 3 gates and
+# 144 MiB, 220 for each of 14 rows, the names of lines (6 bytes) and twice each text (26); for each of 3 gates and
 # permissions 200, and for their paths 56 for each of 2 parts and four times their 8 bytes; for each of 2 incidents 800 and four times the
 # bytes of the identities (12). docs/OPERATIONS.md, Sizes.
-NEEDED = 144 * MIB + 14 * 220 + 6 + 24 + 3 * 200 + 2 * 56 + 4 * 8 + 2 * 800 + 4 * 12
+NEEDED = 144 * MIB + 14 * 220 + 6 + 26 + 3 * 200 + 2 * 56 + 4 * 8 + 2 * 800 + 4 * 12
 
 
 def memory() -> Checks:
