@@ -1,5 +1,5 @@
 -- What is told of several views, one view more; and what is delivered in all.
-use Rattle.std.proofs.Common.{◌≡◌, ◌≢◌, refl, sym, ap, ap₂, ◌∙◌, subst, ℕ, zero, suc, ◌+◌, ◌≤◌, ◌<◌, List, [], ◌∷◌, ◌++◌, length, take, drop, get_or, set, map, Ok, Err, IfOk, IfErr, append-nil, append_assoc, arith}
+use Rattle.std.proofs.Common.{◌≡◌, refl, sym, ap, ap₂, ◌∙◌, subst, ℕ, zero, suc, ◌+◌, ◌≤◌, ◌<◌, List, [], ◌∷◌, ◌++◌, length, take, drop, get_or, set, map, Ok, Err, IfOk, IfErr, append-nil, append_assoc, arith}
 use Rattle.std.specs.List.{flat_map}
 use Rattle.std.specs.declared.alloc.Global.{Global}
 use Rattle.std.specs.declared.vec.Vec.{Vec}
@@ -7,7 +7,7 @@ use Rattle.redaction.specs.Answers.{text_by, texts_by}
 use Rattle.redaction.specs.Faults.{fault_number}
 use Rattle.redaction.specs.Outcome.{Read, YieldsAs}
 use Rattle.redaction.specs.declared.fault.Fault.{Fault}
-use Rattle.redaction.specs.declared.fault.Fault.TheVariants.{NoMemory, ViewNotJson, DoubledMember, NotObject, UnknownMember, MissingMember, WrongKind, OutOfRange, BadPointer, BadMoment, SourceUnsaid, NotUtf8, NotJson, NotDocument, Missing, NotWhole, NestedClass, TooDeep, TooManyLines, BadMarking, NoIncident, NoClass, NothingVisible, NotReadable, IdMissing}
+use Rattle.redaction.specs.declared.fault.Fault.TheVariants.{NoMemory}
 use Rattle.redact_c.specs.Delivery.{Placed, DeliversEach, number_for, text_of, told, told_each, refused}
 use Rattle.redact_c.specs.declared.delivery.Answers.{Answers}
 use Rattle.redact_c.specs.declared.delivery.Asked.{Asked}
@@ -95,32 +95,9 @@ refuse-step number vs now i d new few before is =
 -- ---- all of them
 
 -- the number of no fault is that of an answer
-pub never-zero : (e : Fault) → fault_number e ≡ 0 → ⊥
-never-zero NoMemory h = let k : 1 ≡ 0 = h in omega arith
-never-zero ViewNotJson h = let k : 2 ≡ 0 = h in omega arith
-never-zero DoubledMember h = let k : 3 ≡ 0 = h in omega arith
-never-zero NotObject h = let k : 4 ≡ 0 = h in omega arith
-never-zero UnknownMember h = let k : 5 ≡ 0 = h in omega arith
-never-zero MissingMember h = let k : 6 ≡ 0 = h in omega arith
-never-zero WrongKind h = let k : 7 ≡ 0 = h in omega arith
-never-zero OutOfRange h = let k : 8 ≡ 0 = h in omega arith
-never-zero BadPointer h = let k : 9 ≡ 0 = h in omega arith
-never-zero BadMoment h = let k : 10 ≡ 0 = h in omega arith
-never-zero SourceUnsaid h = let k : 11 ≡ 0 = h in omega arith
-never-zero NotUtf8 h = let k : 12 ≡ 0 = h in omega arith
-never-zero NotJson h = let k : 13 ≡ 0 = h in omega arith
-never-zero NotDocument h = let k : 14 ≡ 0 = h in omega arith
-never-zero Missing h = let k : 15 ≡ 0 = h in omega arith
-never-zero NotWhole h = let k : 16 ≡ 0 = h in omega arith
-never-zero NestedClass h = let k : 17 ≡ 0 = h in omega arith
-never-zero TooDeep h = let k : 18 ≡ 0 = h in omega arith
-never-zero TooManyLines h = let k : 19 ≡ 0 = h in omega arith
-never-zero BadMarking h = let k : 20 ≡ 0 = h in omega arith
-never-zero NoIncident h = let k : 21 ≡ 0 = h in omega arith
-never-zero NoClass h = let k : 22 ≡ 0 = h in omega arith
-never-zero NothingVisible h = let k : 23 ≡ 0 = h in omega arith
-never-zero NotReadable h = let k : 24 ≡ 0 = h in omega arith
-never-zero IdMissing h = let k : 25 ≡ 0 = h in omega arith
+pub is-positive : (e : Fault) → 0 < fault_number e
+is-positive NoMemory = omega arith
+is-positive _ = omega arith
 
 -- what is told of the answers of a call is what is wanted of the report
 pub delivers-each :
@@ -143,8 +120,8 @@ delivers-each (Ok a) number needed asked after_asked before after wanted yields 
 }
 delivers-each (Err e) number needed asked after_asked before after wanted yields joined placed each none n refusal u t = record {
   numbered = λ no. n ∙ sym (ap (λ w. number_for w) (yields (λ is. no (n ∙ ap fault_number is))));
-  each_told = λ is. absurd (never-zero e (sym n ∙ is));
-  answered = λ is. absurd (never-zero e (sym n ∙ is));
+  each_told = λ is. (let positive : 0 < fault_number e = is-positive e in absurd (omega (arith, sym n ∙ is)));
+  answered = λ is. (let positive : 0 < fault_number e = is-positive e in absurd (omega (arith, sym n ∙ is)));
   each_refused = λ _. subst (λ k. after_asked ≡ map (refused k) asked) (sym n) refusal;
   uncounted = λ _. u;
   untouched = λ _. t;
