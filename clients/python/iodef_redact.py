@@ -532,7 +532,7 @@ def _asked_together(report: bytes, asked: ctypes.Array[_View]) -> tuple[int, byt
 def _answers(report: object, views: Sequence[bytes]) -> list[bytes | Fault]:
     """The library's answer for each view, or its fault."""
     text, _ = _text("report", report)
-    asked = (_View * len(views))(*((view, len(view)) for view in views))
+    asked = (_View * len(views))(*(_View(view, len(view)) for view in views))
     number, told = _asked_together(text, asked)
     if number:
         # a call without a view, as the fault is the report's
