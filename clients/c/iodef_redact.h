@@ -13,8 +13,8 @@
  *
  * What the caller must ensure, and nothing checks:
  *
- *   - out, needed and the bytes that are read do not overlap. While a call runs, no other thread writes to any of them, nor
- *     reads out and needed. Otherwise calls may run in parallel: the library has no state.
+ *   - out, needed, asked and the bytes that are read do not overlap. While a call runs, no other thread writes to any of them, nor
+ *     reads out, needed and asked. Otherwise calls may run in parallel: the library has no state.
  *   - malloc, realloc and free belong to one allocator. malloc and realloc align a block to each power of two up to 16 that
  *     divides its size.
  *   - No call is made in a signal handler, nor in the forked child of a process that has threads. The child may exec first.
@@ -94,8 +94,18 @@ static inline const char *iodef_redact_fault_reason(uint32_t fault) {
 /* The most stack that a call needs, in bytes. */
 #define IODEF_REDACT_STACK (256 * 1024)
 
+/* One of several views of a report: what it is, and what the call tells of it. */
+typedef struct {
+    const uint8_t *view; /* the view description, and its length */
+    size_t view_length;
+    size_t needed;  /* told: the length of its answer; 0 on a fault */
+    uint32_t fault; /* told: 0 if there is an answer, and otherwise the number of the fault */
+} iodef_redact_asked;
+
 /* ---- the library itself ---- */
 
+uint32_t iodef_redact_excerpts_into(const uint8_t *report, size_t report_length, iodef_redact_asked *asked, size_t asked_length,
+                                    uint8_t *out, size_t out_length, size_t *needed);
 uint32_t iodef_redact_excerpt_into(const uint8_t *report, size_t report_length, const uint8_t *view, size_t view_length,
                                    uint8_t *out, size_t out_length, size_t *needed);
 uint32_t iodef_redact_document_into(const uint8_t *report, size_t report_length, const uint8_t *view, size_t view_length,
@@ -153,6 +163,31 @@ static inline uint32_t iodef_redact_excerpt(const void *report, size_t report_le
     iodef_redact_bytes_ r = iodef_redact_bytes_of_(report, report_length), v = iodef_redact_bytes_of_(view, view_length);
     if (!iodef_redact_takes_(out, out_length, needed) || !r.is_good || !v.is_good) return IODEF_REDACT_NULL_POINTER;
     return iodef_redact_excerpt_into(r.start, r.length, v.start, v.length, iodef_redact_start_of_(out), out_length, needed);
+}
+
+/* The same for each of several views, of which there are `asked_length`. The report is read once. On 0, `fault` and `needed` of each
+ * view are what iodef_redact_excerpt would return and tell, and *needed is the length of all answers together. If out_length is
+ * at least that, out begins with the answers, one behind the other in the order of the views.
+ *
+ * The call itself has a fault if the report has one, whatever faults the views have, or if memory runs out for any of them. On a
+ * fault each view has it too. A view that is NULL with length 0 is set to an empty text. */
+static inline uint32_t iodef_redact_excerpts(const void *report, size_t report_length, iodef_redact_asked *asked,
+                                             size_t asked_length, void *out, size_t out_length, size_t *needed) {
+    iodef_redact_bytes_ r = iodef_redact_bytes_of_(report, report_length), v;
+    int is_good = iodef_redact_takes_(out, out_length, needed) && r.is_good;
+    iodef_redact_asked none;
+    size_t at;
+    if (asked ? asked_length > PTRDIFF_MAX / sizeof *asked : asked_length != 0) return IODEF_REDACT_NULL_POINTER;
+    for (at = 0; at < asked_length; at++) {
+        v = iodef_redact_bytes_of_(asked[at].view, asked[at].view_length);
+        is_good = is_good && v.is_good;
+        if (v.is_good) asked[at].view = v.start;
+        asked[at].needed = 0;
+        asked[at].fault = IODEF_REDACT_NULL_POINTER;
+    }
+    if (!is_good) return IODEF_REDACT_NULL_POINTER;
+    return iodef_redact_excerpts_into(r.start, r.length, asked ? asked : &none, asked_length, iodef_redact_start_of_(out), out_length,
+                                      needed);
 }
 
 /* The member `document` of that answer, alone. */

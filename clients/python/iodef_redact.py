@@ -3,6 +3,7 @@
     import iodef_redact
     seen = iodef_redact.excerpt(report, to="GREEN")
     print(seen.label, seen.document, seen.withheld)
+    partners = iodef_redact.excerpts(report, to=["GREEN", "TLP:AMBER"])
 
 A report is an IODEF v2 document in JSON (RFC 7970 and RFC 8727), as bytes or str. `to` says for whom it is redacted:
 
@@ -33,7 +34,8 @@ LIBRARY = "libiodef_redact.so.1"
 HANDLINGS = ("CLEAR", "GREEN", "AMBER", "STRICT", "RED")
 CLEARANCES = (*HANDLINGS, "TLP:CLEAR", "TLP:WHITE", "TLP:GREEN", "TLP:AMBER", "TLP:AMBER+STRICT", "TLP:RED")
 
-# The words of each export, in their order. `incident` and `dated` are numbers, and each other word is a text: its start and its length.
+# The words of each export but `excerpts`, in their order. `incident` and `dated` are numbers, and each other word is a text: its start
+# and its length.
 EXPORTS: dict[str, tuple[str, ...]] = {
     "excerpt": ("report", "view"),
     "document": ("report", "view"),
@@ -47,6 +49,7 @@ EXPORTS: dict[str, tuple[str, ...]] = {
 }
 NUMBERS = ("incident", "dated")
 DATED = ("whole", "whole_with_id")  # the exports whose view must have `now`
+FIRST_ROOM = 2**24  # the most bytes that are taken for the answers of several views before they are known to need more
 
 Kind = TypeVar("Kind")
 
@@ -275,10 +278,17 @@ def excerpt(
 ) -> Excerpt:
     """What the reader may see of the Incident at the place `incident`, the first one if it isn't given. `now` is the moment that
     decides whether a permission has ended, and is required if one has `until`."""
-    text = _answer("excerpt", report, _described(to, case, incident, now))
-    told = json.loads(text)
-    withheld = tuple(Withheld(place, rule) for place, rule in told["withheld"])
-    return Excerpt(told["classes"], told["document"], told["label"], told["readable"], withheld, text)
+    return _excerpt(_answer("excerpt", report, _described(to, case, incident, now)))
+
+
+def excerpts(
+    report: bytes | str, to: Iterable[str | Reader | View], case: Case | None = None, *, incident: int | None = None,
+    now: str | datetime.datetime | None = None,
+) -> list[Excerpt | Fault]:
+    """What each of these readers may see, in their order: an Excerpt, or the Fault that excerpt() would raise. The report is read
+    once. A fault of the report is raised, whatever faults the views have."""
+    given = [_text("view", _described(each, case, incident, now))[0] for each in _items("to", to, object)]
+    return [_excerpt(answer) if isinstance(answer, bytes) else answer for answer in _answers(report, given)]
 
 
 def document(
@@ -408,6 +418,12 @@ def _file() -> str:
     return os.environ.get("IODEF_REDACT_LIBRARY") or (beside if os.path.isfile(beside) else LIBRARY)
 
 
+class _View(ctypes.Structure):
+    """One of several views, and what is told of it."""
+
+    _fields_ = [("view", ctypes.c_char_p), ("view_length", ctypes.c_size_t), ("needed", ctypes.c_size_t), ("fault", ctypes.c_uint32)]
+
+
 @functools.cache
 def _library() -> ctypes.CDLL:
     """The library. The signature of each export is set here, and stays the same whatever a call is given."""
@@ -418,6 +434,10 @@ def _library() -> ctypes.CDLL:
         taken = [kind for word in words for kind in (number if word in NUMBERS else text)]
         function.argtypes = [*taken, ctypes.c_void_p, ctypes.c_size_t, ctypes.POINTER(ctypes.c_size_t)]
         function.restype = ctypes.c_uint32
+    together = library.iodef_redact_excerpts_into
+    sizes = (ctypes.c_size_t, ctypes.POINTER(ctypes.c_size_t))
+    together.argtypes = [*text, ctypes.POINTER(_View), ctypes.c_size_t, ctypes.c_void_p, *sizes]
+    together.restype = ctypes.c_uint32
     return library
 
 
@@ -468,16 +488,58 @@ def _asked(name: str, words: Sequence[bytes | int]) -> tuple[int, bytes]:
 
 def _place(number: int, name: str, given: Sequence[object]) -> str | None:
     """Where the fault of a call is, if the view and the report have it as their first one. Otherwise it is of another word. A call
-    without a view asks with any one."""
+    without a view asks with any one. Of NothingVisible and those behind it none is a first fault."""
+    if number >= NothingVisible.number:
+        return None
     view = '{"clearance":"RED"}' if name == "marks" else given[1]
     missing, told = _asked("first_fault", _words("first_fault", (given[0], view, int(name in DATED))))
     found, _, place = told.decode().partition(" ")
     return None if missing or found != str(number) else place
 
 
+def _fault(number: int, name: str, given: Sequence[object]) -> Fault:
+    """The fault of a call."""
+    return FAULTS.get(number, Fault)(_place(number, name, given))
+
+
 def _answer(name: str, *given: object) -> bytes:
     """The library's answer."""
     number, answer = _asked(name, _words(name, given))
     if number:
-        raise FAULTS.get(number, Fault)(_place(number, name, given))
+        raise _fault(number, name, given)
     return answer
+
+
+def _excerpt(text: bytes) -> Excerpt:
+    """What the JSON text of an excerpt says."""
+    told = json.loads(text)
+    withheld = tuple(Withheld(place, rule) for place, rule in told["withheld"])
+    return Excerpt(told["classes"], told["document"], told["label"], told["readable"], withheld, text)
+
+
+def _asked_together(report: bytes, asked: ctypes.Array[_View]) -> tuple[int, bytes]:
+    """What the library returns for several views, and their answers one behind the other."""
+    function = _library().iodef_redact_excerpts_into
+    needed = ctypes.c_size_t(min(len(asked) * (4096 + len(report)), FIRST_ROOM))
+    while True:
+        room = needed.value
+        out = ctypes.create_string_buffer(room or 1)
+        number = function(report, len(report), asked, len(asked), out, room, ctypes.byref(needed))
+        if needed.value <= room:
+            return number, ctypes.string_at(out, needed.value)
+
+
+def _answers(report: object, views: Sequence[bytes]) -> list[bytes | Fault]:
+    """The library's answer for each view, or its fault."""
+    text, _ = _text("report", report)
+    asked = (_View * len(views))(*(_View(view, len(view)) for view in views))
+    number, told = _asked_together(text, asked)
+    if number:
+        # a call without a view, as the fault is the report's
+        raise _fault(number, "marks", (text,))
+    answers: list[bytes | Fault] = []
+    at = 0
+    for view, each in zip(views, asked, strict=True):
+        answers.append(_fault(each.fault, "excerpt", (text, view)) if each.fault else told[at:at + each.needed])
+        at += each.needed
+    return answers

@@ -5,20 +5,22 @@
 //!
 //! Each function returns 0 if there is an answer, and otherwise the number of its fault
 //! ([`redaction::Fault::number`]). On 0, `needed` is the answer's length in bytes, and `out` begins with the answer if
-//! it has room for all of it. Otherwise `out` stays as it is. On a fault `needed` is 0.
+//! it has room for all of it. Otherwise `out` stays as it is. On a fault `needed` is 0. Of several views, an [`Asked`] each,
+//! the same is told of each, and `out` begins with all answers one behind the other.
 //!
 //! No function can return a name, so the header and the module for Python have the names of the faults.
 //! `scripts/try/redact` compares them with those of `redaction`.
 #![tactic(auto)]
 
 ghost use Rattle.std.specs.Prelude.{◌≡◌, None, Some, Ok, Err, IfOk, IfErr, IsOk, not, ◌==◌};
-ghost use Rattle.redact_c.specs.Delivery.{Delivers};
-ghost use Rattle.redaction.specs.Answers.{excerpt_text, document_text, whole_text, finds_text, explain_text, marks_text};
+ghost use Rattle.redact_c.specs.Delivery.{Delivers, DeliversEach, descriptions_of};
+ghost use Rattle.redaction.specs.Answers.{excerpt_text, excerpt_texts, document_text, whole_text, finds_text, explain_text, marks_text};
 ghost use Rattle.redaction.specs.Locating.{first_fault_text};
 
 mod delivery;
 
-use crate::delivery::deliver;
+use crate::delivery::{answers_of, deliver, deliver_each};
+pub use delivery::Asked;
 use redaction::{ExcerptDocument, Fault, Identifier};
 use std::alloc::Global;
 
@@ -34,6 +36,23 @@ pub extern "C" fn iodef_redact_excerpt_into(
     ensures { Delivers result needed.new out.old out.new (excerpt_text report.now view.now) }
 {
     deliver(redaction::excerpt(alloc, report, view), out, needed)
+}
+
+/// The answers of [`redaction::excerpts`] for several views, one behind the other. Each view is told the number of its
+/// fault and the length of its answer.
+#[unsafe(no_mangle)]
+pub extern "C" fn iodef_redact_excerpts_into(
+    alloc: Global,
+    report: &[u8],
+    asked: &mut [Asked<'_>],
+    out: &mut [u8],
+    needed: &mut usize,
+) -> u32
+    ensures { DeliversEach result needed.new asked.old asked.new out.old out.new
+        (excerpt_texts report.now (descriptions_of asked.old)) }
+{
+    let answers = answers_of(alloc, report, asked);
+    deliver_each(answers, asked, out, needed)
 }
 
 /// Returns the text of a document that was answered.

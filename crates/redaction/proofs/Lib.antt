@@ -12,3 +12,4 @@ mod SpelledLabels
 mod ExcerptsRead
 mod ToldRead
 mod Beside
+mod Among

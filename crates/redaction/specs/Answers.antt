@@ -1,6 +1,8 @@
 -- The answers about a report.
 use Rattle.std.specs.Prelude.{ℕ, List, [], ◌∷◌, ◌++◌, map, Bool, if◌then◌else◌, Option, None, unwrap_or, Ok, codes}
 use Rattle.std.specs.List.{flat_map}
+use Rattle.std.specs.declared.alloc.Global.{Global}
+use Rattle.std.specs.declared.vec.Vec.{Vec}
 use Rattle.serde_json.specs.Data.{Data, boolean, number, unsigned, string, array, object, no_members, member}
 use Rattle.serde_json.specs.View.{items_of}
 use Rattle.serde_json.specs.Written.{compact_text}
@@ -26,9 +28,9 @@ use Rattle.redaction.specs.Highest.{highest, tlp_name}
 use Rattle.redaction.specs.Readable.{is_readable}
 use Rattle.redaction.specs.Words.{word_of, some_word_of}
 use Rattle.redaction.specs.Whole.{some_id_of, whole_of}
-use Rattle.redaction.specs.Asked.{asked_of, incident_of}
+use Rattle.redaction.specs.Asked.{asked_of, incident_of, reported}
 use Rattle.redaction.specs.declared.asked.Asked.{Asked}
-use Rattle.redaction.specs.declared.excerpts.ExcerptDocument.{ExcerptDocument}
+use Rattle.redaction.specs.declared.excerpting.ExcerptDocument.{ExcerptDocument}
 use Rattle.redaction.specs.declared.view.View.{View}
 use Rattle.redaction.specs.declared.fault.Fault.TheVariants.{NoClass, NothingVisible}
 
@@ -66,6 +68,21 @@ excerpt_text report description = do
   view ← described description
   told ← told_by_view report view
   Ok (compact_text (excerpt_object view.reader.arrangement told))
+
+-- The same for each of several view descriptions, in their order: the compact JSON of its excerpt, or its first fault.
+-- A fault of the report comes before all faults of the descriptions, and is the only answer.
+unfoldable pub excerpt_texts : Bytes → List Bytes → Read (List (Read Bytes))
+excerpt_texts report descriptions = do
+  _ ← reported report
+  Ok (map (excerpt_text report) descriptions)
+
+-- what an answer of the program holds
+abbrev pub text_by : Read (Vec ℕ Global) → Read Bytes
+text_by answer = answer >>= λ text. Ok text.items
+
+-- what its list of answers holds
+abbrev pub texts_by : List (Read (Vec ℕ Global)) → List (Read Bytes)
+texts_by answers = map text_by answers
 
 -- the compact JSON of the document of an excerpt, and whether it is a report again
 abbrev pub document_of : Told → Bytes × Bool

@@ -1,9 +1,10 @@
 //! The question about a report: one of its documents, with a case and a reader.
-ghost use Rattle.std.specs.Prelude.{◌≡◌, None, IfOk};
+ghost use Rattle.std.specs.Prelude.{◌≡◌, None, true, IfOk};
 ghost use Rattle.std.specs.List.{list_all};
 ghost use Rattle.iodef_tree.specs.Paths.{located};
 ghost use Rattle.marking.specs.Marks.{first_bad_marking};
 ghost use Rattle.redaction.specs.Outcome.{Yields, YieldsAs, require};
+ghost use Rattle.redaction.specs.inner.Among as among;
 ghost use Rattle.redaction.specs.Asked as spec;
 
 use crate::fault::{Fault, of_report};
@@ -45,17 +46,27 @@ fn check_markings(alloc: Global, documents: &[Document]) -> Result<(), Fault>
     Ok(())
 }
 
+/// Reads the documents of the report, one for each Incident. Their markings were accepted.
+#[tactic(auto, unfolding(crate::specs::Asked::reported))]
+pub(crate) fn read_reported(alloc: Global, report: &[u8]) -> Result<Vec<Document>, Fault>
+    ensures read { YieldsAs (λ v. v.items) result (spec.reported report.now) }
+    ensures marked { IfOk result (λ v. list_all spec.is_well_marked v.items ≡ true) }
+{
+    let documents = read_documents(alloc, report)?;
+    // The markings of all Incidents, as a hub asks for them in a post.
+    check_markings(alloc, documents.as_slice())?;
+    Ok(documents)
+}
+
 /// Reads the document of the Incident at a place of the report. Its markings were accepted.
 ///
 /// Fails with NoIncident if there is none at that place.
-#[tactic(auto, unfolding(crate::specs::Asked::incident_of, crate::specs::Asked::reported))]
+#[tactic(auto, unfolding(crate::specs::Asked::incident_of))]
 pub(crate) fn read_incident(alloc: Global, report: &[u8], place: u32) -> Result<Document, Fault>
     ensures read { Yields result (spec.incident_of report.now place) }
     ensures marked { IfOk result (λ d. first_bad_marking (located d) ≡ None) }
 {
-    let mut documents = read_documents(alloc, report)?;
-    // The markings of all Incidents, as a hub asks for them in a post.
-    check_markings(alloc, documents.as_slice())?;
+    let mut documents = read_reported(alloc, report)?;
     let place = place as usize;
     if place >= documents.len() {
         return Err(Fault::NoIncident);
@@ -118,4 +129,24 @@ pub(crate) fn read_asked(alloc: Global, report: &[u8], view: View) -> Result<Ask
         case: view.case,
         reader: view.reader,
     })
+}
+
+/// Returns the one of a report's documents whose Incident a view names. Fails as [`read_asked`] does.
+pub(crate) fn document_among<'a>(
+    documents: &'a [Document],
+    view: &View,
+) -> Result<&'a Document, Fault>
+    requires { list_all spec.is_well_marked documents.now ≡ true }
+    ensures read { YieldsAs (λ d. d.now) result (among.document_among documents.now view.now) }
+    ensures marked { IfOk result (λ d. first_bad_marking (located d.now) ≡ None) }
+{
+    let place = view.incident as usize;
+    if place >= documents.len() {
+        return Err(Fault::NoIncident);
+    }
+    let document = &documents[place];
+    if !case_stands(document, &view.case) {
+        return Err(Fault::NoClass);
+    }
+    Ok(document)
 }

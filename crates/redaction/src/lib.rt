@@ -12,9 +12,9 @@
 //!   view; `gates`, `permissions` and `case`: its case; `reader`: its reader; `short`: its short form; `view`: the
 //!   whole description;
 //! - `asked`: a document of the report, with a case and a reader;
-//! - `excerpts`: [`excerpt`], [`excerpt_document`] and [`excerpt_whole`]; `body`: an excerpt as a JSON text;
-//!   `readable` and `limits`: whether it is a report again; `highest`: its highest label; `whole`: made a report by
-//!   placeholders;
+//! - `excerpting`: [`excerpt`], [`excerpt_document`] and [`excerpt_whole`]; `several`: [`excerpts`]; `body`: an excerpt
+//!   as a JSON text; `readable` and `limits`: whether it is a report again; `highest`: its highest label; `whole`: made a
+//!   report by placeholders;
 //! - `finding`: [`finds`]; `explaining`: [`explain`]; `mark_lines`: [`marks`];
 //! - `locating`: [`first_fault`], a fault of a description or a report with its place;
 //! - [`laws`]: what the short form promises, and what can be read again.
@@ -24,7 +24,7 @@ mod asked;
 mod body;
 mod both;
 mod case;
-mod excerpts;
+mod excerpting;
 mod explaining;
 mod fault;
 mod finding;
@@ -40,12 +40,13 @@ mod permissions;
 mod place;
 mod readable;
 mod reader;
+mod several;
 mod short;
 mod value;
 mod view;
 mod whole;
 
-pub use excerpts::{ExcerptDocument, excerpt, excerpt_document, excerpt_whole};
+pub use excerpting::{ExcerptDocument, excerpt, excerpt_document, excerpt_whole};
 pub use explaining::explain;
 pub use fault::Fault;
 pub use finding::finds;
@@ -53,6 +54,7 @@ pub use locating::first_fault;
 pub use mark_lines::marks;
 pub use moment::is_written;
 pub use reader::is_clearance;
+pub use several::excerpts;
 pub use whole::Identifier;
 
 /// How many gates a view may have besides the one at the root.

@@ -3,6 +3,7 @@
 //!
 //! - `report BYTES`: the report of the cases behind it; nothing is answered.
 //! - `excerpt VIEW`, `document VIEW`: what is answered, and a newline.
+//! - `excerpts VIEW VIEW ..`: the answer of `excerpt` to each view, a line each.
 //! - `reads VIEW`: whether the document is a report again.
 //! - `whole NAME ID VIEW`: the document as a report again, with this identifier; with none for `- -`.
 //! - `fault VIEW`: the first fault, with its place; `faultd VIEW`: the same if the moment is wanted.
@@ -81,6 +82,16 @@ fn line_of(alloc: Global, answer: Result<Vec<u8>, Fault>) -> Result<String, Allo
     Ok(text)
 }
 
+/// Returns each of the answers on a line that ends.
+fn lines_of(alloc: Global, answers: Vec<Result<Vec<u8>, Fault>>) -> Result<Vec<u8>, AllocError> {
+    let mut lines = String::new(alloc);
+    for answer in answers {
+        let line = line_of(alloc, answer)?;
+        lines.push_str(line.as_str())?;
+    }
+    Ok(lines.into_bytes())
+}
+
 fn faults(alloc: Global) -> Result<String, AllocError> {
     let mut text = String::new(alloc);
     for fault in FAULTS {
@@ -126,6 +137,9 @@ impl Table {
         if verb == "excerpt" || verb == "document" || verb == "reads" {
             return self.excerpt(alloc, verb, rest);
         }
+        if verb == "excerpts" {
+            return self.excerpts(alloc, rest);
+        }
         if verb == "fault" || verb == "faultd" {
             let view = bytes_of(alloc, rest)?;
             return Ok(redaction::first_fault(alloc, verb == "faultd", report, &view));
@@ -157,6 +171,21 @@ impl Table {
             Ok(document) if verb == "document" => Ok(Ok(document.text)),
             Ok(document) if document.readable => Ok(Ok(Vec::from_slice(alloc, b"true")?)),
             Ok(_) => Ok(Ok(Vec::from_slice(alloc, b"false")?)),
+            Err(fault) => Ok(Err(fault)),
+        }
+    }
+
+    fn excerpts(&self, alloc: Global, views: &str) -> Result<Result<Vec<u8>, Fault>, AllocError> {
+        let mut given = Vec::new(alloc);
+        for view in views.split_whitespace() {
+            given.push(bytes_of(alloc, view)?)?;
+        }
+        let mut descriptions: Vec<&[u8]> = Vec::new(alloc);
+        for view in &given {
+            descriptions.push(view.as_slice())?;
+        }
+        match redaction::excerpts(alloc, self.report.as_slice(), &descriptions) {
+            Ok(answers) => Ok(Ok(lines_of(alloc, answers)?)),
             Err(fault) => Ok(Err(fault)),
         }
     }

@@ -19,7 +19,7 @@
 #include <stdlib.h>
 #include <string.h>
 
-enum { FILL = 0xA5, ALL_LENGTHS = 3000, ALL_PIECES = 3000 };
+enum { FILL = 0xA5, ALL_LENGTHS = 3000, ALL_PIECES = 3000, MOST_VIEWS = 8 };
 
 typedef struct {
     uint8_t *start; /* of a piece of its own, with nothing behind it; NULL where it is empty */
@@ -31,6 +31,7 @@ typedef enum {
     REPORT,
     FAULTS,
     EXCERPT, /* the calls, from here on */
+    EXCERPTS,
     READS,
     DOCUMENT,
     WHOLE,
@@ -45,6 +46,8 @@ typedef enum {
 typedef struct {
     Verb verb;
     Bytes report, view, word, name; /* the name of a class, or that of an identifier */
+    Bytes views[MOST_VIEWS];
+    size_t view_count;
     uint32_t number; /* the place of an Incident, or whether the moment of the view is wanted */
     char *text; /* a line that is printed as it is */
 } Case;
@@ -88,6 +91,9 @@ void __wrap_free(void *piece) {
 
 /* ---- the table ---- */
 
+static Case *cases;
+static size_t count;
+
 static int digit_of(int c) { return c <= '9' ? c - '0' : (c | 32) - 'a' + 10; }
 
 static int is_digit(int c) { return (c >= '0' && c <= '9') || ((c | 32) >= 'a' && (c | 32) <= 'f'); }
@@ -116,7 +122,7 @@ static Verb verb_of(const char *line, size_t length) {
     static const struct {
         const char *word;
         Verb verb;
-    } verbs[] = {{"report", REPORT},   {"faults", FAULTS}, {"excerpt", EXCERPT}, {"reads", READS},     {"document", DOCUMENT}, {"whole", WHOLE},
+    } verbs[] = {{"report", REPORT},   {"faults", FAULTS}, {"excerpt", EXCERPT}, {"excerpts", EXCERPTS}, {"reads", READS}, {"document", DOCUMENT}, {"whole", WHOLE},
                  {"fault", FAULT},     {"faultd", FAULT},  {"finds", FINDS},     {"explain", EXPLAIN}, {"marks", MARKS}};
     for (size_t at = 0; at < sizeof verbs / sizeof *verbs; at++)
         if (is_word(line, length, verbs[at].word)) return verbs[at].verb;
@@ -146,9 +152,19 @@ static void part(Case *made, const char *rest) {
     made->view = bytes_of(behind, strlen(behind));
 }
 
+/* The views of a line: words with a space between two. */
+static void part_views(Case *made, const char *rest) {
+    while (*rest) {
+        size_t length = strcspn(rest, " ");
+        if (made->view_count == MOST_VIEWS) fail("too many views", count + 1);
+        made->views[made->view_count++] = bytes_of(rest, length);
+        rest += rest[length] ? length + 1 : length;
+    }
+}
+
 /* What a line asks. A report is for the lines behind it too, and is freed with its own. */
 static Case case_of(const char *line, Bytes *report) {
-    Case made = {TEXT, {NULL, 0}, {NULL, 0}, {NULL, 0}, {NULL, 0}, 0, NULL};
+    Case made = {TEXT, {NULL, 0}, {NULL, 0}, {NULL, 0}, {NULL, 0}, {{NULL, 0}}, 0, 0, NULL};
     size_t verb = strcspn(line, " ");
     const char *rest = line[verb] ? line + verb + 1 : "";
     made.verb = verb_of(line, verb);
@@ -157,6 +173,7 @@ static Case case_of(const char *line, Bytes *report) {
         case REPORT: *report = bytes_of(rest, strlen(rest)); break;
         case FAULTS: break;
         case MARKS: made.number = (uint32_t)strtoul(rest, NULL, 10); break;
+        case EXCERPTS: part_views(&made, rest); break;
         case FAULT: made.number = (uint32_t)is_word(line, verb, "faultd"); /* fallthrough */
         case EXCERPT: case READS: case DOCUMENT: made.view = bytes_of(rest, strlen(rest)); break;
         default: part(&made, rest);
@@ -164,9 +181,6 @@ static Case case_of(const char *line, Bytes *report) {
     made.report = *report;
     return made;
 }
-
-static Case *cases;
-static size_t count;
 
 static void read_table(void) {
     char *line = NULL;
@@ -189,6 +203,7 @@ static void free_table(void) {
         free(cases[at].view.start);
         free(cases[at].word.start);
         free(cases[at].name.start);
+        for (size_t view = 0; view < cases[at].view_count; view++) free(cases[at].views[view].start);
     }
     free(cases);
 }
@@ -198,9 +213,29 @@ static void free_table(void) {
 /* Whether a case is a call of the library. */
 static int asks(const Case *c) { return c->verb >= EXCERPT; }
 
+/* What is told of several views agrees with what the call tells: each has its fault, or the answers are as long together. */
+static uint32_t call_several(const Case *c, iodef_redact_asked *asked, uint8_t *out, size_t room, size_t *needed) {
+    size_t together = 0;
+    for (size_t at = 0; at < c->view_count; at++) {
+        iodef_redact_asked one = {c->views[at].start, c->views[at].length, 12345, 12345};
+        asked[at] = one;
+    }
+    uint32_t number = iodef_redact_excerpts(c->report.start, c->report.length, c->view_count ? asked : NULL, c->view_count, out, room, needed);
+    for (size_t at = 0; at < c->view_count; at++) {
+        if (number && asked[at].fault != number) fail("a view has another fault than the call", at + 1);
+        if (asked[at].fault && asked[at].needed) fail("needed isn't 0 of a view with a fault", at + 1);
+        if (asked[at].view_length != c->views[at].length) fail("a view was changed", at + 1);
+        together += asked[at].needed;
+    }
+    if (together != *needed) fail("the answers have another length together", 0);
+    return number;
+}
+
 static uint32_t call(const Case *c, uint8_t *out, size_t room, size_t *needed) {
     Bytes r = c->report, v = c->view, w = c->word, n = c->name;
+    iodef_redact_asked asked[MOST_VIEWS];
     switch (c->verb) {
+        case EXCERPTS: return call_several(c, asked, out, room, needed);
         case EXCERPT: case READS: return iodef_redact_excerpt(r.start, r.length, v.start, v.length, out, room, needed);
         case DOCUMENT: return iodef_redact_document(r.start, r.length, v.start, v.length, out, room, needed);
         case WHOLE: return iodef_redact_whole(r.start, r.length, v.start, v.length, out, room, needed);
@@ -275,9 +310,39 @@ static int is_readable(const Answer *answer) {
     return answer->text.start[at + length] == 't';
 }
 
+/* What one view has of several is what iodef_redact_excerpt tells of it alone. */
+static void check_alone(const Case *c, size_t at, const iodef_redact_asked *asked, const uint8_t *answer) {
+    size_t needed = 0;
+    Bytes r = c->report, v = c->views[at];
+    uint8_t *alone = malloc(asked->needed ? asked->needed : 1);
+    uint32_t number = iodef_redact_excerpt(r.start, r.length, v.start, v.length, alone, asked->needed, &needed);
+    if (number != asked->fault || needed != asked->needed) fail("alone, a view has another answer", at + 1);
+    if (needed && memcmp(alone, answer, needed)) fail("alone, a view has other bytes", at + 1);
+    free(alone);
+}
+
+/* The answer of each view on its line. */
+static void print_several(const Case *c, const Answer *answer) {
+    iodef_redact_asked asked[MOST_VIEWS];
+    size_t needed = 0, start = 0;
+    if (call_several(c, asked, NULL, 0, &needed)) fail("asked again, it has a fault", 0);
+    for (size_t at = 0; at < c->view_count; at++) {
+        check_alone(c, at, &asked[at], answer->text.start + start);
+        if (asked[at].fault) printf("%u %s", (unsigned)asked[at].fault, iodef_redact_fault_name(asked[at].fault));
+        fwrite(answer->text.start + start, 1, asked[at].needed, stdout);
+        putchar('\n');
+        start += asked[at].needed;
+    }
+    if (!c->view_count) putchar('\n');
+}
+
 static void print(const Case *c, const Answer *answer) {
     if (answer->number) {
         printf("%u %s\n", (unsigned)answer->number, iodef_redact_fault_name(answer->number));
+        return;
+    }
+    if (c->verb == EXCERPTS) {
+        print_several(c, answer);
         return;
     }
     if (c->verb == READS) {
@@ -348,10 +413,17 @@ static void by_null(void) {
     uint8_t out[4] = {FILL, FILL, FILL, FILL};
     size_t needed, *none = NULL;
     const char *view = "{\"clearance\":\"GREEN\"}", *dated = "{\"clearance\":\"GREEN\",\"now\":\"2026-01-01T00:00:00Z\"}";
+    const char *report =
+        "{\"Incident\":[{\"purpose\":\"watch\",\"IncidentID\":\"1\",\"GenerationTime\":\"g\",\"restriction\":\"public\",\"Contact\":[]}]}";
     size_t length = strlen(view), huge = (size_t)PTRDIFF_MAX + 1;
+    iodef_redact_asked asked = {NULL, 0, 7, 7}, bad = {NULL, 1, 7, 7};
     /* NULL with length 0 is an empty text: no report, and no view */
     WANTED(iodef_redact_excerpt(NULL, 0, view, length, out, 4, &needed), IODEF_REDACT_NOT_JSON);
     WANTED(iodef_redact_excerpt(NULL, 0, NULL, 0, NULL, 0, &needed), IODEF_REDACT_VIEW_NOT_JSON);
+    WANTED(iodef_redact_excerpts(NULL, 0, NULL, 0, NULL, 0, &needed), IODEF_REDACT_NOT_JSON);
+    WANTED(iodef_redact_excerpts(report, strlen(report), NULL, 0, NULL, 0, &needed), IODEF_REDACT_DONE);
+    WANTED(iodef_redact_excerpts(report, strlen(report), &asked, 1, NULL, 0, &needed), IODEF_REDACT_DONE);
+    if (asked.fault != IODEF_REDACT_VIEW_NOT_JSON || asked.needed) fail("NULL is an empty view", 0);
     WANTED(iodef_redact_document(NULL, 0, NULL, 0, NULL, 0, &needed), IODEF_REDACT_VIEW_NOT_JSON);
     WANTED(iodef_redact_whole(NULL, 0, view, length, NULL, 0, &needed), IODEF_REDACT_MISSING_MEMBER);
     WANTED(iodef_redact_whole_with_id(NULL, 0, dated, strlen(dated), NULL, 0, NULL, 0, NULL, 0, &needed), IODEF_REDACT_NOT_JSON);
@@ -366,6 +438,11 @@ static void by_null(void) {
     WANTED(iodef_redact_excerpt("", 0, view, length, NULL, 4, &needed), IODEF_REDACT_NULL_POINTER);
     WANTED(iodef_redact_excerpt("", huge, view, length, out, 4, &needed), IODEF_REDACT_NULL_POINTER);
     WANTED(iodef_redact_excerpt("", 0, view, length, out, huge, &needed), IODEF_REDACT_NULL_POINTER);
+    WANTED(iodef_redact_excerpts(NULL, 1, &asked, 1, out, 4, &needed), IODEF_REDACT_NULL_POINTER);
+    WANTED(iodef_redact_excerpts("", 0, NULL, 1, out, 4, &needed), IODEF_REDACT_NULL_POINTER);
+    WANTED(iodef_redact_excerpts("", 0, &asked, huge / sizeof asked + 1, out, 4, &needed), IODEF_REDACT_NULL_POINTER);
+    WANTED(iodef_redact_excerpts("", 0, &bad, 1, out, 4, &needed), IODEF_REDACT_NULL_POINTER);
+    if (bad.fault != IODEF_REDACT_NULL_POINTER || bad.needed) fail("a view that is NULL has the fault", 0);
     WANTED(iodef_redact_document(NULL, 1, view, length, out, 4, &needed), IODEF_REDACT_NULL_POINTER);
     WANTED(iodef_redact_document("", 0, NULL, 1, out, 4, &needed), IODEF_REDACT_NULL_POINTER);
     WANTED(iodef_redact_whole(NULL, 1, view, length, out, 4, &needed), IODEF_REDACT_NULL_POINTER);

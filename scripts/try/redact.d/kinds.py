@@ -75,8 +75,18 @@ ROOT, CLASS, MOMENT = Gate(3), "/Incident/0", "2026-06-01T00:00:00Z"
 GRANTEES = ("person", "org", "community", "group")
 CASE = Case(1, [ROOT], [Permission(CLASS, org=5, until=MOMENT)], community=7)
 SOURCE, READER = Reader(9, 1, source=True), Reader(9, 5)
+
+
+def one_of_several(report: Any, to: Any, case: Any = None, *, incident: Any = None, now: Any = None) -> object:
+    """A call over several readers, of whom there is one."""
+    told, = iodef_redact.excerpts(report, [to], case, incident=incident, now=now)
+    if isinstance(told, iodef_redact.Fault):
+        raise told
+    return told
+
+
 CALLS: tuple[Callable[..., object], ...] = (
-    iodef_redact.excerpt, iodef_redact.document, iodef_redact.whole, iodef_redact.finds, iodef_redact.explain, iodef_redact.marks,
+    iodef_redact.excerpt, one_of_several, iodef_redact.document, iodef_redact.whole, iodef_redact.finds, iodef_redact.explain, iodef_redact.marks,
 )
 SOUND: dict[str, Any] = {"report": REPORT, "text": "1", "class_name": "Contact", "pointer": CLASS, "to": READER, "case": CASE, "now": MOMENT}
 

@@ -1,11 +1,14 @@
 //! Excerpts.
-ghost use Rattle.std.specs.Prelude.{◌≡◌, [], IfOk, option_map, string_bytes, unwrap_or};
+ghost use Rattle.std.specs.Prelude.{◌≡◌, [], true, IfOk, option_map, string_bytes, unwrap_or};
+ghost use Rattle.std.specs.List.{list_all};
 ghost use Rattle.redact.specs.Excerpts.{told_by};
 ghost use Rattle.redaction.specs.Outcome.{Yields, YieldsAs};
+ghost use Rattle.redaction.specs.Asked.{is_well_marked};
 ghost use Rattle.redaction.specs.Whole.{identifier, named};
+ghost use Rattle.redaction.specs.inner.Among as among;
 ghost use Rattle.redaction.specs.Answers as spec;
 
-use crate::asked::read_asked;
+use crate::asked::{document_among, read_reported};
 use crate::body::{document_bytes, excerpt_bytes};
 use crate::fault::Fault;
 use crate::readable::is_readable;
@@ -25,16 +28,29 @@ pub struct ExcerptDocument {
     pub readable: bool,
 }
 
-/// Returns the excerpt for the reader of a view.
-#[tactic(auto, unfolding(crate::specs::Answers::told_by_view))]
-fn excerpt_for(alloc: Global, report: &[u8], view: View) -> Result<Excerpt, Fault>
-    ensures { YieldsAs told_by result (spec.told_by_view report.now view) }
+/// Returns the excerpt of one of a report's documents for the reader of a view.
+#[tactic(auto, unfolding(crate::specs::inner::Among::told_among))]
+pub(crate) fn excerpt_among(
+    alloc: Global,
+    documents: &[Document],
+    view: &View,
+) -> Result<Excerpt, Fault>
+    requires { list_all is_well_marked documents.now ≡ true }
+    ensures { YieldsAs told_by result (among.told_among documents.now view.now) }
 {
-    let asked = read_asked(alloc, report, view)?;
-    match redact::excerpt(alloc, &asked.document, &asked.case, &asked.reader)? {
+    let document = document_among(documents, view)?;
+    match redact::excerpt(alloc, document, &view.case, &view.reader)? {
         Some(excerpt) => Ok(excerpt),
         None => Err(Fault::NothingVisible),
     }
+}
+
+/// Returns the excerpt of a report for the reader of a view.
+fn excerpt_for(alloc: Global, report: &[u8], view: &View) -> Result<Excerpt, Fault>
+    ensures { YieldsAs told_by result (spec.told_by_view report.now view.now) }
+{
+    let documents = read_reported(alloc, report)?;
+    excerpt_among(alloc, documents.as_slice(), view)
 }
 
 /// Returns what the reader of a view description may see of a report, as a compact JSON object: `classes`, how many
@@ -48,9 +64,8 @@ pub fn excerpt(alloc: Global, report: &[u8], description: &[u8]) -> Result<Vec<u
     ensures { YieldsAs (λ v. v.items) result (spec.excerpt_text report.now description.now) }
 {
     let view = read_view(alloc, false, description)?;
-    let arranged = view.reader.arrangement;
-    let excerpt = excerpt_for(alloc, report, view)?;
-    Ok(excerpt_bytes(alloc, &excerpt, arranged)?)
+    let excerpt = excerpt_for(alloc, report, &view)?;
+    Ok(excerpt_bytes(alloc, &excerpt, view.reader.arrangement)?)
 }
 
 /// Returns the members `document` and `readable` of the answer of [`excerpt`]. Fails as [`excerpt`] does.
@@ -63,7 +78,7 @@ pub fn excerpt_document(
     ensures { YieldsAs spec.document_by result (spec.document_answer report.now description.now) }
 {
     let view = read_view(alloc, false, description)?;
-    let excerpt = excerpt_for(alloc, report, view)?;
+    let excerpt = excerpt_for(alloc, report, &view)?;
     Ok(ExcerptDocument {
         text: document_bytes(alloc, &excerpt.document)?,
         readable: is_readable(&excerpt.document),
@@ -91,7 +106,7 @@ fn whole_for(
     ensures { Yields result (spec.whole_by_view report.now view (option_map named id.entry)) }
 {
     let moment = moment_of(alloc, &view.said)?;
-    match excerpt_for(alloc, report, view) {
+    match excerpt_for(alloc, report, &view) {
         Ok(excerpt) => whole(alloc, &excerpt.document, moment.as_str(), id),
         Err(fault) => Err(fault),
     }
