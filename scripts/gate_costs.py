@@ -35,21 +35,22 @@ class Process:
     """What /proc says of one: who it is, and the seconds of a processor that it and those that it has waited for took."""
 
     pid: int
-    state: str
     start: int
     seconds: float
     resident: int
 
 
 def process(pid: int) -> Process | None:
-    """The process, or None if there is none."""
+    """The process, or None if there is none, or it has ended."""
     try:
         with open(f"/proc/{pid}/stat") as file:
             # behind the name, which may have blanks: from the third field of proc(5) on
             fields = file.read().rpartition(")")[2].split()
     except OSError:
         return None
-    return Process(pid, fields[0], int(fields[19]), sum(map(int, fields[11:15])) / TICK, int(fields[21]) * PAGE)
+    if fields[0] in "ZX":
+        return None
+    return Process(pid, int(fields[19]), sum(map(int, fields[11:15])) / TICK, int(fields[21]) * PAGE)
 
 
 def children(pid: int) -> list[int]:
@@ -110,7 +111,7 @@ class Watch:
     def look(self) -> bool:
         """Notes what runs now. False once the gate has ended."""
         gate = process(self.pid)
-        if gate is None or gate.state in "ZX" or self.start not in (-1, gate.start):
+        if gate is None or self.start not in (-1, gate.start):
             return False
         self.start = gate.start
         self.at_once = max(self.at_once, self.below(self.pid))
