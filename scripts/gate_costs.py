@@ -3,7 +3,7 @@
 scripts/gate_line.py watches the gate of .ci/run by it, and scripts/prover/gate-minutes one of its own. The parts of a crate:
 
     proof  of a program with both builds, of a library with its tests
-    first  the check that its edits begin with, or the first edit where there is none
+    first  the check that its edits begin with; of a crate with one edit, that one
     edits  all others, with the check that ends them
     runs   of its program and of its tests
 
@@ -72,7 +72,7 @@ def most_memory(pid: int) -> int:
 
 
 def part_of(pid: int) -> tuple[str, str] | None:
-    """The crate and the part that a process is for, by its words and its folder. The first check of edits is over `seed`."""
+    """The crate and the part that a process is for, by its words and its folder; of edits it isn't said which is the first."""
     try:
         with open(f"/proc/{pid}/cmdline") as file:
             words = file.read().split("\0")
@@ -85,8 +85,7 @@ def part_of(pid: int) -> tuple[str, str] | None:
         return found[1], "proof"
     if not EDIT.search(place) or "--crate-name" not in words[:-1]:
         return None
-    over = words[words.index("--incremental") + 1] if "--incremental" in words[:-1] else ""
-    return words[words.index("--crate-name") + 1], "first" if over.endswith("/seed") else "edits"
+    return words[words.index("--crate-name") + 1], "edits"
 
 
 @dataclass
@@ -135,12 +134,11 @@ class Watch:
     def parts(self) -> dict[str, dict[str, float]]:
         """By crate the minutes of each part, and `gb`."""
         found: dict[str, dict[str, float]] = collections.defaultdict(lambda: dict.fromkeys((*PARTS, "gb"), 0.0))
-        first = {it.crate for it in self.runs.values() if it.part == "first"}
         begun = set[str]()
         for (_, _), run in sorted(self.runs.items(), key=lambda it: it[0][1]):
             part, crate = run.part, found[run.crate]
-            if part == "first" or part == "edits" and run.crate not in first:
-                part = "edits" if run.crate in begun else "first"
+            if part == "edits" and run.crate not in begun:
+                part = "first"
                 begun.add(run.crate)
             crate[part] += run.seconds / 60
             crate["gb"] = max(crate["gb"], run.memory / 1e9)
