@@ -5,12 +5,12 @@ A script in Python ends with `record.run(main)`. One in bash begins with a line 
 
     [ "${RECORDED-}" ] || exec "$(dirname "$0")/../record.py" "$0" "$@"
 
-.ci/run calls `scripts/record.py --state` before the gate, and behind it `scripts/record.py --gate PID STATUS STATE`.
+The gate's is left by scripts/gate_line.py.
 
 A line is a JSON object: the `script`, its `words` (options and numbers, without names of files), the `commit`, whether the tree was
 `clean` from beginning to end, the SHA-256 of the `programs` that the words name, whether all of them are `proved` (the launcher's files are
 beside), `passed`, `failed` and the names of the `failures`, the `status`, `seconds`, when it `began` (UTC), and the machine's
-`processors`. The gate's has the `kit` and the `cpu_minutes`.
+`processors`.
 
 A run that is cut off leaves no line: the last line of its output, `N passed, M failed`, must agree with its status; and a measurement must
 return. Nor does a run within a run, as its checks are the outer one's. A line that can't be written changes no status.
@@ -109,13 +109,20 @@ def now() -> datetime.datetime:
     return datetime.datetime.now(datetime.timezone.utc)
 
 
+def add(line: dict[str, Any], lines: pathlib.Path, most: float = float("inf")) -> None:
+    """Adds the line to a file, which is begun anew if it has more bytes than `most`."""
+    with lines.open("a") as file:
+        fcntl.flock(file, fcntl.LOCK_EX)
+        if file.tell() > most:
+            file.truncate(0)
+        file.write(json.dumps(line, ensure_ascii=False) + "\n")
+
+
 def leave(line: dict[str, Any]) -> None:
     """Adds the line. Where that fails, a word on standard error says so."""
     try:
         LINES.parent.mkdir(exist_ok=True)
-        with LINES.open("a") as file:
-            fcntl.flock(file, fcntl.LOCK_EX)
-            file.write(json.dumps(line, ensure_ascii=False) + "\n")
+        add(line, LINES)
     except OSError as fault:
         print(f"this run isn't recorded: {fault}", file=sys.stderr)
 
@@ -212,25 +219,8 @@ def run_script(script: pathlib.Path, given: list[str]) -> int:
     return status
 
 
-def gate(pid: int, status: int, before: dict[str, Any]) -> None:
-    """Leaves the line of a gate, which the shell PID has waited for."""
-    kit = subprocess.run(["rt", "version"], capture_output=True, text=True, timeout=GIT_SECONDS).stdout.strip()
-    # behind the name, which may have blanks: fields 3 and on of proc(5), of which 16 and 17 are the children's times and 22 the start
-    fields = pathlib.Path(f"/proc/{pid}/stat").read_text().rpartition(")")[2].split()
-    ticks = os.sysconf("SC_CLK_TCK")
-    seconds = float(pathlib.Path("/proc/uptime").read_text().split()[0]) - int(fields[19]) / ticks
-    cpu = (int(fields[13]) + int(fields[14])) / ticks
-    began = now() - datetime.timedelta(seconds=seconds)
-    when = {"status": status, "seconds": round(seconds, 1), "began": f"{began:%Y-%m-%dT%H:%M:%SZ}", "processors": os.cpu_count()}
-    leave({"script": ".ci/run", "words": [], "programs": {}, "kit": kit, **after(before), "cpu_minutes": round(cpu / 60, 1), **when})
-
-
 def main() -> int:
     match sys.argv[1:]:
-        case ["--state"]:
-            print(json.dumps(state()))
-        case ["--gate", pid, status, before]:
-            gate(int(pid), int(status), json.loads(before))
         case [script, *given] if not script.startswith("-"):
             return run_script(pathlib.Path(script).resolve(), given)
         case _:

@@ -1,5 +1,5 @@
-"""The runs that scripts/verdict asks for, by scripts/subjects.toml; what scripts left in out/runs.jsonl; and their last whole runs, which
-bench/runs.jsonl keeps, one line for each."""
+"""The runs that scripts/verdict asks for, by scripts/subjects.toml; what scripts left in out/runs.jsonl, and gates also elsewhere; and
+their last whole runs, which bench/runs.jsonl keeps, one line for each."""
 from __future__ import annotations
 
 import json
@@ -11,6 +11,7 @@ from collections.abc import Iterable
 from dataclasses import dataclass
 from typing import Any
 
+import gate_line
 import record
 
 TOP = record.TOP
@@ -18,7 +19,7 @@ LEFT, KEPT, SUBJECTS = record.LINES, TOP / "bench" / "runs.jsonl", TOP / "script
 # Words that say where a run takes place, and not what it tries.
 FREE = {"--port", "--ports", "--folder", "--jobs", "--seed", "--keep", "--kit", "--picture", "--pictures"}
 # What scripts/verdict writes is no subject.
-WRITTEN = (":!docs/TESTED.md", ":!bench/README.md", ":!bench/runs.jsonl")
+WRITTEN = (":!docs/TESTED.md", ":!bench/README.md", ":!bench/runs.jsonl", ":!bench/gate.jsonl")
 # Words that every run has which can; a reader isn't told of them.
 USUAL = {"--program", "--redact", "--library", "--hub", "--key", "--older", "FILE"}
 
@@ -91,8 +92,8 @@ def lines(text: str) -> list[Line]:
 
 
 def left() -> list[Line]:
-    """What scripts left on this machine."""
-    return lines(LEFT.read_text()) if LEFT.exists() else []
+    """What scripts left in this clone, and gates over commits of this history in any clone on this machine."""
+    return [it for it in gate_line.on_machine() if is_of_this_history(it["commit"])] + (lines(LEFT.read_text()) if LEFT.exists() else [])
 
 
 def kept() -> dict[str, Line]:
