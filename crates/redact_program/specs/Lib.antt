@@ -1,3 +1,6 @@
 pub mod Answers
+pub mod Outcomes
+pub mod Runs
 pub mod Status
+pub mod Streams
 pub mod Troubles

@@ -10,7 +10,7 @@ use clap::Error;
 use clap::error::ErrorKind;
 use input_hints::ByteOrderMark;
 use redaction::Fault;
-use std::alloc::Global;
+use std::alloc::{AllocError, Global};
 use std::env::Args;
 use std::io;
 use std::io::{Read, Write};
@@ -53,7 +53,7 @@ fn refuse_words<W: Write, E: Write>(
 
 /// Ends the program for want of memory.
 fn no_memory<W: Write, E: Write>(writer: &mut W, errors: &mut E) -> Status {
-    tell(errors, Trouble::NoAnswer(Fault::NoMemory), "")
+    tell(errors, Trouble::NoAnswer(Fault::NoMemory), b"")
 }
 
 /// Does what the words behind the program's name say.
@@ -97,7 +97,7 @@ fn read_view(rt: &HostRuntime, asked: &Asked<'_>) -> Result<Vec<u8>, Trouble> {
 fn nowhere(alloc: Global, trouble: Trouble) -> Located {
     Located {
         trouble,
-        place: String::new(alloc),
+        place: Vec::new(alloc),
     }
 }
 
@@ -145,6 +145,27 @@ fn reader_of<'a>(asked: &Asked<'a>) -> Whom<'a> {
     }
 }
 
+/// Whether the words want the moment of the view.
+fn is_dated(asked: &Asked<'_>) -> bool {
+    matches!(
+        asked,
+        Asked::Excerpt {
+            form: Form::Report(_),
+            ..
+        }
+    )
+}
+
+/// Returns the place in the text of the first fault, if that is this fault.
+fn place_in(alloc: Global, fault: Fault, text: &[u8]) -> Result<Vec<u8>, AllocError> {
+    let number = fault.number();
+    let begin = format!(in alloc; "{number} ")?;
+    match text.strip_prefix(begin.as_bytes()) {
+        Some(place) => Vec::from_slice(alloc, place),
+        None => Ok(Vec::new(alloc)),
+    }
+}
+
 /// Returns the JSON pointer of the place of a fault; an empty text if the fault has none.
 fn place_of(
     alloc: Global,
@@ -152,21 +173,10 @@ fn place_of(
     asked: &Asked<'_>,
     file: &[u8],
     report: &[u8],
-) -> Result<String, Fault> {
+) -> Result<Vec<u8>, Fault> {
     let view = view_of(alloc, &reader_of(asked), file)?;
-    let is_dated = matches!(
-        asked,
-        Asked::Excerpt {
-            form: Form::Report(_),
-            ..
-        }
-    );
-    let found = redaction::first_fault(alloc, is_dated, report, &view)?;
-    let text = String::from_utf8_lossy(alloc, &found)?;
-    let number = fault.number();
-    let begin = format!(in alloc; "{number} ")?;
-    let place = text.as_str().strip_prefix(begin.as_str()).unwrap_or("");
-    Ok(String::from_str(alloc, place)?)
+    let found = redaction::first_fault(alloc, is_dated(asked), report, &view)?;
+    Ok(place_in(alloc, fault, &found)?)
 }
 
 /// Returns why there is no answer: the fault, or what a person is likely to have done that led to it.
