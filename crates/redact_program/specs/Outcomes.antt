@@ -30,10 +30,14 @@ use Rattle.redact_program.specs.declared.words.Asked.TheVariants.{Excerpt, Expla
 abbrev pub Outcome : Type 0
 Outcome = Result (Bytes × Remark) (Trouble × Bytes)
 
+-- what the program's `Located` holds
+abbrev pub located_by : Located → Outcome
+located_by l = Err (l.trouble, l.place.items)
+
 -- what the program's result holds
 abbrev pub outcome_by : Result Answered Located → Outcome
 outcome_by (Ok answered) = Ok (answer_by answered)
-outcome_by (Err located) = Err (located.trouble, located.place.items)
+outcome_by (Err located) = located_by located
 
 -- ---- what the words name
 

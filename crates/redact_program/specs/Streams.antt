@@ -1,5 +1,5 @@
 -- What is read from a reader and written to a writer, where their bytes are known.
-use Rattle.std.specs.Prelude.{◌≡◌, List, ◌++◌, ◌≤◌, ◌⊎◌, length, Option, Result, Ok, Err}
+use Rattle.std.specs.Prelude.{◌≡◌, List, [], ◌∷◌, ◌++◌, ◌≤◌, ◌⊎◌, length, Option, Some, IfSome, Result, Ok, Err}
 use Rattle.std.specs.Io.KnownBytes.{Appends, Consumes, IsAtEnd, Keeps}
 use Rattle.std.specs.declared.io.ErrorKind.{ErrorKind}
 use Rattle.iodef_tree.specs.Text.{Bytes}
@@ -30,6 +30,10 @@ Reads before after (Err kind) = Takes before after
 -- the old bytes and then those that were read are the new ones
 abbrev pub Extends : Option Bytes → Option Bytes → Bytes → Bytes → Type 0
 Extends before after old new = (piece : Bytes) × Consumes before after piece × (new ≡ old ++ piece)
+
+-- the name comes behind those that were opened before, or it wasn't for want of memory
+abbrev pub Logs : Option (List Bytes) → Option (List Bytes) → Bytes → Type 0
+Logs before after name = IfSome before (λ names. (after ≡ Some (names ++ name ∷ [])) ⊎ (after ≡ Some names))
 
 -- ---- writing
 

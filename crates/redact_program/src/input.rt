@@ -1,13 +1,13 @@
 //! What the program reads: the report on standard input, and the file of a view.
 ghost use Rattle.std.specs.Prelude.{◌≡◌, ◌+◌, ◌<◌, ◌≤◌, Ok, OnErr, OnOk, length, true, vec_len};
 ghost use Rattle.std.specs.Io.KnownBytes.{IsAtEnd};
-ghost use Rattle.redact_program.specs.Streams.{Extends, Given, Reads, Takes, ok_by};
+ghost use Rattle.redact_program.specs.Streams.{Extends, Given, Logs, Reads, Takes, ok_by};
 ghost use Rattle.redact_program.specs.Troubles as spec;
 
+use crate::host::Host;
 use crate::trouble::Trouble;
 use redaction::Fault;
 use std::alloc::Global;
-use std::fs;
 use std::io::{ErrorKind, Read};
 
 /// How many bytes of each may be read.
@@ -44,7 +44,7 @@ fn read_more<R: Read>(
 }
 
 /// Returns all bytes of a reader, but no more than one beyond the limit.
-fn read_some<R: Read>(alloc: Global, reader: &mut R) -> Result<Vec<u8>, ErrorKind>
+pub(crate) fn read_some<R: Read>(alloc: Global, reader: &mut R) -> Result<Vec<u8>, ErrorKind>
     ensures { Reads (R.remaining reader.old) (R.remaining reader.new)
         (ok_by (λ v. v.items) result) }
 {
@@ -99,19 +99,17 @@ fn view_trouble(kind: ErrorKind) -> Trouble
     }
 }
 
-/// Returns the bytes of a file, but no more than one beyond the limit.
-fn read_file(rt: &HostRuntime, path: &str) -> Result<Vec<u8>, ErrorKind> {
-    match fs::open(rt, path) {
-        Ok(mut file) => read_some(rt.alloc(), &mut file),
-        Err(error) => Err(error.kind()),
-    }
-}
-
-/// Returns the view description in a file.
-pub fn read_view_file(rt: &HostRuntime, path: &str) -> Result<Vec<u8>, Trouble>
-    ensures { (given : Given) × (ok_by (λ v. v.items) result ≡ spec.view_read given) }
+/// Returns the view description in the file of a name.
+pub fn read_view_file<H: Host>(
+    alloc: Global,
+    host: &mut H,
+    name: &str,
+) -> Result<Vec<u8>, Trouble>
+    ensures read { (given : Given) × H.may_give host.old name.now given
+        × (ok_by (λ v. v.items) result ≡ spec.view_read given) }
+    ensures logs { Logs (H.opened host.old) (H.opened host.new) name.now }
 {
-    match read_file(rt, path) {
+    match host.read_file(alloc, name) {
         Ok(bytes) => if_short(bytes, Trouble::LongView),
         Err(kind) => Err(view_trouble(kind)),
     }

@@ -1,4 +1,6 @@
 //! The words of the command line.
+ghost use Rattle.std.specs.Prelude.{◌≡◌, option_copied};
+ghost use Rattle.redact_program.specs.Outcomes as spec;
 
 use clap::error::ErrorKind;
 use clap::{Arg, ArgAction, ArgMatches, Command, Error, value_parser};
@@ -72,7 +74,9 @@ pub enum Asked<'a> {
 
 impl<'a> Asked<'a> {
     /// Returns the reader whom the words name, if they name one.
-    pub fn whom(&self) -> Option<Whom<'a>> {
+    pub fn whom(&self) -> Option<Whom<'a>>
+        ensures { result ≡ spec.whom_asked self.now }
+    {
         match self {
             Asked::Excerpt { whom, .. } => Some(*whom),
             Asked::Explain { whom, .. } => Some(*whom),
@@ -81,12 +85,34 @@ impl<'a> Asked<'a> {
         }
     }
 
+    /// Returns the name of the view's file, if the words name one.
+    pub fn file(&self) -> Option<&'a str>
+        ensures { option_copied result ≡ spec.file_named self.now }
+    {
+        match self.whom() {
+            Some(Whom::Described(path)) => Some(path),
+            _ => None,
+        }
+    }
+
     /// Whether the word for a pointer has no slash before it, as the name of a file.
-    pub fn has_file_for_pointer(&self) -> bool {
+    pub fn has_file_for_pointer(&self) -> bool
+        ensures { result ≡ spec.has_file_for_pointer self.now }
+    {
         match self {
-            Asked::Explain { pointer, .. } => !pointer.is_empty() && !pointer.starts_with('/'),
+            Asked::Explain { pointer, .. } => is_unrooted(pointer.as_bytes()),
             _ => false,
         }
+    }
+}
+
+/// Whether a text begins with no slash, as the name of a file.
+fn is_unrooted(text: &[u8]) -> bool
+    ensures { result ≡ spec.is_unrooted text.now }
+{
+    match text {
+        [] => false,
+        [first, ..] => *first != b'/',
     }
 }
 
