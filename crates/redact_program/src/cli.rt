@@ -1,5 +1,5 @@
 //! The command line.
-ghost use Rattle.std.specs.Prelude.{◌≡◌, ◌≢◌, ◌⊎◌, ℕ, List, [], IfOk, IfSome, map, string_bytes};
+ghost use Rattle.std.specs.Prelude.{◌≡◌, ◌≢◌, ◌⊎◌, ℕ, List, [], IfOk, IfSome, None, map, string_bytes, ⊤};
 ghost use Rattle.redaction.specs.declared.fault.Fault.TheVariants.{NoMemory};
 ghost use Rattle.redact_program.specs.Answers.{answer_told, view_told};
 ghost use Rattle.redact_program.specs.Outcomes as spec;
@@ -70,7 +70,12 @@ pub fn cli_run<R: Read, W: Write, E: Write>(
     reader: &mut R,
     writer: &mut W,
     errors: &mut E,
-) -> Status {
+) -> Status
+    ensures { Runs (λ _ _. ⊤)
+        (R.remaining reader.old) (R.remaining reader.new)
+        (W.contents writer.old) (W.contents writer.new)
+        (E.contents errors.old) (E.contents errors.new) None None result }
+{
     run_over(rt.alloc(), &mut System::new(rt), words, reader, writer, errors)
 }
 
