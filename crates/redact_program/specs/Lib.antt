@@ -4,3 +4,4 @@ pub mod Runs
 pub mod Status
 pub mod Streams
 pub mod Troubles
+pub mod Words
