@@ -5,6 +5,7 @@ use Rattle.iodef_tree.specs.Text.{Bytes}
 use Rattle.redact_program.specs.Outcomes.{Outcome, Gives, Printed, printed, outcome_of, file_named, file_read}
 use Rattle.redact_program.specs.Streams.{Given, Reads, Logs, AppendsSome, Tells}
 use Rattle.redact_program.specs.Troubles.{trouble_text}
+use Rattle.redact_program.specs.Words.{Asks}
 use Rattle.redact_program.specs.declared.status.Status.{Status}
 use Rattle.redact_program.specs.declared.status.Status.TheVariants.{Usage, Failed}
 use Rattle.redact_program.specs.declared.trouble.Trouble.{Trouble}
@@ -49,10 +50,10 @@ pub record Refuses (input now_input output now_output : Option Bytes) (opened no
   pub unopened : now_opened ≡ opened
   pub ends : (status ≡ Usage) ⊎ (status ≡ Failed)
 
--- A run: what the words ask is answered, or the words are refused.
-abbrev pub Runs : (Bytes → Given → Type 0) → Option Bytes → Option Bytes → Option Bytes → Option Bytes → Option Bytes → Option Bytes →
+-- A run for the words behind the program's name: what they ask is answered, or they are refused.
+abbrev pub Runs : (Bytes → Given → Type 0) → List Bytes → Option Bytes → Option Bytes → Option Bytes → Option Bytes → Option Bytes → Option Bytes →
     Option (List Bytes) → Option (List Bytes) → Status → Type 0
-Runs may_give input now_input output now_output errors now_errors opened now_opened status =
-    ((asked : Asked) × OpensAtMost (file_named asked) opened now_opened ×
+Runs may_give words input now_input output now_output errors now_errors opened now_opened status =
+    ((asked : Asked) × Asks words asked × OpensAtMost (file_named asked) opened now_opened ×
     Answers may_give asked input now_input output now_output errors now_errors status)
     ⊎ Refuses input now_input output now_output opened now_opened status

@@ -31,7 +31,12 @@ pub fn cli_start<R: Read, W: Write, E: Write>(
     reader: &mut R,
     writer: &mut W,
     errors: &mut E,
-) -> Status {
+) -> Status
+    ensures { (said : List (List ℕ)) × Runs (λ _ _. ⊤) said
+        (R.remaining reader.old) (R.remaining reader.new)
+        (W.contents writer.old) (W.contents writer.new)
+        (E.contents errors.old) (E.contents errors.new) None None result }
+{
     match words_behind(rt.alloc(), words) {
         Ok(words) => cli_run(rt, &words, reader, writer, errors),
         Err(error) => refuse_words(rt.alloc(), &error, errors),
@@ -71,7 +76,7 @@ pub fn cli_run<R: Read, W: Write, E: Write>(
     writer: &mut W,
     errors: &mut E,
 ) -> Status
-    ensures { Runs (λ _ _. ⊤)
+    ensures { Runs (λ _ _. ⊤) (map string_bytes words.now)
         (R.remaining reader.old) (R.remaining reader.new)
         (W.contents writer.old) (W.contents writer.new)
         (E.contents errors.old) (E.contents errors.new) None None result }
@@ -88,7 +93,7 @@ pub fn run_over<H: Host, R: Read, W: Write, E: Write>(
     writer: &mut W,
     errors: &mut E,
 ) -> Status
-    ensures { Runs (H.may_give host.old)
+    ensures { Runs (H.may_give host.old) (map string_bytes words.now)
         (R.remaining reader.old) (R.remaining reader.new)
         (W.contents writer.old) (W.contents writer.new)
         (E.contents errors.old) (E.contents errors.new)

@@ -1,9 +1,9 @@
 //! The words of the command line.
-ghost use Rattle.std.specs.Prelude.{◌≡◌, ◌↔◌, [], IfOk, IsNone, IsTrue, Some, codes, map, option_copied, true, unwrap_or};
+ghost use Rattle.std.specs.Prelude.{◌≡◌, ◌↔◌, [], IfOk, IsNone, IsTrue, Some, codes, map, option_copied, string_bytes, true, unwrap_or};
 ghost use Rattle.clap.specs.Words.{App, Rule, first_of, found_of, new_app, rows_of, subcommand_rows_of, with_rule, with_subcommand};
 ghost use Rattle.redact_program.specs.Outcomes as spec;
 ghost use Rattle.redact_program.specs.Words.{IsArg, IsCommand};
-ghost use Rattle.redact_program.specs.Words as words;
+ghost use Rattle.redact_program.specs.Words as said;
 
 use clap::error::ErrorKind;
 use clap::{Arg, ArgAction, ArgMatches, Command, Error, value_parser};
@@ -121,14 +121,14 @@ fn is_unrooted(text: &[u8]) -> bool
 
 /// Returns the option --ID with a value.
 fn option<'a>(alloc: Global, id: &'a str, value: &'a str, help: &'a str) -> Arg<'a>
-    ensures { IsArg result (words.option id.entry.now) }
+    ensures { IsArg result (said.option id.entry.now) }
 {
     Arg::new(alloc, id).long(id).value_name(value).help(help)
 }
 
 /// Returns the option --ID without a value.
 fn flag<'a>(alloc: Global, id: &'a str, help: &'a str) -> Arg<'a>
-    ensures { IsArg result (words.flag id.entry.now) }
+    ensures { IsArg result (said.flag id.entry.now) }
 {
     Arg::new(alloc, id)
         .long(id)
@@ -138,7 +138,7 @@ fn flag<'a>(alloc: Global, id: &'a str, help: &'a str) -> Arg<'a>
 
 /// Returns a word that has to be there.
 fn word<'a>(alloc: Global, id: &'a str, name: &'a str, help: &'a str) -> Arg<'a>
-    ensures { IsArg result (words.word id.entry.now) }
+    ensures { IsArg result (said.word id.entry.now) }
 {
     Arg::new(alloc, id)
         .value_name(name)
@@ -148,7 +148,7 @@ fn word<'a>(alloc: Global, id: &'a str, name: &'a str, help: &'a str) -> Arg<'a>
 
 /// Returns the option for the place of the Incident.
 fn incident<'a>(alloc: Global) -> Arg<'a>
-    ensures { IsArg result words.incident }
+    ensures { IsArg result said.incident }
 {
     option(
         alloc,
@@ -162,14 +162,14 @@ fn incident<'a>(alloc: Global) -> Arg<'a>
 /// Forbids an option beside another one.
 fn not_beside<'a>(option: Arg<'a>, other: &'a str) -> Result<Arg<'a>, AllocError>
     ensures { (rule : Rule) → IsArg option.entry rule
-        → IfOk result (λ a. IsArg a (words.bound rule)) }
+        → IfOk result (λ a. IsArg a (said.bound rule)) }
 {
     option.conflicts_with(other)
 }
 
 /// Returns the option for a reader's clearance. There is no reader by default.
 fn clearance<'a>(alloc: Global) -> Result<Arg<'a>, AllocError>
-    ensures { IfOk result (λ a. IsArg a (words.bound_option (codes "clearance"))) }
+    ensures { IfOk result (λ a. IsArg a (said.bound_option (codes "clearance"))) }
 {
     let clearance = option(
         alloc,
@@ -195,7 +195,7 @@ fn with_option<'a>(
 /// Adds the options for a reader, who has to be given in one of two ways.
 fn about_reader<'a>(alloc: Global, command: Command<'a>) -> Result<Command<'a>, AllocError>
     ensures { (app : App) → IsCommand command.entry app
-        → IfOk result (λ c. IsCommand c (words.with_reader app)) }
+        → IfOk result (λ c. IsCommand c (said.with_reader app)) }
 {
     let command = with_option(command, clearance(alloc))?;
     let described = option(alloc, "for", "FILE", "The file of the view description");
@@ -206,7 +206,7 @@ fn about_reader<'a>(alloc: Global, command: Command<'a>) -> Result<Command<'a>, 
 /// Adds the options for an identifier and for the moment.
 fn with_identifier<'a>(alloc: Global, command: Command<'a>) -> Result<Command<'a>, AllocError>
     ensures { (app : App) → IsCommand command.entry app
-        → IfOk result (λ c. IsCommand c (words.with_identifier app)) }
+        → IfOk result (λ c. IsCommand c (said.with_identifier app)) }
 {
     let id = option(
         alloc,
@@ -240,7 +240,7 @@ fn command<'a>(alloc: Global, name: &'a str, about: &'a str) -> Command<'a>
 
 /// Returns the command `excerpt`.
 fn excerpt<'a>(alloc: Global) -> Result<Command<'a>, AllocError>
-    ensures { IfOk result (λ c. IsCommand c words.excerpt_command) }
+    ensures { IfOk result (λ c. IsCommand c said.excerpt_command) }
 {
     let excerpt = command(
         alloc,
@@ -265,7 +265,7 @@ fn excerpt<'a>(alloc: Global) -> Result<Command<'a>, AllocError>
 
 /// Returns the command `explain`.
 fn explain<'a>(alloc: Global) -> Result<Command<'a>, AllocError>
-    ensures { IfOk result (λ c. IsCommand c words.explain_command) }
+    ensures { IfOk result (λ c. IsCommand c said.explain_command) }
 {
     let explain = command(
         alloc,
@@ -283,7 +283,7 @@ fn explain<'a>(alloc: Global) -> Result<Command<'a>, AllocError>
 
 /// Returns the command `finds`.
 fn finds<'a>(alloc: Global) -> Result<Command<'a>, AllocError>
-    ensures { IfOk result (λ c. IsCommand c words.finds_command) }
+    ensures { IfOk result (λ c. IsCommand c said.finds_command) }
 {
     let finds = command(
         alloc,
@@ -303,7 +303,7 @@ fn finds<'a>(alloc: Global) -> Result<Command<'a>, AllocError>
 
 /// Returns the command `marks`.
 fn marks<'a>(alloc: Global) -> Result<Command<'a>, AllocError>
-    ensures { IfOk result (λ c. IsCommand c words.marks_command) }
+    ensures { IfOk result (λ c. IsCommand c said.marks_command) }
 {
     let marks = command(
         alloc,
@@ -327,14 +327,14 @@ fn with<'a>(
 
 /// Returns the program, which wants one of its commands.
 fn requiring<'a>(alloc: Global) -> Command<'a>
-    ensures { IsCommand result (words.requiring (new_app (codes "iodef-redact"))) }
+    ensures { IsCommand result (said.requiring (new_app (codes "iodef-redact"))) }
 {
     Command::new(alloc, "iodef-redact").subcommand_required(true)
 }
 
 /// Returns the whole program.
 fn program<'a>(alloc: Global) -> Result<Command<'a>, AllocError>
-    ensures { IfOk result (λ c. IsCommand c words.program) }
+    ensures { IfOk result (λ c. IsCommand c said.program) }
 {
     let program = with(requiring(alloc), excerpt(alloc))?;
     let program = with(program, explain(alloc))?;
@@ -343,7 +343,10 @@ fn program<'a>(alloc: Global) -> Result<Command<'a>, AllocError>
 }
 
 /// Returns the whole command line, with the program's name first.
-pub fn command_line<'a>(alloc: Global, words: &'a [String]) -> Result<Vec<&'a str>, AllocError> {
+pub fn command_line<'a>(alloc: Global, words: &'a [String]) -> Result<Vec<&'a str>, AllocError>
+    ensures { IfOk result (λ line. map (λ s. s.now) line.items
+        ≡ said.line_of (map string_bytes words.now)) }
+{
     let mut line = Vec::new(alloc);
     line.push("iodef-redact")?;
     for word in words {
@@ -371,7 +374,7 @@ fn text_of<'a>(found: &ArgMatches<'a>, id: &str) -> &'a str
 
 /// Whether an option without a value is given.
 fn is_set(found: &ArgMatches<'_>, id: &str) -> bool
-    ensures { IsTrue result ↔ words.IsSet id.now (rows_of (found_of found.now)) }
+    ensures { IsTrue result ↔ said.IsSet id.now (rows_of (found_of found.now)) }
 {
     match text(found, id) {
         Some(text) => text == "true",
@@ -381,7 +384,7 @@ fn is_set(found: &ArgMatches<'_>, id: &str) -> bool
 
 /// Returns the number that a text spells; 0 if it spells none.
 fn number_of(text: &str) -> u32
-    ensures { words.Numbers (Some text.now) result }
+    ensures { said.Numbers (Some text.now) result }
 {
     match text.parse::<u32>() {
         Ok(number) => number,
@@ -391,7 +394,7 @@ fn number_of(text: &str) -> u32
 
 /// Returns the place of the Incident, 0 if it isn't given.
 fn place_in(found: &ArgMatches<'_>) -> u32
-    ensures { words.Numbers (first_of (codes "incident") (rows_of (found_of found.now))) result }
+    ensures { said.Numbers (first_of (codes "incident") (rows_of (found_of found.now))) result }
 {
     match text(found, "incident") {
         Some(text) => number_of(text),
@@ -401,7 +404,7 @@ fn place_in(found: &ArgMatches<'_>) -> u32
 
 /// Returns the reader, with the moment of the view.
 fn whom_in<'a>(found: &ArgMatches<'a>, moment: Option<&'a str>) -> Whom<'a>
-    ensures { words.NamesReader (option_copied moment.entry) (rows_of (found_of found.now)) result }
+    ensures { said.NamesReader (option_copied moment.entry) (rows_of (found_of found.now)) result }
 {
     match text(found, "for") {
         Some(path) => Whom::Described(path),
@@ -415,7 +418,7 @@ fn whom_in<'a>(found: &ArgMatches<'a>, moment: Option<&'a str>) -> Whom<'a>
 
 /// Returns the identifier, if one is given.
 fn identifier_in<'a>(found: &ArgMatches<'a>) -> Option<IncidentId<'a>>
-    ensures { words.NamesId (rows_of (found_of found.now)) result }
+    ensures { said.NamesId (rows_of (found_of found.now)) result }
 {
     match text(found, "id") {
         Some(id) => Some(IncidentId {
@@ -428,7 +431,7 @@ fn identifier_in<'a>(found: &ArgMatches<'a>) -> Option<IncidentId<'a>>
 
 /// Returns the form of an excerpt.
 fn form_in<'a>(found: &ArgMatches<'a>) -> Form<'a>
-    ensures { words.NamesForm (rows_of (found_of found.now)) result }
+    ensures { said.NamesForm (rows_of (found_of found.now)) result }
 {
     if is_set(found, "whole") {
         Form::Report(identifier_in(found))
@@ -441,7 +444,7 @@ fn form_in<'a>(found: &ArgMatches<'a>) -> Form<'a>
 
 /// Returns what a command asks for.
 fn asked_by<'a>(command: &str, found: &ArgMatches<'a>) -> Asked<'a>
-    ensures { words.AsksBy command.now (rows_of (found_of found.now)) result }
+    ensures { said.AsksBy command.now (rows_of (found_of found.now)) result }
 {
     match command {
         "excerpt" => Asked::Excerpt {
@@ -465,7 +468,7 @@ fn asked_by<'a>(command: &str, found: &ArgMatches<'a>) -> Asked<'a>
 
 /// Returns what is wrong with a reader, if something is. What is right needs no escape in a JSON text.
 fn wrong_with(whom: Whom<'_>) -> Option<&'static str>
-    ensures { IsNone result → words.IsRight (Some whom.entry) }
+    ensures { IsNone result → said.IsRight (Some whom.entry) }
 {
     let Whom::Cleared(cleared) = whom else {
         return None;
@@ -501,7 +504,7 @@ fn wrong_with_words(
     found: &ArgMatches<'_>,
     asked: &Asked<'_>,
 ) -> Option<&'static str>
-    ensures { IsNone result → words.IsRight (spec.whom_asked asked.now) }
+    ensures { IsNone result → said.IsRight (spec.whom_asked asked.now) }
 {
     let wrong = wrong_with(asked.whom()?);
     if command == "excerpt" && wrong.is_none() {
@@ -512,7 +515,7 @@ fn wrong_with_words(
 
 /// Returns what the options and words that were found ask for. Fails with the usage.
 fn asked_in<'a>(alloc: Global, matches: &ArgMatches<'a>) -> Result<Asked<'a>, Error>
-    ensures { IfOk result (words.AsksFor (subcommand_rows_of matches.now)) }
+    ensures { IfOk result (said.AsksFor (subcommand_rows_of matches.now)) }
 {
     let Some((command, found)) = matches.subcommand() else {
         return Err(usage(alloc, "a command is missing")?);
@@ -526,7 +529,7 @@ fn asked_in<'a>(alloc: Global, matches: &ArgMatches<'a>) -> Result<Asked<'a>, Er
 
 /// Returns what a command line asks for. Fails with the usage.
 pub fn read_words<'a>(alloc: Global, line: &'a [&'a str]) -> Result<Asked<'a>, Error>
-    ensures { IfOk result (words.AsksOn (map (λ s. s.now) line.entry.now)) }
+    ensures { IfOk result (said.AsksOn (map (λ s. s.now) line.entry.now)) }
 {
     let matches = program(alloc)?.try_get_matches_from(line)?;
     asked_in(alloc, &matches)
