@@ -1,7 +1,7 @@
 -- What `clap` reads of an option and of a command that are built step by step.
-use Rattle.std.proofs.Common.{◌≡◌, ℕ, ◌==◌, Bool, true, false, not, ◌&&◌, List, [], ◌∷◌, ◌++◌, length, Result, Ok, Err, IfOk, refl, sym, ◌∙◌, ap, ap₂, subst, Bor}
+use Rattle.std.proofs.Common.{◌≡◌, ℕ, ◌==◌, Bool, true, false, not, ◌&&◌, List, [], ◌∷◌, ◌++◌, length, Result, Ok, Err, IfOk, refl, sym, ◌∙◌, ap, ap₂, Bor}
 use Rattle.std.proofs.Math.Dec.{eqb-suc-zero}
-use Rattle.clap.specs.Words.{App, Rule, AddsArg, AddsConflicts, AddsRequiredUnless, AddsSubcommand, app_of, rule_of, with_rule, with_subcommand}
+use Rattle.clap.specs.Words.{App, Rule, AddsArg, AddsConflicts, AddsRequiredUnless, AddsSubcommand, rule_of, with_rule, with_subcommand}
 use Rattle.clap.specs.declared.builder.Arg.{Arg}
 use Rattle.clap.specs.declared.builder.Command.{Command}
 use Rattle.redact_program.specs.Words.{IsArg, IsCommand, bound}

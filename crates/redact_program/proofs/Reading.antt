@@ -1,5 +1,5 @@
 -- Reads, one after another.
-use Rattle.std.proofs.Common.{Option, ◌≡◌, ◌++◌, subst, sym}
+use Rattle.std.proofs.Common.{Option, ◌++◌, subst, sym}
 use Rattle.std.specs.Io.KnownBytes.{Consumes}
 use Rattle.std.proofs.KnownBytes.{Consumes-trans}
 use Rattle.iodef_tree.specs.Text.{Bytes}

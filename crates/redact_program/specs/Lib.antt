@@ -1,4 +1,5 @@
 pub mod Answers
+pub mod Hosts
 pub mod Outcomes
 pub mod Runs
 pub mod Status

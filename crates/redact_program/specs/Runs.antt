@@ -1,5 +1,5 @@
 -- A run of the program: what it reads, prints and opens, where that is known.
-use Rattle.std.specs.Prelude.{◌≡◌, ◌⊎◌, ℕ, List, [], ◌++◌, Option, Some, None, Result, Ok, Err, IfSome}
+use Rattle.std.specs.Prelude.{◌≡◌, ◌⊎◌, List, [], Option, Some, None, Result, Ok, Err, IfSome}
 use Rattle.std.specs.Io.KnownBytes.{Appends, Keeps}
 use Rattle.iodef_tree.specs.Text.{Bytes}
 use Rattle.redact_program.specs.Outcomes.{Outcome, Gives, Printed, printed, outcome_of, file_named, file_read}

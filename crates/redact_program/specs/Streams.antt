@@ -1,6 +1,7 @@
 -- What is read from a reader and written to a writer, where their bytes are known.
 use Rattle.std.specs.Prelude.{◌≡◌, List, [], ◌∷◌, ◌++◌, ◌≤◌, ◌⊎◌, length, Option, Some, IfSome, Result, Ok, Err}
-use Rattle.std.specs.Io.KnownBytes.{Appends, Consumes, IsAtEnd, Keeps}
+use Rattle.std.specs.Io.KnownBytes.{Appends, Consumes, IsAtEnd}
+use Rattle.std.specs.Borrow.{Bor}
 use Rattle.std.specs.declared.io.ErrorKind.{ErrorKind}
 use Rattle.iodef_tree.specs.Text.{Bytes}
 use Rattle.redact_program.specs.declared.input.TheConstants.{INPUT_LIMIT}
@@ -15,6 +16,11 @@ Given = Result Bytes ErrorKind
 abbrev pub ok_by : {A B E : Type 0} → (A → B) → Result A E → Result B E
 ok_by f (Ok x) = Ok (f x)
 ok_by f (Err e) = Err e
+
+-- what bytes behind a reference give, or an error
+abbrev pub copied_content : Result (Bor Bytes) ErrorKind → Given
+copied_content (Ok b) = Ok b.now
+copied_content (Err kind) = Err kind
 
 -- ---- reading
 

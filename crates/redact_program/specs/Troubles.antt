@@ -1,5 +1,5 @@
 -- Why the program prints nothing: the name and the reason of the trouble, and how the program ends.
-use Rattle.std.specs.Prelude.{[], ◌∷◌, ◌++◌, ◌==◌, Bool, true, false, not, Option, Some, None, Result, Ok, Err, codes, length, nat_lt, if◌then◌else◌}
+use Rattle.std.specs.Prelude.{[], ◌∷◌, ◌++◌, Bool, true, Option, Some, Result, Ok, Err, codes, length, nat_lt, if◌then◌else◌}
 use Rattle.std.specs.declared.io.ErrorKind.{ErrorKind}
 use Rattle.std.specs.declared.io.ErrorKind.TheVariants.{NotFound, PermissionDenied, OutOfMemory}
 use Rattle.input_hints.specs.Marks.{mark_hint}

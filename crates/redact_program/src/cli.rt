@@ -81,7 +81,14 @@ pub fn cli_run<R: Read, W: Write, E: Write>(
         (W.contents writer.old) (W.contents writer.new)
         (E.contents errors.old) (E.contents errors.new) None None result }
 {
-    run_over(rt.alloc(), &mut System::new(rt), words, reader, writer, errors)
+    run_over(
+        rt.alloc(),
+        &mut System::new(rt),
+        words,
+        reader,
+        writer,
+        errors,
+    )
 }
 
 /// Does what the words behind the program's name say, over a host.
@@ -141,11 +148,7 @@ fn run<H: Host, R: Read, W: Write, E: Write>(
 }
 
 /// Returns the bytes of the view's file, or none if the words name no file.
-fn read_view<H: Host>(
-    alloc: Global,
-    host: &mut H,
-    asked: &Asked<'_>,
-) -> Result<Vec<u8>, Trouble>
+fn read_view<H: Host>(alloc: Global, host: &mut H, asked: &Asked<'_>) -> Result<Vec<u8>, Trouble>
     ensures read { (file : Given) × IfSome (spec.file_named asked.now) (λ name. H.may_give host.old name file)
         × (ok_by (λ v. v.items) result ≡ spec.file_read (spec.file_named asked.now) file) }
     ensures opens { OpensAtMost (spec.file_named asked.now) (H.opened host.old) (H.opened host.new) }

@@ -100,11 +100,7 @@ fn view_trouble(kind: ErrorKind) -> Trouble
 }
 
 /// Returns the view description in the file of a name.
-pub fn read_view_file<H: Host>(
-    alloc: Global,
-    host: &mut H,
-    name: &str,
-) -> Result<Vec<u8>, Trouble>
+pub fn read_view_file<H: Host>(alloc: Global, host: &mut H, name: &str) -> Result<Vec<u8>, Trouble>
     ensures read { (given : Given) × H.may_give host.old name.now given
         × (ok_by (λ v. v.items) result ≡ spec.view_read given) }
     ensures logs { Logs (H.opened host.old) (H.opened host.new) name.now }

@@ -23,7 +23,7 @@ mod words;
 
 pub use answers::{Answered, Remark, answer, view_of};
 pub use cli::{cli_run, cli_start, run_over};
-pub use host::{Host, System};
+pub use host::{File, Host, Memory, System};
 pub use input::INPUT_LIMIT;
 pub use status::Status;
 pub use trouble::Trouble;

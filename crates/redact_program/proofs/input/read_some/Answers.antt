@@ -1,5 +1,4 @@
-use Rattle.std.proofs.Common.{arith, rules}
-use Rattle.redact_program.proofs.Reading.{takes_more, extends}
+use Rattle.redact_program.proofs.Reading.{takes_more}
 use Rattle.redact_program.proofs.input.read_some.Goals as goal
 
 pub returns-in-Err : goal.returns-in-Err

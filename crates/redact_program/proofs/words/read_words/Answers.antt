@@ -1,8 +1,7 @@
-use Rattle.std.proofs.Common.{◌≡◌, ◌∙◌, List, ℕ, Result, Ok, Err, IfOk, Option, map, true, refl, ap, subst}
-use Rattle.clap.specs.Words.{App, Row, Text, HasMatchesOf, app_of, is_simple, subcommand_of, subcommand_rows_of}
+use Rattle.std.proofs.Common.{◌≡◌, ◌∙◌, List, IfOk, Option, map, true, refl, ap, subst}
+use Rattle.clap.specs.Words.{App, Row, Text, app_of, is_simple, subcommand_of, subcommand_rows_of}
 use Rattle.clap.proofs.OnLiterals.{clap_on_literals}
 use Rattle.redact_program.specs.Words.{AsksFor, program}
-use Rattle.redact_program.specs.declared.words.Asked.{Asked}
 use Rattle.redact_program.proofs.words.read_words.Goals as goal
 
 simple : is_simple program ≡ true
