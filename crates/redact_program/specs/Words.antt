@@ -28,6 +28,7 @@ option name = record (new_rule name) { long = Some name; value_names = 1 }
 abbrev pub bound : Rule → Rule
 bound r = record r { is_free = false }
 
+-- such an option
 abbrev pub bound_option : Text → Rule
 bound_option name = bound (option name)
 
@@ -51,23 +52,28 @@ with_reader a = with_rule (with_rule (with_rule a (bound_option (codes "clearanc
 abbrev pub with_identifier : App → App
 with_identifier a = with_rule (with_rule (with_rule a (option (codes "id"))) (option (codes "id-name"))) (bound_option (codes "now"))
 
+-- the command `excerpt`
 abbrev pub excerpt_command : App
 excerpt_command = with_identifier (with_rule (with_rule (with_reader (new_app (codes "excerpt")))
     (bound (flag (codes "document")))) (flag (codes "whole")))
 
+-- the command `explain`
 abbrev pub explain_command : App
 explain_command = with_rule (with_reader (new_app (codes "explain"))) (word (codes "pointer"))
 
+-- the command `finds`
 abbrev pub finds_command : App
 finds_command = with_rule (with_rule (with_reader (new_app (codes "finds"))) (word (codes "text"))) (option (codes "class"))
 
+-- the command `marks`
 abbrev pub marks_command : App
 marks_command = with_rule (new_app (codes "marks")) incident
 
--- the program, which wants one of its commands
+-- a program that wants one of its commands
 abbrev pub requiring : App → App
 requiring a = record a { top = record a.top { subcommand_required = true } }
 
+-- the whole program
 abbrev pub program : App
 program = with_subcommand (with_subcommand (with_subcommand (with_subcommand (requiring (new_app (codes "iodef-redact")))
     excerpt_command.top) explain_command.top) finds_command.top) marks_command.top

@@ -47,6 +47,7 @@ impl Host for System<'_> {
 }
 
 /// A file in memory.
+#[derive(Clone, Copy)]
 pub struct File<'a> {
     /// Its name.
     pub name: &'a str,
