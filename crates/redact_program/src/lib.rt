@@ -14,6 +14,7 @@
 
 mod answers;
 mod cli;
+mod host;
 mod input;
 mod output;
 mod status;
@@ -21,7 +22,8 @@ mod trouble;
 mod words;
 
 pub use answers::{Answered, Remark, answer, view_of};
-pub use cli::{cli_run, cli_start};
+pub use cli::{cli_run, cli_start, run_over};
+pub use host::{File, Host, Memory, System};
 pub use input::INPUT_LIMIT;
 pub use status::Status;
 pub use trouble::Trouble;

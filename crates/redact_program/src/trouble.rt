@@ -1,6 +1,6 @@
 //! Why the program prints nothing.
 ghost use Rattle.std.specs.Prelude.{◌≡◌};
-ghost use Rattle.redact_program.specs.Troubles.{trouble_name, trouble_status};
+ghost use Rattle.redact_program.specs.Troubles.{trouble_name, trouble_reason, trouble_status};
 ghost use Rattle.redaction.specs.declared.fault.Fault.TheVariants.{NoMemory};
 ghost use Rattle.redact_program.specs.declared.trouble.Trouble.TheVariants.{NoAnswer};
 
@@ -54,7 +54,9 @@ impl Trouble {
     }
 
     /// Returns its reason, in words.
-    pub fn reason(self) -> &'static str {
+    pub fn reason(self) -> &'static str
+        ensures { result.now ≡ trouble_reason self }
+    {
         match self {
             Trouble::NoAnswer(fault) => fault.reason(),
             Trouble::MarkedView(mark) | Trouble::MarkedReport(mark) => mark.hint(),
