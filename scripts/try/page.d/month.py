@@ -139,14 +139,14 @@ class Steps:
     def __init__(self, trial: Trial) -> None:
         self.trial = trial
         self.clicks = self.keys = self.thoughts = self.words = self.scrolls = 0
-        self.page = self.driver = 0.0
+        self.page = self.driver = self.dearest = 0.0
 
     def person(self) -> float:
         return self.thoughts * THINK + (self.clicks + self.scrolls) * POINT + self.clicks * CLICK + self.keys * KEY + self.words * WORD
 
     def told(self) -> str:
         return (f"{self.clicks} clicks, {self.keys} keys, {self.scrolls} scrolls, {self.words} words to read: {self.person():.0f} s of a person,"
-                f" {self.page:.1f} s of page and hub; the driver took {self.driver:.1f} s")  # fmt: skip
+                f" {self.page:.1f} s of page and hub; the driver took {self.driver:.1f} s, at most {self.dearest:.1f} s for one act")  # fmt: skip
 
     def until(self, seen: str, act: typing.Callable[[], None]) -> None:
         """One act, up to what the person waits for."""
@@ -159,7 +159,9 @@ class Steps:
             return
         page = float(browser.run("return window.noted.seen - window.noted.begun")) / 1000
         self.page += page
-        self.driver += max(time.monotonic() - begun - page, 0)
+        driver = max(time.monotonic() - begun - page, 0)
+        self.driver += driver
+        self.dearest = max(self.dearest, driver)
 
     def think(self) -> None:
         self.thoughts += 1
