@@ -190,6 +190,10 @@ def taken_back(trial: Trial, number: int) -> None:
     trial.check("the focus stays in the pane", at == "shared", at)
     trial.fill(WITHDRAW, {"Class": SECOND, "From": ["person", "4"]})
     trial.done("one is withdrawn by the form", f"Withdrawn from Cleo (person 4): the permission for {SECOND}.")
+    ask_about(trial, SECOND)
+    seen = trial.browser.run("const [bar, line] = ['said', 'shared'].map(id => document.getElementById(id).getBoundingClientRect()); return [bar.bottom, line.top]")
+    trial.check("what the hub said last covers nothing of the answer", 0 < seen[0] <= seen[1], seen)
+    trial.browser.run("const it = document.getElementById('about'); it.value = ''; it.dispatchEvent(new Event('change'))")
     trial.check("and the pane is read again", rows(trial, "Permissions") == ["There is none."], rows(trial, "Permissions"))
 
 
