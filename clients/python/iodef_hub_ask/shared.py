@@ -12,6 +12,11 @@ from .sharing import CLEARED, INCIDENT, at_path, class_line, level_words
 from .telling import Teller, Undone, Usage, note
 
 
+GREENS = ("TLP:GREEN", ARRANGED)  # what may be handled as TLP:GREEN
+OF_CLIENTS = ("TLP:GREEN", "TLP:AMBER", ARRANGED)
+UNKNOWN = "arrangements, nominations, clients, and who is in a group or in a community that isn't yours"
+
+
 @dataclass(frozen=True)
 class Own:
     """The groups and the communities of the caller's organisation."""
@@ -36,8 +41,9 @@ def end_words(each: Permission) -> str:
     return "for ever" if each.until is None else f"{'ended' if each.ended else 'until'} {moment_words(each.until)}"
 
 
-def place_words(view: View, path: str) -> str:
-    found = at_path(view, path)
+def place_words(given: argparse.Namespace, view: View, path: str) -> str:
+    """A class with its text; its path alone where one class is asked for."""
+    found = at_path(view, path) if given.path is None else None
     return class_line(found) if found else shown(path) or "the whole report"
 
 
@@ -62,12 +68,11 @@ def audience(label: str, community: str) -> str:
     return f"{label}, {rule.partition(', ')[2]}" if rule else f"{label}, for everybody" if label == "TLP:CLEAR" else label
 
 
-def narrowed(view: View, found: Sharing, path: str) -> Sharing:
-    """What of it opens one class. No organisation is cleared for TLP:RED."""
-    at = at_path(view, path)
+def narrowed(view: View, found: Sharing, path: str, label: str) -> Sharing:
+    """What of it opens one class of this label. No organisation is cleared for TLP:RED, and nobody needs to be for TLP:CLEAR."""
     return Sharing(
         found.number, found.revision, found.community, found.ident, tuple(each for each in found.gates if is_on_way(each.path, path)),
-        tuple(each for each in found.recipients if each[0] == "person" or not at or at.label != "TLP:RED"),
+        tuple(each for each in found.recipients if label != "TLP:CLEAR" and (each[0] == "person" or label != "TLP:RED")),
         tuple(each for each in found.permissions if covers(view, each.path, path)))
 
 
@@ -77,33 +82,64 @@ def labelled(view: View, path: str | None) -> list[Labelled]:
             if (each.path == path if path is not None else each.path == INCIDENT or label_of(each.members))]
 
 
+def recipient_line(given: argparse.Namespace, kind: str, number: int, label: str | None) -> str:
+    """What it is cleared for; where one class is asked for, whom of it the label is for."""
+    words = f": {CLEARED[kind]}"
+    if label is not None:
+        words = "" if kind == "person" else ": its nominated persons" + ", and those of its clients" * (label in OF_CLIENTS) + ", as you arranged it" * (label == ARRANGED)
+    return f"recipient\t{given.names(kind, number)}{words}"
+
+
 def permission_line(given: argparse.Namespace, view: View, own: Own, each: Permission) -> str:
     whom = given.names(each.kind, each.target) + (own.off_words(each.target) if each.kind == "group" else "")
-    return f"{'ended' if each.ended else 'permission'}\t{whom}, {end_words(each)}\t{place_words(view, each.path)}"
+    return f"{'ended' if each.ended else 'permission'}\t{whom}, {end_words(each)}\t{place_words(given, view, each.path)}"
+
+
+def is_of_each(found: Sharing, is_green: bool) -> bool:
+    return any(each.level in (1, 2) for each in found.gates) or is_green and not found.community
+
+
+def communities_meant(own: Own, found: Sharing, is_green: bool) -> list[int]:
+    """The communities that a gate, a label or a permission opens something to."""
+    meant = [each.number for each in own.communities] if is_of_each(found, is_green) else []
+    meant += [found.community] if is_green and found.community else []
+    meant += [each.target for each in found.permissions if each.kind == "community" and not each.ended]
+    return list(dict.fromkeys(meant))
 
 
 def community_lines(given: argparse.Namespace, own: Own, found: Sharing, is_green: bool) -> list[str]:
-    """The communities that a gate, a label or a permission opens something to, with those members that the hub tells."""
-    is_each = any(each.level in (1, 2) for each in found.gates) or is_green and not found.community
-    meant = [each.number for each in own.communities] if is_each else []
-    meant += [found.community] if is_green and found.community else []
-    meant += [each.target for each in found.permissions if each.kind == "community" and not each.ended]
+    """The same with those members that the hub tells; with what they are connected to where a gate lets that pass."""
+    is_far = any(each.level == 2 for each in found.gates)
     told = {each.number: ", ".join(given.names("org", org) for org in each.members)
-            + "".join(f"; connected to {given.names('community', other)}" for other in each.connected) for each in own.communities}
+            + "".join(f"; connected to {given.names('community', other)}" for other in each.connected if is_far) for each in own.communities}
     lines = [f"community\t{given.names('community', number)}: {told.get(number, 'not one of yours, so its members are not known here')}"
-             for number in dict.fromkeys(meant)]
-    return lines or ["community\tyour organisation is in none"] * is_each
+             for number in communities_meant(own, found, is_green)]
+    return lines or ["community\tyour organisation is in none"] * is_of_each(found, is_green)
+
+
+def unknown_words(own: Own, found: Sharing, label: str) -> str:
+    """What no request tells of that on which it depends who sees a class of this label."""
+    levels = {each.level for each in found.gates}
+    recipients, permitted = [kind for kind, _ in found.recipients], [each.kind for each in found.permissions if not each.ended]
+    owned = {each.number for each in own.communities}
+    is_connected = any(other not in owned for each in own.communities for other in each.connected)
+    is_far = 2 in levels and is_connected or not owned.issuperset(communities_meant(own, found, label in GREENS))
+    return ", ".join(filter(None, (
+        "arrangements" if label == ARRANGED else "", "nominations, clients" if label in OF_CLIENTS else "nominations" if "org" in recipients else "",
+        "which organisation a person is of" if levels & {1, 2, 4} and "person" in recipients + permitted else "",
+        "who is in a group" if 4 in levels or "group" in permitted else "", "who is in a community that isn't yours" if is_far else "")))
 
 
 def sharing_lines(given: argparse.Namespace, view: View, own: Own, found: Sharing) -> list[str]:
     """What opens the report to whom, a line each: what, to whom, and at which class. Ended permissions come last, and only if asked for."""
     community = given.names("community", found.community) if found.community else "any of your communities"
     sites = labelled(view, given.path)
-    is_green = given.path is None or any(each.label in ("TLP:GREEN", ARRANGED) for each in sites)
+    label = sites[0].label if given.path is not None else None
+    is_green = label is None or label in GREENS
     lines = [f"green\tis for {community}, and for those whom TLP:AMBER is for: {RULES['H-AMBER'].partition(', for ')[2]}"] * is_green
-    lines += [f"gate\t{level_words(given, each.level, each.group)}{own.off_words(each.group)}\t{place_words(view, each.path)}" for each in found.gates]
+    lines += [f"gate\t{level_words(given, each.level, each.group)}{own.off_words(each.group)}\t{place_words(given, view, each.path)}" for each in found.gates]
     lines += [f"label\t{audience(each.label, community)}\t{class_line(each)}" for each in sites]
-    lines += [f"recipient\t{given.names(kind, number)}: {CLEARED[kind]}" for kind, number in found.recipients] or ["recipient\tnobody"]
+    lines += [recipient_line(given, kind, number, label) for kind, number in found.recipients] or ["recipient\tnobody"] * (label != "TLP:CLEAR")
     lines += [permission_line(given, view, own, each) for each in found.permissions if not each.ended] or ["permission\tnobody"]
     lines += community_lines(given, own, found, is_green)
     if given.ended:
@@ -129,17 +165,19 @@ def do_sharing(hub: Hub, given: argparse.Namespace, teller: Teller) -> None:
     found = sharing_of(hub, given, view)
     if found.revision != view.revision:
         raise Undone(f"incident {given.called} has become revision {found.revision} meanwhile: run this again")
+    ways, unknown = "each gate on the way to a class must let a reader pass, then its label opens it, or a permission", UNKNOWN
     if given.path is not None:
-        if at_path(view, given.path) is None:
+        at = at_path(view, given.path)
+        if at is None:
             raise Usage(f"incident {given.called} has no class at {shown(given.path)}")
-        found = narrowed(view, found, given.path)
+        found = narrowed(view, found, given.path, at.label)
+        ways, unknown = "a reader must pass each gate", unknown_words(own, found, at.label)
     teller.tell(*sharing_lines(given, view, own, found))
     if not given.json:
         ended = sum(each.ended for each in found.permissions)
         if ended and not given.ended:
             note(f"permissions that have ended: {ended}; --ended lists them")
-        note(f"incident {given.called}, revision {found.revision}; each gate on the way to a class must let a reader pass, then its label opens it,"
-             " or a permission; not known here: arrangements, nominations, clients, and who is in a group or in a community that isn't yours")
+        note(f"incident {given.called}, revision {found.revision}; {ways}{f'; not known here: {unknown}' if unknown else ''}")
 
 
 def do_withdraw_ended(hub: Hub, given: argparse.Namespace, teller: Teller) -> None:

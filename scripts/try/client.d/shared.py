@@ -59,11 +59,7 @@ def by_sharing(check: Check, asker: Callable[..., Any], folder: pathlib.Path) ->
     last = text.splitlines()[-1].split("\t")
     check("command sharing --ended", (status, text.startswith(text_of(*told)), last[0], last[1].startswith("community 1 (east), ended 20"), last[2], bank.errors),
           (0, True, "ended", True, PAGE, end))
-    check("command sharing of one class", bank("sharing", number, SECOND), (0, text_of(*told[1:3], *told[6:8], *told[9:11])))
-    check("command sharing of a class inside", bank("sharing", number, f"{FIRST}/Method/0", "--ended"), (0, text_of(
-        GREEN, EVERYBODY, f"label\tTLP:GREEN, for {ANY}\tMethod {FIRST}/Method/0 (TLP:GREEN): by\\u0009mail",
-        *told[7:9], NOBODY, MEMBERS, "\t".join(last))))
-    check("command sharing of one with a label of its own", bank("sharing", number, f"{FIRST}/Method/1", "--ended"), (0, text_of(EVERYBODY, told[5], told[7], NOBODY)))
+    of_one_class(check, bank, number, told, last)
     check("command sharing of no class", (bank("sharing", number, "/Incident/0/Method/0"), bank.errors),
           ((2, ""), f"iodef-hub-ask: incident {number} has no class at /Incident/0/Method/0\n"))
     raw = json.loads(asker("bank-key", "--json")("sharing", number)[1])
@@ -76,6 +72,22 @@ def by_sharing(check: Check, asker: Callable[..., Any], folder: pathlib.Path) ->
     by_circle(check, asker)
     by_withdrawing(check, asker, number, "\t".join(last).split(", ended ")[1].split("\t")[0])
     by_new_key(check, asker, folder)
+
+
+def of_one_class(check: Check, bank: Any, number: str, told: list[str], last: list[str]) -> None:
+    person, org = "recipient\tperson 4", "recipient\torganisation 3: its nominated persons"
+    start = f"incident {number}, revision 1; a reader must pass each gate"
+    check("command sharing of one class", (bank("sharing", number, SECOND), bank.errors), ((0, text_of(
+        EVERYBODY, f"gate\tlevel 4 (group 1 (phishing))\t{SECOND}", told[6], person, *(each.replace(VICTIMS, SECOND) for each in told[9:11]))),
+        f"{start}; not known here: which organisation a person is of, who is in a group\n"))
+    check("command sharing of a class inside", (bank("sharing", number, f"{FIRST}/Method/0", "--ended"), bank.errors), ((0, text_of(
+        GREEN, EVERYBODY, f"label\tTLP:GREEN, for {ANY}\tMethod {FIRST}/Method/0 (TLP:GREEN): by\\u0009mail",
+        person, f"{org}, and those of its clients", NOBODY, MEMBERS, "\t".join([*last[:2], FIRST]))), f"{start}; not known here: nominations, clients\n"))
+    check("command sharing of one with a label of its own", (bank("sharing", number, f"{FIRST}/Method/1", "--ended"), bank.errors),
+          ((0, text_of(EVERYBODY, told[5], person, NOBODY)), f"{start}\n"))
+    check("command sharing of one that is TLP:AMBER+STRICT", (bank("sharing", number, "/Incident/0/Contact/0"), bank.errors), ((0, text_of(
+        EVERYBODY, f"label\tTLP:AMBER+STRICT, for addressed persons, and nominated persons of addressed organisations\tContact /Incident/0/Contact/0 (TLP:AMBER+STRICT): creator",
+        person, org, NOBODY)), f"{start}; not known here: nominations\n"))
 
 
 def by_circle(check: Check, asker: Callable[..., Any]) -> None:

@@ -4,6 +4,7 @@ import json
 import pathlib
 import subprocess
 
+from browser import ENTER
 from looking import COMMAND, show
 from trial import EXAMPLES, FORM, NAMES, POST, REPLACE, Trial, incident, report
 
@@ -45,6 +46,19 @@ def capitals(trial: Trial) -> None:
         browser.click("#search .ask button")
         browser.settle()
         trial.check_has(f"and so when it has looked for {needle}", browser.text("#count"), told)
+    for needle, other in (("lockBit", "LockBit"), ("LOCK", "lOCK"), ("LockBit", ""), ("99", "")):
+        browser.put("#needle", needle)
+        browser.click("#search .ask button")
+        browser.settle()
+        offered = browser.texts("#count button")
+        wanted = [f"Search for \u201c{other}\u201d"] if other else []
+        trial.check(f"behind {needle} the other first letter is offered, if nothing was found and there is one", offered == wanted, offered)
+    browser.put("#needle", "lockBit")
+    browser.keys(ENTER)
+    browser.settle()
+    trial.click("#count button")
+    told = [browser.text("#count"), browser.run("return [document.activeElement.id, document.activeElement.value]")]
+    trial.check("and searched for by its button", told[0].startswith("1 incident with \u201cLockBit\u201d") and told[1] == ["needle", "LockBit"], told)
     browser.put("#needle", "")
 
 

@@ -12,11 +12,12 @@ CLIENT = TOP / "clients" / "python" / "iodef_hub.py"
 
 
 def saved(folder: pathlib.Path, name: str) -> str:
-    """The text of a file, once the browser has written it."""
+    """The text of a file, once the browser has written it: before, the file is empty, and its bytes are in one named *.crdownload."""
+    file = folder / name
     end = time.monotonic() + 20
-    while not (folder / name).exists() and time.monotonic() < end:
+    while time.monotonic() < end and not (file.exists() and file.stat().st_size and not list(folder.glob("*.crdownload"))):
         time.sleep(0.05)
-    return (folder / name).read_bytes().decode() if (folder / name).exists() else f"no {name}, but {[it.name for it in folder.iterdir()]}"
+    return file.read_bytes().decode() if file.exists() else f"no {name}, but {[it.name for it in folder.iterdir()]}"
 
 
 def told_by_client(trial: Trial, who: str, number: int, *words: str) -> str:

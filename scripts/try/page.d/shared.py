@@ -18,7 +18,7 @@ VICTIMS = f"EventData {SECOND} TLP:RED: the victims"
 AMBER = (
     "TLP:AMBER is for addressed persons, and for nominated persons of addressed organisations, of their clients and of the source\u2019s clients."
 )
-MEMBERS = "payments (community 1): Bank (organisation 2), Telco (organisation 3)"
+MEMBERS = "payments (community 1): Telco (organisation 3)"
 CLEARED = "its nominated persons are cleared for TLP:AMBER+STRICT, those of its clients for TLP:AMBER"
 # The text of each entry of the pane below the heading of this name; of the part that is folded, by its summary's last word.
 ROWS = """
@@ -119,25 +119,24 @@ def ask_about(trial: Trial, path: str) -> None:
 
 def of_one_class(trial: Trial, number: int) -> None:
     ask_about(trial, SECOND)
-    trial.check_has("of a class it says what opens it", trial.browser.text("#shared p"), f"What opens {VICTIMS}")
-    trial.check("the gates on its way", [text.split(":")[0] for text in rows(trial, "Gates")] == [EVERYBODY, "level 4, phishing (sharing group 1)"], rows(trial, "Gates"))
-    trial.check("its label", rows(trial, "Labels") == ["TLP:RED for addressed persons"], rows(trial, "Labels"))
-    trial.check("of the recipients those whom its label is for", rows(trial, "Recipients") == ["Cleo (person 4): cleared for TLP:RED Unaddress"], rows(trial, "Recipients"))
-    trial.check("and its permissions", [len(rows(trial, "Permissions")), rows(trial, "has ended")] == [2, []], rows(trial, "Permissions"))
-    told = [rows(trial, "Communities"), "TLP:GREEN" in trial.browser.text("#shared .hint")]
-    trial.check("of TLP:RED nothing of communities", told == [[], False], told)
+    trial.check_has("of a class it says what opens it", trial.browser.text("#shared p"), VICTIMS)
+    trial.check("the gates on its way", [text.split(":")[0] for text in rows(trial, "Gates")] == ["level 3, everybody in the hub", "level 4, phishing (sharing group 1)"], rows(trial, "Gates"))
+    trial.check("of the recipients those whom its label is for", rows(trial, "By its label TLP:RED") == ["Cleo (person 4): addressed Unaddress"], rows(trial, "By its label"))
+    trial.check("and its permissions", [len(rows(trial, "By a permission")), rows(trial, "has ended")] == [2, []], rows(trial, "By a permission"))
+    trial.check("of TLP:RED nothing of communities", rows(trial, "Communities") == [], rows(trial, "Communities"))
     ask_about(trial, f"{FIRST}/Method/0")
-    trial.check_has("of TLP:GREEN whom TLP:AMBER is for", trial.browser.text("#shared"), "of any of your communities, and for those whom TLP:AMBER is for", AMBER)
     trial.check("and who is in the communities", rows(trial, "Communities") == [MEMBERS], rows(trial, "Communities"))
     inside = rows(trial, "has ended")
-    trial.check("a permission goes down to the next label", len(inside) == 1 and PAGE in inside[0], inside)
-    trial.check("the gate of another class isn't on its way", rows(trial, "Gates") == [f"{EVERYBODY}: the whole report Narrow"], rows(trial, "Gates"))
-    trial.check("and so does a label", rows(trial, "Labels")[0].startswith("TLP:GREEN \u2191 for the members of any"), rows(trial, "Labels"))
+    trial.check("a permission goes down to the next label", len(inside) == 1 and inside[0].startswith("payments (community 1), ended") and f", for {FIRST} " in inside[0], inside)
+    trial.check("the gate of another class isn't on its way", rows(trial, "Gates") == ["level 3, everybody in the hub: the whole report Narrow"], rows(trial, "Gates"))
+    trial.check("and a label goes down too", rows(trial, "By its label TLP:GREEN \u2191") != [], trial.browser.text("#shared h3"))
     ask_about(trial, f"{FIRST}/Method/1")
-    trial.check("but no permission goes further", [rows(trial, "Permissions"), rows(trial, "has ended")] == [["There is none."], []], rows(trial, "has ended"))
+    trial.check("but no permission goes further", [rows(trial, "By a permission"), rows(trial, "has ended")] == [["There is none."], []], rows(trial, "has ended"))
     ask_about(trial, "/Incident/0/Contact/0")
-    trial.check("or beside", [rows(trial, "Permissions"), rows(trial, "has ended")] == [["There is none."], []], rows(trial, "Permissions"))
-    trial.browser.run("[...document.querySelectorAll('#shared button')].find(one => one.textContent === 'All of the report').click()")
+    trial.check("or beside", [rows(trial, "By a permission"), rows(trial, "has ended")] == [["There is none."], []], rows(trial, "By a permission"))
+    options = trial.browser.run("return [...document.querySelectorAll('#about option')].map(one => one.textContent)")
+    trial.check("each class can be chosen, by place and text", options[0] == "all of the report" and "EventData/0: the page <b>x</b>" in options and len(options) == 8, options)
+    trial.browser.run("const it = document.getElementById('about'); it.value = ''; it.dispatchEvent(new Event('change'))")
     trial.check("then all of the report again", len(rows(trial, "Permissions")) == 2, rows(trial, "Permissions"))
 
 
@@ -191,6 +190,10 @@ def taken_back(trial: Trial, number: int) -> None:
     trial.check("the focus stays in the pane", at == "shared", at)
     trial.fill(WITHDRAW, {"Class": SECOND, "From": ["person", "4"]})
     trial.done("one is withdrawn by the form", f"Withdrawn from Cleo (person 4): the permission for {SECOND}.")
+    ask_about(trial, SECOND)
+    seen = trial.browser.run("const [bar, line] = ['said', 'shared'].map(id => document.getElementById(id).getBoundingClientRect()); return [bar.bottom, line.top]")
+    trial.check("what the hub said last covers nothing of the answer", 0 < seen[0] <= seen[1], seen)
+    trial.browser.run("const it = document.getElementById('about'); it.value = ''; it.dispatchEvent(new Event('change'))")
     trial.check("and the pane is read again", rows(trial, "Permissions") == ["There is none."], rows(trial, "Permissions"))
 
 
@@ -259,7 +262,7 @@ def many_labels(trial: Trial) -> None:
     label = rows(trial, "Labels")[-1]
     trial.check("of a label with many classes the first twenty are listed, and the others counted", label.count("EventData /") == 20 and label.endswith("part 19and 2 more"), label)
     ask_about(trial, "/Incident/0/EventData/21")
-    trial.check("nobody is addressed in person", rows(trial, "Recipients") == ["Nobody is addressed in person."], rows(trial, "Recipients"))
+    trial.check("nobody is addressed in person", rows(trial, "By its label") == ["Nobody is addressed in person."], rows(trial, "By its label"))
 
 
 def switched_off(trial: Trial) -> None:
@@ -270,16 +273,15 @@ def switched_off(trial: Trial) -> None:
     trial.enter("bank")
     trial.go(f"#incidents/{number}")
     ask_about(trial, FIRST)
-    trial.check("of `default` it says whom it is for", rows(trial, "Labels") == [
-        "as arranged, else TLP:RED default for addressed persons, or as you arranged with the reader\u2019s organisation"], rows(trial, "Labels"))  # fmt: skip
+    trial.check("of `default` it says whom it is for", rows(trial, "By its label as arranged, else TLP:RED default") == ["whom else you arranged it for"], rows(trial, "By its label"))
     trial.circle.ask("bank", "POST", "/groups/1/active", [("active", 0)])
     read_again(trial)
-    opens = [text.partition(":")[0] for text in (rows(trial, "Gates")[-1], rows(trial, "Permissions")[0])]
+    opens = [rows(trial, "Gates")[-1].partition(":")[0], rows(trial, "By a permission")[0]]
     off = "phishing (sharing group 1), which is switched off and opens nothing"
-    trial.check("of a group that is switched off it says so", opens == [f"level 4, {off}", f"{off}, without an end"], opens)
+    trial.check("of a group that is switched off it says so", opens == [f"level 4, {off}", f"{off}, without an end Withdraw"], opens)
     trial.circle.ask("bank", "POST", "/groups/1/active", [("active", 1)])
     read_again(trial)
-    trial.check("and not when it is on again", "switched off" not in trial.browser.text("#shared"), trial.browser.text("#shared"))
+    trial.check("and not when it is on again", "switched off" not in trial.browser.text("#shared > div:last-child"), trial.browser.text("#shared"))
 
 
 def foreign_community(trial: Trial) -> None:
