@@ -11,9 +11,6 @@
 //! - `wordless`: there is no memory for the words;
 //! - `held`: another program has the store open; `taken`: another program has the port.
 //!
-//! `iodef-redact` also runs over a host in memory that has the view's file. If its outcome is another, it is behind
-//! `in memory:`.
-//!
 //! The answer is the exit status, each line of the output behind `>`, and each line of standard error behind `!`; of a
 //! usage only the first.
 //!
@@ -39,7 +36,6 @@ mod calls;
 mod loss;
 mod memory;
 mod place;
-mod redacts;
 mod starts;
 mod statements;
 mod streams;

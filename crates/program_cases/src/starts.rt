@@ -4,7 +4,6 @@ use crate::addresses::Reaching;
 use crate::calls::{Calling, push_replies, reply_to};
 use crate::loss::Losing;
 use crate::place::Place;
-use crate::redacts::run_in_memory;
 use crate::streams::{Ending, Input, Output};
 use crate::texts::{field_of, fields_of};
 use crate::told::{ended, push_reply};
@@ -80,27 +79,6 @@ fn streams_of(way: &str) -> (Ending, bool, bool) {
     }
 }
 
-/// Returns the outcome of `iodef-redact`, with that over a host in memory if it is another.
-fn compared(
-    rt: &HostRuntime,
-    told: String,
-    field: &str,
-    words: io::Result<Args>,
-    bytes: &[u8],
-    way: &str,
-) -> io::Result<String> {
-    let Ok(words) = words else {
-        return Ok(told);
-    };
-    let Ok(other) = run_in_memory(rt, field, words, bytes, streams_of(way)) else {
-        return Ok(told);
-    };
-    if other.as_str() == told.as_str() {
-        return Ok(told);
-    }
-    Ok(format!(in rt.alloc(); "{told}in memory:\n{other}")?)
-}
-
 fn start_at(
     rt: &HostRuntime,
     place: &Place,
@@ -125,14 +103,7 @@ fn start_at(
         args_of(alloc, place, port, words)
     };
     let status = begin(rt, program, args, &mut input, &mut output, &mut errors);
-    let told = told_of(alloc, status, port, &output.written, &errors)?;
-    match program {
-        Program::Redact if way != "wordless" => {
-            let words = args_of(alloc, place, port, words);
-            compared(rt, told, field, words, &bytes, way)
-        }
-        _ => Ok(told),
-    }
+    Ok(told_of(alloc, status, port, &output.written, &errors)?)
 }
 
 /// Starts a program in this way. Returns the outcome.
