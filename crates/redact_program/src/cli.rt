@@ -23,8 +23,8 @@ use std::env::Args;
 use std::io;
 use std::io::{Read, Write};
 
-/// Does what the words of the program's start say; the first is the program's name. A word that isn't UTF-8 is a usage
-/// error.
+/// Does what the words of the program's start say; the first is the program's name. Returns how the program ends. A word
+/// that isn't UTF-8 is a usage error.
 pub fn cli_start<R: Read, W: Write, E: Write>(
     rt: &HostRuntime,
     words: io::Result<Args>,
@@ -68,7 +68,8 @@ fn no_memory<E: Write>(errors: &mut E) -> Status
     tell(errors, Trouble::NoAnswer(Fault::NoMemory), b"")
 }
 
-/// Does what the words behind the program's name say.
+/// Does what the words behind the program's name say, over the files of the operating system. Returns how the program
+/// ends.
 pub fn cli_run<R: Read, W: Write, E: Write>(
     rt: &HostRuntime,
     words: &[String],
@@ -91,7 +92,9 @@ pub fn cli_run<R: Read, W: Write, E: Write>(
     )
 }
 
-/// Does what the words behind the program's name say, over a host.
+/// Does what the words behind the program's name say, over the files of a host. Returns how the program ends: `Done` or
+/// `NotFound` if the answer is printed on `writer`; else nothing is, and `errors` has why, or a write failed. A file that
+/// the words name is read first, then `reader`.
 pub fn run_over<H: Host, R: Read, W: Write, E: Write>(
     alloc: Global,
     host: &mut H,
