@@ -3,7 +3,7 @@
 takes, what is refused, and the memory, beside the plain peer.
 
 usage: bench/load.py --program FILE [--peer FILE] [--nginx FILE] [--haproxy FILE] [--reports N,N,..] [--minutes M] [--peer-minutes M]
-                     [--organisations N] [--pressed N] [--port N] [--folder FOLDER]
+                     [--organisations N] [--pressed N] [--port N] [--folder FOLDER] [--stores FOLDER [--make-stores]]
 
 The day. An organisation has five persons: a coordinator, a poster and three readers. It is in one of eight communities, one of four
 in a second one; two pairs of communities are connected. Of the reports (4 KB, 204 lines each) 55 % are for the source's communities,
@@ -37,7 +37,9 @@ only ports and folders differ, and HAProxy writes no log. The hub has no limit o
 
 Of a run of M minutes the requests are those of M/10 of the day, at the same rate. With --pressed N the day is N times as fast (144).
 If bench/peer is built, the same requests, except those that the peer doesn't know, are sent to it for --peer-minutes, through the
-same proxies and after the hub. The table has `below 2 s` if 95 of 100 of each kind were answered within 2 seconds, and refusals by their code.
+same proxies and after the hub. The table has `below 2 s` if 95 of 100 of each kind were answered within 2 seconds, and refusals by their
+code. --stores names a folder that keeps the hub's stores; a run makes those that aren't there, and serves copies. --make-stores makes
+them, and measures nothing.
 
 It ends with `N passed, M failed`: it checks that nothing was answered but 200 and the proxies' 429 and 503, and that each post
 that was answered is served to its source. Needs: Python 3.11, nginx, HAProxy, openssl, and four processors that do nothing else.
@@ -611,6 +613,18 @@ def is_within(run: Run) -> bool:
     return True
 
 
+def kept_store(said: argparse.Namespace, world: World) -> pathlib.Path:
+    """The store of this world in the folder of stores, made unless it is there. It gets its name when it is whole."""
+    kept = pathlib.Path(said.stores) / f"hub-{len(world.orgs)}-{world.reports}.db"
+    if kept.exists():
+        return kept
+    with tempfile.TemporaryDirectory(dir=kept.parent) as made:
+        store = pathlib.Path(made) / "hub.db"
+        make_store(said.program, store, Ports(said.port).program("hub"), world)
+        store.rename(kept)
+    return kept
+
+
 class Load:
     def __init__(self, said: argparse.Namespace, folder: pathlib.Path, checks: many.Checks) -> None:
         self.said, self.folder, self.checks = said, folder, checks
@@ -634,7 +648,7 @@ class Load:
         store = self.folder / f"{whose}.db"
         program = self.said.program if whose == "hub" else self.said.peer
         if whose == "hub":
-            make_store(program, store, self.ports.program(whose), world)
+            self.take_store(store, world)
         else:
             make_peer_store(program, store, world)
             requests = [it for it in requests if it.kind in PEER_KNOWS]
@@ -651,6 +665,13 @@ class Load:
         self.answered += len(callers.outcomes)
         self.callers = None
         return run
+
+    def take_store(self, store: pathlib.Path, world: World) -> None:
+        """A new store of the hub, or a copy of the one that is kept."""
+        if self.said.stores:
+            shutil.copyfile(kept_store(self.said, world), store)
+        else:
+            make_store(self.said.program, store, self.ports.program("hub"), world)
 
     def timed(self, served: many.Hub, callers: Callers, requests: list[Request]) -> Run:
         watch = Watch(served.process.pid, self.proxies)
@@ -746,7 +767,11 @@ def main() -> None:
     words.add_argument("--pressed", type=float, default=144)
     words.add_argument("--port", type=int, default=24210, help="the first of five ports; by default %(default)s")
     words.add_argument("--folder", help="the folder in which the stores are made and removed")
+    words.add_argument("--stores", metavar="FOLDER", help="where the hub's stores are kept")
+    words.add_argument("--make-stores", action="store_true")
     said = words.parse_args()
+    if said.make_stores and not said.stores:
+        words.error("--make-stores wants --stores")
     for each in (said.program, said.peer, said.nginx, said.haproxy):
         if each and not many.is_program(each):
             words.error(f"{each} is no program")
@@ -756,6 +781,10 @@ def main() -> None:
     checks = many.Checks()
     many.end_in_order()
     begun = time.monotonic()
+    if said.make_stores:
+        for reports in said.reports:
+            print(kept_store(said, World(said.organisations, reports)))
+        return
     with tempfile.TemporaryDirectory(dir=said.folder) as made:
         folder = pathlib.Path(made)
         folder.chmod(0o711)
@@ -765,4 +794,4 @@ def main() -> None:
 
 
 if __name__ == "__main__":
-    record.run(main)
+    main() if "--make-stores" in sys.argv else record.run(main)
