@@ -5,7 +5,7 @@ import argparse
 import datetime
 from dataclasses import dataclass
 
-from iodef_hub import ARRANGED, RULES, Community, Group, Hub, Labelled, Permission, Refused, Sharing, View, label_of, labelled_classes
+from iodef_hub import ARRANGED, RULES, Community, Gate, Group, Hub, Labelled, Permission, Refused, Sharing, View, label_of, labelled_classes
 
 from .characters import shown
 from .sharing import CLEARED, INCIDENT, at_path, class_line, level_words
@@ -27,6 +27,18 @@ class Own:
     def off_words(self, group: int | None) -> str:
         is_off = any(each.number == group and not each.active for each in self.groups)
         return ", which is switched off and opens nothing" if is_off else ""
+
+    def is_connected_further(self) -> bool:
+        """Whether one of these communities is connected to one that isn't the caller's."""
+        owned = {each.number for each in self.communities}
+        return any(other not in owned for each in self.communities for other in each.connected)
+
+    def stops(self, gate: Gate, org: int) -> bool:
+        """Whether it is known that a gate lets this other organisation not pass."""
+        if gate.level in (0, 4):
+            return gate.level == 0 or self.off_words(gate.group) != ""
+        is_far = not any(org in each.members for each in self.communities)
+        return is_far and (gate.level == 1 or gate.level == 2 and not self.is_connected_further())
 
 
 def moment_words(seconds: int) -> str:
@@ -82,17 +94,26 @@ def labelled(view: View, path: str | None) -> list[Labelled]:
             if (each.path == path if path is not None else each.path == INCIDENT or label_of(each.members))]
 
 
-def recipient_line(given: argparse.Namespace, kind: str, number: int, label: str | None) -> str:
+def stopped_words(given: argparse.Namespace, own: Own, found: Sharing, kind: str, number: int) -> str:
+    """Of an organisation: the level of the gate that stops it, where one class is asked for."""
+    levels = [each.level for each in found.gates if own.stops(each, number)] if given.path is not None and kind == "org" else []
+    return f", stopped at level {levels[0]}" if levels else ""
+
+
+def recipient_line(given: argparse.Namespace, own: Own, found: Sharing, kind: str, number: int, label: str | None) -> str:
     """What it is cleared for; where one class is asked for, whom of it the label is for."""
     words = f": {CLEARED[kind]}"
     if label is not None:
         words = "" if kind == "person" else ": its nominated persons" + ", and those of its clients" * (label in OF_CLIENTS) + ", as you arranged it" * (label == ARRANGED)
+        stopped = stopped_words(given, own, found, kind, number)
+        words += stopped.replace(", ", ", itself ", 1) if label != "TLP:AMBER+STRICT" else stopped  # its clients may pass
     return f"recipient\t{given.names(kind, number)}{words}"
 
 
-def permission_line(given: argparse.Namespace, view: View, own: Own, each: Permission) -> str:
+def permission_line(given: argparse.Namespace, view: View, own: Own, found: Sharing, each: Permission) -> str:
     whom = given.names(each.kind, each.target) + (own.off_words(each.target) if each.kind == "group" else "")
-    return f"{'ended' if each.ended else 'permission'}\t{whom}, {end_words(each)}\t{place_words(given, view, each.path)}"
+    stopped = "" if each.ended else stopped_words(given, own, found, each.kind, each.target)
+    return f"{'ended' if each.ended else 'permission'}\t{whom}, {end_words(each)}{stopped}\t{place_words(given, view, each.path)}"
 
 
 def is_of_each(found: Sharing, is_green: bool) -> bool:
@@ -122,8 +143,7 @@ def unknown_words(own: Own, found: Sharing, label: str) -> str:
     levels = {each.level for each in found.gates}
     recipients, permitted = [kind for kind, _ in found.recipients], [each.kind for each in found.permissions if not each.ended]
     owned = {each.number for each in own.communities}
-    is_connected = any(other not in owned for each in own.communities for other in each.connected)
-    is_far = 2 in levels and is_connected or not owned.issuperset(communities_meant(own, found, label in GREENS))
+    is_far = 2 in levels and own.is_connected_further() or not owned.issuperset(communities_meant(own, found, label in GREENS))
     return ", ".join(filter(None, (
         "arrangements" if label == ARRANGED else "", "nominations, clients" if label in OF_CLIENTS else "nominations" if "org" in recipients else "",
         "which organisation a person is of" if levels & {1, 2, 4} and "person" in recipients + permitted else "",
@@ -139,11 +159,11 @@ def sharing_lines(given: argparse.Namespace, view: View, own: Own, found: Sharin
     lines = [f"green\tis for {community}, and for those whom TLP:AMBER is for: {RULES['H-AMBER'].partition(', for ')[2]}"] * is_green
     lines += [f"gate\t{level_words(given, each.level, each.group)}{own.off_words(each.group)}\t{place_words(given, view, each.path)}" for each in found.gates]
     lines += [f"label\t{audience(each.label, community)}\t{class_line(each)}" for each in sites]
-    lines += [recipient_line(given, kind, number, label) for kind, number in found.recipients] or ["recipient\tnobody"] * (label != "TLP:CLEAR")
-    lines += [permission_line(given, view, own, each) for each in found.permissions if not each.ended] or ["permission\tnobody"]
+    lines += [recipient_line(given, own, found, kind, number, label) for kind, number in found.recipients] or ["recipient\tnobody"] * (label != "TLP:CLEAR")
+    lines += [permission_line(given, view, own, found, each) for each in found.permissions if not each.ended] or ["permission\tnobody"]
     lines += community_lines(given, own, found, is_green)
     if given.ended:
-        lines += [permission_line(given, view, own, each) for each in found.permissions if each.ended]
+        lines += [permission_line(given, view, own, found, each) for each in found.permissions if each.ended]
     return lines
 
 

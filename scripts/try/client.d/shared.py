@@ -70,6 +70,7 @@ def by_sharing(check: Check, asker: Callable[..., Any], folder: pathlib.Path) ->
           ['{"code":"N1","detail":"","reason":"no such incident for you"}'])
     check("command sharing --help says what a path is", "/Incident/0/EventData/1" in bank("sharing", "--help")[1])
     by_circle(check, asker)
+    by_gates(check, asker)
     by_withdrawing(check, asker, number, "\t".join(last).split(", ended ")[1].split("\t")[0])
     by_new_key(check, asker, folder)
 
@@ -108,6 +109,26 @@ def by_circle(check: Check, asker: Callable[..., Any]) -> None:
         MEMBERS.split("\t"), ["community", f"community {other}: not one of yours, so its members are not known here"]])
     bank("group-active", "1", "on")
     check("  and when the group is on", "switched off" in bank("sharing", number, FIRST)[1], False)
+
+
+def by_gates(check: Check, asker: Callable[..., Any]) -> None:
+    """Of a permission or a recipient it is said that a gate stops the organisation, where that is known."""
+    bank = asker("bank-key")
+    gates = ("--gate", f"1:0:{FIRST}", "--gate", f"0:0:{SECOND}")
+    number = bank("post", "-", "3", "--any-community", *gates, given=REPORT.replace(b'"shared"', b'"gates"'))[1].strip()
+    for words in ((FIRST, "person", "4"), (FIRST, "org", "1"), (FIRST, "org", "3"), (SECOND, "org", "3")):
+        bank("grant", number, *words)
+    bank("address", number, "org", "1")
+
+    def whom(*words: str) -> list[str]:
+        lines = [each.split("\t") for each in bank("sharing", number, *words)[1].splitlines()]
+        return [each[1] for each in lines if each[0] in ("recipient", "permission")]
+
+    check("command sharing: whom a gate of level 1 stops", whom(FIRST), [
+        "organisation 1: its nominated persons, and those of its clients, itself stopped at level 1",
+        "person 4, for ever", "organisation 1, for ever, stopped at level 1", "organisation 3, for ever"])
+    check("  of level 0", whom(SECOND), ["nobody", "organisation 3, for ever, stopped at level 0"])
+    check("  and of a whole report that isn't said", [each for each in whom() if "stopped" in each], [])
 
 
 def soon() -> str:

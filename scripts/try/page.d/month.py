@@ -273,7 +273,7 @@ def wanted_class(trial: Trial) -> None:
     label = rows(trial, "By its label")
     recipients = "Telco (organisation 3): addressed UnaddressInsurance (organisation 9): addressed Unaddress"
     trial.check("whom TLP:AMBER+STRICT is for, by name", label == ["Dan (person 5): addressed Unaddress", f"nominated persons of these:{recipients}"], label)
-    permitted = rows(trial, "By a permission")
+    permitted = rows(trial, "By a permission, 3 in all")
     trial.check("who has a permission", permitted == ["Eva (person 6), without an end Withdraw", "University (organisation 4), until 2035-07-01 18:00 (UTC+02:00) Withdraw",
                                                       "energy (community 2), without an end Withdraw"], permitted)  # fmt: skip
     ended = rows(trial, "have ended")
