@@ -1,9 +1,10 @@
 #!/usr/bin/env python3
 """How long polls by TAXII take, and what the hub's other callers wait meanwhile.
 
-usage: bench/polling.py [--program FILE] [--reports 5000] [--keys 20] [--again 60] [--commands FOLDER] [--folder FOLDER]
+usage: bench/polling.py [--program FILE] [--reports 5000] [--keys 20] [--events 20] [--again 60] [--commands FOLDER]
+                        [--folder FOLDER]
 
-A hub has reports of 4 KB and 210 lines, of which each reader sees two thirds of the classes. The readers are of as many organisations in one
+A hub has reports of 20 `EventData` (4 KB and 210 lines), of which each reader sees two thirds. The readers are of as many organisations in one
 community. iodef-hub-taxii of FOLDER (clients/python) runs over it. All readers poll at once, three times:
 
     first     of a collection that nobody has read. It asks behind a moment to come, so that all is read, and no object served
@@ -47,20 +48,20 @@ def reader(place: int) -> str:
     return f"reader-{place}"
 
 
-def make_store(program: str, store: pathlib.Path, port: int, reports: int, keys: int) -> None:
+def make_store(program: str, store: pathlib.Path, port: int, given: argparse.Namespace) -> None:
     """Organisation 2 with its reports, and as many others with a reader each, in one community."""
     subprocess.run([program, "init", str(store), "Hub", many.digest(ADMIN)], check=True, stdout=subprocess.DEVNULL)
     hub = many.Hub(program, store, port)
-    people = [(2, POSTER, "poster"), (2, OTHER, "reader"), *((3 + place, reader(place), "reader") for place in range(keys))]
+    people = [(2, POSTER, "poster"), (2, OTHER, "reader"), *((3 + place, reader(place), "reader") for place in range(given.keys))]
     hub.done(ADMIN, "POST", "/communities", b"name=East")
-    for org in range(2, keys + 3):
+    for org in range(2, given.keys + 3):
         hub.done(ADMIN, "POST", "/orgs", f"name=Organisation+{org}".encode())
         hub.done(ADMIN, "POST", "/communities/1/join", f"org={org}".encode())
     for org, key, role in people:
         hub.done(ADMIN, "POST", "/persons", f"org={org}&name={key}&role={role}&key={many.digest(key)}".encode())
-    hub.done(POSTER, "POST", "/incidents?level=3", many.compact(document({"id": many.identity(1), "name": many.ISSUER}, 20, LABELS)))
+    hub.done(POSTER, "POST", "/incidents?level=3", many.compact(document({"id": many.identity(1), "name": many.ISSUER}, given.events, LABELS)))
     hub.close()
-    many.fill(store, reports, lambda number: many.Report(1, 2, 3))
+    many.fill(store, given.reports, lambda number: many.Report(1, 2, 3))
 
 
 # ---- the service
@@ -134,7 +135,7 @@ def each_of(keys: int, poll: Callable[[str], object]) -> list[float]:
         poll(reader(place))
         took.append(time.perf_counter() - begun)
 
-    threads = [threading.Thread(target=run, args=(place,)) for place in range(keys)]
+    threads = [threading.Thread(target=run, args=(place,), daemon=True) for place in range(keys)]
     for each in threads:
         each.start()
     for each in threads:
@@ -151,7 +152,7 @@ class Other:
     def __init__(self, hub: many.Hub, reports: int) -> None:
         self._hub, self._reports, self._ended = hub, reports, threading.Event()
         self.times: dict[str, list[float]] = {"View": [], "list": []}
-        self._thread = threading.Thread(target=self._ask)
+        self._thread = threading.Thread(target=self._ask, daemon=True)
 
     def __enter__(self) -> "Other":
         self._thread.start()
@@ -205,7 +206,7 @@ class Table:
 
 def measure(given: argparse.Namespace, folder: pathlib.Path, checks: many.Checks) -> None:
     store = folder / "hub.db"
-    make_store(given.program, store, many.free_port(), given.reports, given.keys)
+    make_store(given.program, store, many.free_port(), given)
     hub = many.Hub(given.program, store, many.free_port())
     service = Service(given.commands, hub, folder, given.again)
     try:
@@ -236,13 +237,14 @@ def main() -> None:
     parser.add_argument("--program", default=str(many.TOP / "out" / "iodef-hub"))
     parser.add_argument("--reports", type=int, default=5000)
     parser.add_argument("--keys", type=int, default=20)
+    parser.add_argument("--events", type=int, default=20, help="classes EventData of a report")
     parser.add_argument("--again", type=float, default=60)
     parser.add_argument("--commands", type=pathlib.Path, default=many.TOP / "clients" / "python")
     parser.add_argument("--folder", type=pathlib.Path, help="where the store is, and the file of state; by default a temporary one")
     given = parser.parse_args()
     many.end_in_order()
     checks = many.Checks()
-    print(f"{given.reports} reports, {given.keys} keys; {many.provenance(given.program)}")
+    print(f"{given.reports} reports of {given.events} EventData, {given.keys} keys; {many.provenance(given.program)}")
     with tempfile.TemporaryDirectory(dir=given.folder) as folder:
         measure(given, pathlib.Path(folder), checks)
     print(f"load {pathlib.Path('/proc/loadavg').read_text().split()[0]} at the end")
