@@ -20,7 +20,7 @@ from iodef_hub_stix.making import made_of
 from .store import Store
 
 # What is made of an answer: another form makes each anew, and only what is another one then is a new version.
-ANSWER_FORM, CONTENT_FORM = b"2", b"1"
+ANSWER_FORM, CONTENT_FORM = b"3", b"1"
 LONGEST_EXCERPT = 4 * 1024 * 1024  # bytes of an answer; the hub's own limit of a report is 256 KiB
 PAGE = 100
 MOST_FRESH = 2
@@ -34,13 +34,15 @@ class Busy(Exception):
 
 
 class Turns:
-    """Requests to the hub, one after another in the order in which they were wanted. After each is a pause at least as long as it took."""
+    """Requests to the hub, one after another in the order in which they were wanted. Between two is a pause at least as long as the first
+    took; who asked works on its answer meanwhile."""
 
     def __init__(self, pause: float, patience: float) -> None:
         self._pause, self._patience = pause, patience
-        self._waiting: deque[object] = deque()
+        self._waiting: deque[threading.Event] = deque()  # whose turn it is, or will be, the first first
         self._room = threading.BoundedSemaphore(ROOM)
-        self._change = threading.Condition()
+        self._lock = threading.Lock()
+        self._free = 0.0  # when the pause ends
         self.asked = 0
 
     @contextlib.contextmanager
@@ -54,22 +56,34 @@ class Turns:
             self._room.release()
 
     def __call__(self, ask: Callable[[], T]) -> T:
-        ticket = object()
-        with self._change:
-            self._waiting.append(ticket)
-            if not self._change.wait_for(lambda: self._waiting[0] is ticket, self._patience):
-                self._waiting.remove(ticket)
-                self._change.notify_all()
-                raise Busy
+        self._wait()
+        time.sleep(max(self._free - time.monotonic(), 0))
         began = time.monotonic()
         try:
             return ask()
         finally:
-            time.sleep(max(self._pause, min(time.monotonic() - began, 1)))
-            with self._change:
+            now = time.monotonic()
+            self._free = now + max(self._pause, min(now - began, 1))
+            with self._lock:
                 self.asked += 1
                 self._waiting.popleft()
-                self._change.notify_all()
+                self._call_next()
+
+    def _wait(self) -> None:
+        turn = threading.Event()
+        with self._lock:
+            self._waiting.append(turn)
+            self._call_next()
+        if turn.wait(self._patience):
+            return
+        with self._lock:
+            if not turn.is_set():
+                self._waiting.remove(turn)
+                raise Busy
+
+    def _call_next(self) -> None:
+        if self._waiting:
+            self._waiting[0].set()
 
 
 @dataclass(frozen=True)
@@ -149,14 +163,16 @@ class Reader:
 
     def _note_content(self, excerpt: Excerpt, number: int) -> None:
         kept = self._store.kept(self.number, number)
-        answer = self._digest(ANSWER_FORM, [excerpt.document, excerpt.withheld, excerpt.source, excerpt.name])
+        # Most answers are the same as before, so their bytes are compared first; the source's name isn't in them.
+        answer = self._digest(ANSWER_FORM, json.dumps(excerpt.name).encode() + self._hub.heard)
         if kept is not None and kept.answer == answer:
             self._store.same(self.number, number, answer)
             return
         created = stamp(kept.created if kept else 0)
         made = made_of(excerpt, created, created)
         # Moments that stand for one that the report doesn't tell are no content.
-        content = self._digest(CONTENT_FORM, [{name: it for name, it in each.items() if it != created} for each in made])
+        told = [{name: it for name, it in each.items() if it != created} for each in made]
+        content = self._digest(CONTENT_FORM, json.dumps(told, sort_keys=True, separators=(",", ":"), ensure_ascii=False).encode())
         if kept is not None and kept.content == content:
             self._store.same(self.number, number, answer)
         else:
@@ -186,9 +202,8 @@ class Reader:
         told = str(view.source)
         return Excerpt(self._settings.name, str(number), view.document, withheld, told, self._settings.names.get(told, ""))
 
-    def _digest(self, form: bytes, value: object) -> bytes:
+    def _digest(self, form: bytes, told: bytes) -> bytes:
         """An HMAC by the reader's key, which isn't kept: who has the file alone can't try out contents."""
-        told = json.dumps(value, sort_keys=True, separators=(",", ":"), ensure_ascii=False).encode()
         return hmac.new(self._key, form + told, hashlib.sha256).digest()
 
 

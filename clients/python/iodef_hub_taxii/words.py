@@ -85,8 +85,8 @@ def words() -> argparse.ArgumentParser:
                         help="how long a request may read before it answers (default: 20)")
     parser.add_argument("--again", type=_seconds, default=60.0, metavar="SECONDS",
                         help="an excerpt that was read within this time before a poll isn't read again (default: 60)")
-    parser.add_argument("--pause", type=_seconds, default=0.002, metavar="SECONDS",
-                        help="the least pause between requests to the hub (default: 0.002)")
+    parser.add_argument("--pause", type=_seconds, default=0.0, metavar="SECONDS",
+                        help="the least pause between requests to the hub (default: 0)")
     parser.epilog = (f"A page has at most {MOST_OBJECTS} objects. Exit status: 0 ended by a signal; "
                      "1 the file of state or of names is refused; 2 usage, or the port.")
     return parser

@@ -26,8 +26,10 @@ def document_of(text: bytes, notes: Notes) -> dict[str, Any]:
     made = Reader(notes).of_class(root, CLASSES[ROOT], f"/{ROOT}")
     if set(marks.MEMBERS) & set(made):
         raise Unfit("LabelNotHeld", "in JSON the root holds no label", f"/{ROOT}")
-    if made.get("version") in VERSIONS:
-        made["version"] = VERSIONS[made["version"]]
+    if "version" in made:
+        if made["version"] not in (*VERSIONS, *VERSIONS.values()):
+            raise Unfit("NotIodef", "the version isn't 2.00")
+        made["version"] = VERSIONS.get(made["version"], made["version"])
     return made
 
 

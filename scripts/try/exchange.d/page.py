@@ -8,6 +8,7 @@ import shutil
 import subprocess
 import sys
 from collections.abc import Iterator
+from typing import Any
 
 from common import TOP
 from small_hub import Hub, digest
@@ -24,7 +25,7 @@ HASH = "9f86d081884c7d659a2feaa0c55ad015a3bf4f1b2b0b822cd15d6c15b0f00a08"
 SHOWN = ("payroll-portal.example.net", "login-payroll.example.net", "192.0.2.77", "csirt@csirt.example.com", "invoice.js", HASH,
          "CVE-2026-20417", "Mail with link delivered", "2026-1187")
 WITHHELD = ("Jane Victim", "jane.victim", "payroll01", "198.51.100.9", "I-1187-3", "taken over", "takeover-account")
-MAP = {"hub": "hub.example.org", "groups": [], "organisations": [
+MAP: dict[str, Any] = {"hub": "hub.example.org", "groups": [], "organisations": [
     {"number": 2, "uuid": "55f6ea5e-2c60-40e5-964f-47a8950d210f", "name": "csirt.example.com"}]}
 
 
@@ -99,6 +100,35 @@ def by_page(desk: Desk, port: int, redact: str | None) -> Iterator[tuple[bool, s
     yield same("and it is objects of STIX", {"report", "indicator", "vulnerability"} <= types)
 
 
+def event(uuid: str, distribution: int) -> dict[str, object]:
+    """An event of MISP of organisation 2."""
+    (organisation,) = MAP["organisations"]
+    return {"Event": {
+        "uuid": uuid, "info": f"event {uuid}", "date": "2026-11-30", "timestamp": "1796000000", "published": True, "analysis": "2",
+        "threat_level_id": "2", "distribution": str(distribution), "Orgc": {"uuid": organisation["uuid"], "name": organisation["name"]},
+        "Tag": [{"name": "tlp:green"}],
+        "Attribute": [{"uuid": "f" + uuid[1:], "type": "ip-dst", "category": "Network activity", "to_ids": True, "distribution": "5",
+                       "value": "192.0.2.77"}]}}
+
+
+def beside_misp(desk: Desk) -> Iterator[tuple[bool, str]]:
+    """The lines that mail what goes to all, with a program that keeps what it is given in the place of iodef-redact-mail."""
+    mail, events = desk.folder / "bin" / "iodef-redact-mail", desk.folder / "events.json"
+    mail.write_text('#!/bin/sh\necho "$@" >>mailed; cat >>mailed\n')
+    mail.chmod(0o755)
+    (desk.folder / "map.json").write_text(json.dumps(MAP))
+    mailed, shared, own = desk.folder / "mailed", f"{1:08}-0000-4000-8000-{0:012}", f"{2:08}-0000-4000-8000-{0:012}"
+    for what, text, wanted in (("events", json.dumps([event(shared, 3), event(own, 0)]), (True, True, False, 1)),
+                               ("a fault behind an event", json.dumps([event(shared, 3), {"Event": {}}]), (False, False, False, 0)),
+                               ("nothing", "", (False, False, False, 0))):
+        events.write_text(text)
+        mailed.write_text("")
+        status, _, _ = desk.run(block("set -o pipefail"), "ada")
+        told = mailed.read_text()
+        found = status == 0, f"event {shared}" in told, f"event {own}" in told, told.count("--to partners.json --send -\n")
+        yield same(f"beside MISP, of {what}: done, the one for all, that for none, and how many are mailed", found, wanted)
+
+
 def checks(context: Context) -> Iterator[tuple[bool, str]]:
     missing = [each for each in ("curl", "jq") if shutil.which(each) is None]
     yield same("this machine has curl and jq", missing, [])
@@ -115,6 +145,7 @@ def checks(context: Context) -> Iterator[tuple[bool, str]]:
         assert taxii.stdout is not None and taxii.stdout.readline() == f"listening {port}\n"
         circle(hub, context.folder)
         yield from by_page(desk, port, context.redact)
+        yield from beside_misp(desk)
     finally:
         taxii.kill()
         taxii.wait()

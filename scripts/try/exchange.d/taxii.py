@@ -305,6 +305,12 @@ class Changes:
         self.hub.done(reports.KEYS["source"], "PUT", target, json.dumps(report.document).encode())
         self.trial.reports[number] = report
 
+    def narrow_circle(self) -> None:
+        """The member leaves the community, one reader isn't nominated any more, and the other isn't a client."""
+        self.hub.done("admin", "POST", "/communities/1/leave", f"org={reports.READERS['member']}".encode())
+        self.hub.done(reports.KEYS["nominated"], "POST", f"/persons/{reports.PERSONS['nominated']}/unnominate")
+        self.hub.done("admin", "POST", "/orgs/2/clients/remove", f"client={reports.READERS['client']}".encode())
+
     def let_end(self) -> None:
         """The permissions with an end get one that is near, which shows the same; and it passes."""
         for number in self.trial.reports:
@@ -334,6 +340,11 @@ def of_changes(trial: Trial) -> Check:
     after = {reader: {number: it.digest for number, it in watch.seen.items()} for reader, watch in trial.watches.items()}
     changes.widen(3)
     yield from trial.phase("shown again")
+    again = {reader: {number: it.digest for number, it in watch.seen.items()} for reader, watch in trial.watches.items()}
+    changes.narrow_circle()
+    yield from trial.phase("a smaller circle")
+    fewer = {reader for reader, watch in trial.watches.items() if {number: it.digest for number, it in watch.seen.items()} != again[reader]}
+    yield same("who left, isn't nominated or isn't a client any more sees less", fewer, {"member", "nominated", "client"})
     consumer = trial.watches["member"].consumer
     listed = {each["id"]: each["version"] for each in consumer.client.manifest(consumer.collection)}
     yield same("the manifest has these versions", {name: listed.get(name) for name, each in consumer.kept.items() if "modified" in each},
@@ -480,12 +491,24 @@ def of_bad(trial: Trial) -> Check:
         yield same(f"bad: {what}", told, (wanted, True, str(wanted), True, True))
     yield same("another reader's collection isn't there", asked(trial.service.client("stranger"), f"{collection}objects/"),
                "404 NoCollection")
+    yield from of_cursors(trial, client.part(f"{collection}objects/", limit="5").next or "")
     yield same("no traceback in the log", "Traceback" in trial.service.log.read_text(), False)
     with socket.create_connection(("127.0.0.1", trial.service.port), timeout=60) as slow:
         began = time.monotonic()
         slow.sendall(b"GET /taxii2/ HTTP/1.1\r\n")
         first = slow.recv(4096).decode()[:12]
         yield same("who is slow is answered in time", (first, 14 < time.monotonic() - began < 25), ("HTTP/1.1 408", True))
+
+
+def of_cursors(trial: Trial, told: str) -> Check:
+    """The `next` of another reader leads to nothing but the own objects behind it; one that is far ahead to none."""
+    client = trial.service.client("stranger")
+    (collection,) = client.collections()
+    whole = {each["id"] for part in client.parts(f"{collection}objects/") for each in part.objects}
+    part = client.part(f"{collection}objects/", next=told)
+    yield same("another reader's next leads to own objects alone", {each["id"] for each in part.objects} <= whole)
+    status, _, body = client.raw("GET", f"{collection}objects/?next={'9' * 17}-{told.partition('-')[2]}")
+    yield same("a next far ahead leads to none", (status, json.loads(body)), (200, {"more": False}))
 
 
 def asked(client: Client, url: str) -> str:

@@ -27,10 +27,10 @@ FILES = {
                                  " iodef-hub-second.conf iodef-hub-server.conf iodef-hub-taxii.conf iodef-hub-tls.conf iodef-hub-unit.conf",
     "usr/share/iodef-hub/nftables": "iodef-hub-callers.nft",
     "usr/share/iodef-hub/page": "index.html",
-    "usr/share/doc/iodef-hub/examples": "alerts.yml haproxy.cfg iodef-hub.nft mail-news site.conf",
+    "usr/share/doc/iodef-hub/examples": "alerts.yml haproxy.cfg iodef-hub.nft mail-news rt-drafts site.conf",
 }
 STARTED = {"usr/bin", "usr/sbin", "usr/lib/iodef-hub"}
-ALSO_STARTED = {"usr/share/doc/iodef-hub/examples/mail-news"}
+ALSO_STARTED = {"usr/share/doc/iodef-hub/examples/mail-news", "usr/share/doc/iodef-hub/examples/rt-drafts"}
 # The folders that its installation makes, on a machine without them.
 MADE = {"/var/backups/iodef-hub": "700 root root", "/var/lib/iodef-hub-names": "755 root root", "/var/lib/prometheus/node-exporter": "755 root root"}
 # In folders of its own for all of the system's that it might touch, and without a systemd that it could ask.
