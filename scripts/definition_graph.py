@@ -14,6 +14,8 @@ from collections.abc import Iterable, Iterator
 Where = tuple[str, str]
 
 USE = re.compile(r"^ *(?:pub )?(?:ghost )?use (Rattle\.[\w.+]+?)(?:\.\{([^}]*)\}| as (\w+)|);?$", re.M)
+# as of proofs, by the tree of modules
+NESTED = re.compile(r"^use Rattle\..*\n", re.M)
 WORD = re.compile(r"[^\s(){}\[\];,.λ]+")
 NAMED = re.compile(r" *(?:(?:abbrev|unfoldable|pub|record|data) )*([^\s(){};,.]+)(?: [({].*)? : ")
 BINDS = re.compile("[λ∀∃]")
@@ -42,7 +44,7 @@ class Module:
 
 def plain(text: str) -> str:
     """Without comments, blank lines and imports."""
-    lines = (COMMENT.sub("", it) for it in USE.sub("", text).split("\n"))
+    lines = (COMMENT.sub("", it) for it in NESTED.sub("", USE.sub("", text)).split("\n"))
     return "\n".join(it for it in lines if it.strip())
 
 
