@@ -19,8 +19,9 @@ UNKNOWN = "arrangements, nominations, clients, and who is in a group or in a com
 
 @dataclass(frozen=True)
 class Own:
-    """The groups and the communities of the caller's organisation."""
+    """The caller's organisation, its groups and its communities."""
 
+    org: int
     groups: tuple[Group, ...]
     communities: tuple[Community, ...]
 
@@ -34,7 +35,9 @@ class Own:
         return any(other not in owned for each in self.communities for other in each.connected)
 
     def stops(self, gate: Gate, org: int) -> bool:
-        """Whether it is known that a gate lets this other organisation not pass."""
+        """Whether it is known that a gate lets this organisation not pass. The caller's own one passes."""
+        if org == self.org:
+            return False
         if gate.level in (0, 4):
             return gate.level == 0 or self.off_words(gate.group) != ""
         is_far = not any(org in each.members for each in self.communities)
@@ -179,7 +182,7 @@ def sharing_of(hub: Hub, given: argparse.Namespace, view: View) -> Sharing:
 
 def do_sharing(hub: Hub, given: argparse.Namespace, teller: Teller) -> None:
     view = hub.view(given.number)
-    own = Own(hub.groups(), hub.communities())
+    own = Own(view.source, hub.groups(), hub.communities())
     given.names.learn("group", {str(each.number): each.name for each in own.groups})
     given.names.learn("community", {str(each.number): each.name for each in own.communities})
     found = sharing_of(hub, given, view)

@@ -116,7 +116,7 @@ def by_gates(check: Check, asker: Callable[..., Any]) -> None:
     bank = asker("bank-key")
     gates = ("--gate", f"1:0:{FIRST}", "--gate", f"0:0:{SECOND}")
     number = bank("post", "-", "3", "--any-community", *gates, given=REPORT.replace(b'"shared"', b'"gates"'))[1].strip()
-    for words in ((FIRST, "person", "4"), (FIRST, "org", "1"), (FIRST, "org", "3"), (SECOND, "org", "3")):
+    for words in ((FIRST, "person", "4"), (FIRST, "org", "1"), (FIRST, "org", "3"), (SECOND, "org", "3"), (SECOND, "org", "2")):
         bank("grant", number, *words)
     bank("address", number, "org", "1")
 
@@ -127,7 +127,7 @@ def by_gates(check: Check, asker: Callable[..., Any]) -> None:
     check("command sharing: whom a gate of level 1 stops", whom(FIRST), [
         "organisation 1: its nominated persons, and those of its clients, itself stopped at level 1",
         "person 4, for ever", "organisation 1, for ever, stopped at level 1", "organisation 3, for ever"])
-    check("  of level 0", whom(SECOND), ["nobody", "organisation 3, for ever, stopped at level 0"])
+    check("  of level 0, which lets the own one pass", whom(SECOND), ["nobody", "organisation 2, for ever", "organisation 3, for ever, stopped at level 0"])
     check("  and of a whole report that isn't said", [each for each in whom() if "stopped" in each], [])
 
 
