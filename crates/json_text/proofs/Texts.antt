@@ -6,7 +6,7 @@ use Rattle.json.specs.Print.{escape_byte, escape, quoted}
 use Rattle.serde_json.specs.Written.{comma_if}
 use Rattle.iodef_tree.specs.Pointer.{escaped_byte, escaped, pointer_text}
 use Rattle.json_text.specs.Shown.{shown_bytes}
-use Rattle.json_text.specs.declared.escape.Within.TheVariants.{Text, Token}
+use Rattle.json_text.specs.declared.escape.Within.TheVariants.{Token}
 
 -- a comma before a token that begins a value or a member
 pub separator-begins : (a : Bool) → cond {A = List ℕ} (a && true) (44 ∷ []) [] ≡ comma_if a
@@ -17,14 +17,15 @@ pub separator-ends : (a : Bool) → cond {A = List ℕ} (a && false) (44 ∷ [])
 separator-ends true = refl
 separator-ends false = refl
 
-pub quoted-is : (c t bytes : List ℕ) → bytes ≡ t → ((c ++ 34 ∷ []) ++ shown_bytes Text bytes) ++ 34 ∷ [] ≡ c ++ quoted t
-quoted-is c t bytes e =
-    append_assoc (c ++ 34 ∷ []) (shown_bytes Text bytes) (34 ∷ [])
-    ∙ append_assoc c (34 ∷ []) (shown_bytes Text bytes ++ 34 ∷ [])
-    ∙ ap (λ l. c ++ quoted l) e
+-- a quotation mark and a text, which isn't ended yet
+pub opened-is : (c t bytes : List ℕ) → bytes ≡ t → (c ++ 34 ∷ []) ++ escape bytes ≡ c ++ 34 ∷ escape t
+opened-is c t bytes e = append_assoc c (34 ∷ []) (escape bytes) ∙ ap (λ l. c ++ 34 ∷ escape l) e
 
-pub name-is : (c q : List ℕ) → (c ++ q) ++ 58 ∷ [] ≡ c ++ (q ++ 58 ∷ [])
-name-is c q = append_assoc c q (58 ∷ [])
+pub quoted-is : (c t : List ℕ) → (c ++ 34 ∷ escape t) ++ 34 ∷ [] ≡ c ++ quoted t
+quoted-is c t = append_assoc c (34 ∷ escape t) (34 ∷ [])
+
+pub name-is : (c t : List ℕ) → (c ++ 34 ∷ escape t) ++ 34 ∷ 58 ∷ [] ≡ c ++ (quoted t ++ 58 ∷ [])
+name-is c t = append_assoc c (34 ∷ escape t) (34 ∷ 58 ∷ []) ∙ ap (λ l. c ++ 34 ∷ l) (sym (append_assoc (escape t) (34 ∷ []) (58 ∷ [])))
 
 -- a name, and the text behind it
 pub named-is : (a after : Bool) (q t : List ℕ) → after ≡ false → (comma_if a ++ (q ++ 58 ∷ [])) ++ (comma_if after ++ t) ≡ comma_if a ++ (q ++ 58 ∷ t)

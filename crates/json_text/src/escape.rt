@@ -1,9 +1,10 @@
 //! The texts of JSON strings (RFC 8259 section 7).
 ghost use Rattle.std.specs.Prelude.{◌≡◌, ◌<◌, ◌≤◌, ◌∷◌, [], IsTrue, OnOk, length, take};
 ghost use Rattle.std.specs.Char.{digit_char};
-ghost use Rattle.json.specs.Print.{escape_byte, escape_letter};
+ghost use Rattle.json.specs.Print.{escape, escape_byte, escape_letter};
 ghost use Rattle.json_text.specs.Shown.{shown_byte, shown_bytes};
 
+use crate::plain::needs_no_escape;
 use crate::sink::{Refused, Sink};
 
 /// The text that a byte belongs to.
@@ -89,6 +90,17 @@ fn put_shown<S: Sink>(sink: &mut S, within: Within, byte: u8) -> Result<(), Refu
         (Within::Token, b'~') => sink.put(b"~0"),
         (Within::Token, b'/') => sink.put(b"~1"),
         _ => put_escape(sink, byte),
+    }
+}
+
+/// Puts the bytes of a text as a string holds them: mostly as they are.
+pub(crate) fn put_text<S: Sink>(sink: &mut S, bytes: &[u8]) -> Result<(), Refused>
+    ensures { OnOk result (S.puts sink.old (escape bytes.now) sink.new) }
+{
+    if needs_no_escape(bytes) {
+        sink.put(bytes)
+    } else {
+        put_escaped(sink, Within::Text, bytes)
     }
 }
 

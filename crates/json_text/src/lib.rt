@@ -8,7 +8,7 @@
 //! - `sink`: [`Sink`], which takes bytes: a `Vec`; `count`: one that counts them; `pieces`: one that writes them in
 //!   pieces from an array on the stack;
 //! - `source`: [`Source`], which gives bytes: how many they are, and how they are written;
-//! - `escape`: the texts of JSON strings;
+//! - `plain`: whether a text needs no escape; `escape`: the texts of JSON strings;
 //! - `tokens`: [`Tokens`], the tokens of a JSON text with the commas and colons between them, and a JSON pointer as a
 //!   string;
 //! - `tree`: the tree of a document.
@@ -17,6 +17,7 @@
 mod count;
 mod escape;
 mod pieces;
+mod plain;
 mod sink;
 mod source;
 mod tokens;

@@ -8,6 +8,9 @@ use crate::sink::{Refused, Sink};
 use std::alloc::{AllocError, Global};
 use std::io::Write;
 
+/// For how many bytes a vector has room at first.
+const ROOM: usize = 1_024;
+
 /// Gives bytes, the same each time.
 pub trait Source {
     /// The bytes that it gives.
@@ -48,16 +51,12 @@ pub fn write_from<W: Write, T: Source>(writer: &mut W, source: &T) -> Result<(),
     }
 }
 
-/// Returns the bytes of the source, in a vector of their number. Fails if memory runs out or a `usize` can't hold the
-/// number.
+/// Returns the bytes of the source. Fails if memory runs out or a `usize` can't hold their number.
 pub fn bytes_of<T: Source>(alloc: Global, source: &T) -> Result<Vec<u8>, AllocError>
     ensures { IfOk result (λ v. v.items ≡ T.bytes source.now) }
 {
-    // Two passes, one that counts and one that puts, so that the vector is allocated once.
-    let Some(length) = length_of(source) else {
-        return Err(AllocError);
-    };
-    match source.put_into(Vec::with_capacity(alloc, length)?) {
+    // The vector grows, since to count the bytes first takes longer than to copy them when it does.
+    match source.put_into(Vec::with_capacity(alloc, ROOM)?) {
         Ok(bytes) => Ok(bytes),
         Err(_) => Err(AllocError),
     }

@@ -1,13 +1,13 @@
 //! The tokens of a JSON text.
 ghost use Rattle.std.specs.Prelude.{◌≡◌, ◌∷◌, ◌++◌, [], true, false, OnOk, decimal};
 ghost use Rattle.json.specs.Token.{boolean};
-ghost use Rattle.json.specs.Print.{separator, token_text, quoted, ends};
+ghost use Rattle.json.specs.Print.{separator, token_text, quoted, escape, ends};
 ghost use Rattle.json.specs.Reads.{token_of};
 ghost use Rattle.serde_json.specs.Written.{comma_if};
 ghost use Rattle.iodef_tree.specs.Pointer.{pointer_text};
 ghost use Rattle.json_text.specs.Members.{member_text};
 
-use crate::escape::{Within, put_escaped};
+use crate::escape::{Within, put_escaped, put_text};
 use crate::sink::{Refused, Sink};
 use iodef_tree::Path;
 use json::Token;
@@ -34,26 +34,34 @@ impl<S: Sink> Tokens<S> {
         }
     }
 
-    /// Puts a comma if the last token ended a value.
-    fn separate(&mut self) -> Result<(), Refused>
-        ensures puts { OnOk result (S.puts self.old.sink (comma_if self.old.after_value)
-            self.new.sink) }
-    {
-        if self.after_value {
-            self.sink.put(b",")
-        } else {
-            self.sink.put(b"")
-        }
-    }
-
-    /// Puts a token that begins a value, or is one.
+    /// Puts a token that begins a value, or is one, behind a comma if the last token ended a value.
     fn begin(&mut self, text: &[u8], is_value: bool) -> Result<(), Refused>
         ensures puts { OnOk result (S.puts self.old.sink
             (comma_if self.old.after_value ++ text.now) self.new.sink) }
         ensures after { OnOk result (self.new.after_value ≡ is_value) }
     {
-        self.separate()?;
+        if self.after_value {
+            self.sink.put(b",")?;
+        }
         self.sink.put(text)?;
+        self.after_value = is_value;
+        Ok(())
+    }
+
+    /// The same in one text: `text` if no comma comes before the token, else `behind_comma`, which begins with it.
+    fn begin_at_once(
+        &mut self,
+        text: &[u8],
+        behind_comma: &[u8],
+        is_value: bool,
+    ) -> Result<(), Refused>
+        requires { behind_comma.now ≡ 44 ∷ text.now }
+        ensures puts { OnOk result (S.puts self.old.sink
+            (comma_if self.old.after_value ++ text.now) self.new.sink) }
+        ensures after { OnOk result (self.new.after_value ≡ is_value) }
+    {
+        let begun = if self.after_value { behind_comma } else { text };
+        self.sink.put(begun)?;
         self.after_value = is_value;
         Ok(())
     }
@@ -68,14 +76,22 @@ impl<S: Sink> Tokens<S> {
         Ok(())
     }
 
+    /// Puts a quotation mark and a text, which is still to be ended by a quotation mark.
+    fn open_quote(&mut self, text: &str) -> Result<(), Refused>
+        ensures { OnOk result (S.puts self.old.sink
+            (comma_if self.old.after_value ++ 34 ∷ escape text.now) self.new.sink) }
+    {
+        self.begin_at_once(b"\"", b",\"", true)?;
+        put_text(&mut self.sink, text.as_bytes())
+    }
+
     /// Puts a text in quotation marks.
     fn quote(&mut self, text: &str) -> Result<(), Refused>
         ensures puts { OnOk result (S.puts self.old.sink
             (comma_if self.old.after_value ++ quoted text.now) self.new.sink) }
         ensures after { OnOk result (self.new.after_value ≡ true) }
     {
-        self.begin(b"\"", true)?;
-        put_escaped(&mut self.sink, Within::Text, text.as_bytes())?;
+        self.open_quote(text)?;
         self.end(b"\"")
     }
 
@@ -85,8 +101,8 @@ impl<S: Sink> Tokens<S> {
             (comma_if self.old.after_value ++ (quoted name.now ++ 58 ∷ [])) self.new.sink) }
         ensures after { OnOk result (self.new.after_value ≡ false) }
     {
-        self.quote(name)?;
-        self.sink.put(b":")?;
+        self.open_quote(name)?;
+        self.sink.put(b"\":")?;
         self.after_value = false;
         Ok(())
     }
@@ -99,9 +115,9 @@ impl<S: Sink> Tokens<S> {
         ensures after { OnOk result (self.new.after_value ≡ ends (token_of token.entry)) }
     {
         match token {
-            Token::BeginObject => self.begin(b"{", false),
+            Token::BeginObject => self.begin_at_once(b"{", b",{", false),
             Token::EndObject => self.end(b"}"),
-            Token::BeginArray => self.begin(b"[", false),
+            Token::BeginArray => self.begin_at_once(b"[", b",[", false),
             Token::EndArray => self.end(b"]"),
             Token::Key(name) => self.name(name),
             Token::String(text) => self.quote(text),
@@ -159,7 +175,7 @@ impl<S: Sink> Tokens<S> {
             (comma_if self.old.after_value ++ quoted (pointer_text path.now)) self.new.sink) }
         ensures after { OnOk result (self.new.after_value ≡ true) }
     {
-        self.begin(b"\"", true)?;
+        self.begin_at_once(b"\"", b",\"", true)?;
         for token in path.tokens() {
             self.sink.put(b"/")?;
             put_escaped(&mut self.sink, Within::Token, token.as_str().as_bytes())?;

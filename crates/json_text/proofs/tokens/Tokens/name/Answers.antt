@@ -1,4 +1,3 @@
-use Rattle.json.specs.Print.{quoted}
 use Rattle.serde_json.specs.Written.{comma_if}
 use Rattle.json_text.proofs.Puts.{both-are}
 use Rattle.json_text.proofs.Texts.{name-is}
@@ -6,5 +5,5 @@ use Rattle.json_text.proofs.tokens.Tokens.name.Goals as goal
 
 pub returns-clause-puts : goal.returns-clause-puts
 returns-clause-puts g c =
-    both-are g.S.Sink.puts g.met.S.Sink.joins _ _ _ _ _ _ (name-is (comma_if c.args.self.now.after_value) (quoted c.args.name.now))
-    c.in_ok-quote.ensures.puts c.in_ok-put.ensures
+    both-are g.S.Sink.puts g.met.S.Sink.joins _ _ _ _ _ _ (name-is (comma_if c.args.self.now.after_value) c.args.name.now)
+    c.in_ok-open_quote.ensures c.in_ok-put.ensures

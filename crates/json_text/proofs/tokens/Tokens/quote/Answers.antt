@@ -5,5 +5,5 @@ use Rattle.json_text.proofs.tokens.Tokens.quote.Goals as goal
 
 pub returns-clause-puts : goal.returns-clause-puts
 returns-clause-puts g c =
-    ok-both-are g.S.Sink.puts g.met.S.Sink.joins _ _ _ _ _ _ c.end.result (quoted-is (comma_if c.args.self.now.after_value) c.args.text.now c.as_bytes.result.now c.as_bytes.ensures.value)
-    (g.met.S.Sink.joins _ _ _ _ _ c.in_ok-begin.ensures.puts c.in_ok-put_escaped.ensures) c.end.ensures.puts
+    ok-both-are g.S.Sink.puts g.met.S.Sink.joins _ _ _ _ _ _ c.end.result (quoted-is (comma_if c.args.self.now.after_value) c.args.text.now)
+    c.in_ok-open_quote.ensures c.end.ensures.puts
