@@ -10,7 +10,9 @@ use Rattle.iodef_tree.specs.declared.line.Kind.{Kind}
 use Rattle.iodef_tree.specs.declared.line.Kind.TheVariants as kind
 use Rattle.iodef_tree.proofs.Order.{same_path-true}
 use Rattle.redact.specs.Kept.{Verdicts, is_frame, is_wholly_hidden, is_visible_class, is_kept, put_all, attribute_lines, added_label_lines, with_added_labels, kept_lines}
-use Rattle.redact.specs.Withheld.{class_places, place_by, told_at_place, withheld_at, withheld_pairs}
+use Rattle.redact.specs.Withheld.{told_at_place, withheld_at, withheld_pairs}
+use Rattle.redact.specs.inner.Paired.{class_places, place_by}
+use Rattle.redact.proofs.Paired.{pairs-paired}
 use Rattle.redact.specs.Told.{is_text_kind, has_needle, is_named, is_hit}
 use Rattle.redact.specs.Alike.{class_path, by_class}
 use Rattle.redact.proofs.Filtered.{each, each-from}
@@ -281,9 +283,11 @@ module _ (w : Worlds) (all : (p : Tokens) → w.off p ≡ true) (plain : (e : Lo
   pub pairs-same : withheld_pairs w.v w.es ≡ withheld_pairs w.v' w.es'
   pairs-same =
       let at = place_by (class_places w.v' w.es') in
-      ap (λ ps. flat_map (withheld_at w.v (place_by ps)) w.es) places-same
+      pairs-paired w.v w.es
+      ∙ ap (λ ps. flat_map (withheld_at w.v (place_by ps)) w.es) places-same
       ∙ same_flat (withheld_at w.v at) (withheld_at w.v' at) w.keep w.es w.es' w.lines
       (each (λ e. w.keep e ≡ false → withheld_at w.v at e ≡ []) (λ e k. cond-true (not (is_class e)) _ _ (ap not (plain e k))) w.es)
       (each (λ e. w.keep e ≡ false → withheld_at w.v' at e ≡ []) (λ e k. cond-true (not (is_class e)) _ _ (ap not (plain e k))) w.es')
       (withheld-class w.v' at)
       (each (λ e. w.keep e ≡ true → withheld_at w.v at e ≡ withheld_at w.v' at e) (λ e k. told-same at e) w.es)
+      ∙ sym (pairs-paired w.v' w.es')

@@ -1,4 +1,5 @@
 pub mod Keeping
+pub mod Paired
 pub mod Places
 pub mod Withheld
 pub mod Counts

@@ -16,7 +16,9 @@ use Rattle.policy.specs.declared.standing.Standing.{Standing}
 use Rattle.policy.specs.declared.case.Case.{Case}
 use Rattle.policy.specs.declared.rule.Rule.{Rule}
 use Rattle.redact.specs.Kept.{Verdicts, is_frame, is_wholly_hidden, is_kept, kept_lines}
-use Rattle.redact.specs.Withheld.{class_places, place_by, told_at_place, withheld_at, withheld_pairs, withheld_in_order}
+use Rattle.redact.specs.Withheld.{told_at_place, withheld_at, withheld_pairs, withheld_in_order}
+use Rattle.redact.specs.inner.Paired.{class_places, place_by}
+use Rattle.redact.proofs.Paired.{pairs-paired}
 use Rattle.redact.specs.Told.{Told, some_seen, verdicts_of, excerpt_of}
 use Rattle.redact.specs.Alike.{class_path, by_class}
 use Rattle.redact.specs.Matters.{is_refused, matters, lines_that_matter}
@@ -236,11 +238,13 @@ module _ (ls : List Line) (c : Case) (s : Standing) where
   pairs-same : withheld_pairs v es ≡ withheld_pairs v' es'
   pairs-same =
       let at = place_by (class_places v' es') in
-      ap (λ ps. flat_map (withheld_at v (place_by ps)) es) places-same
+      pairs-paired v es
+      ∙ ap (λ ps. flat_map (withheld_at v (place_by ps)) es) places-same
       ∙ sym (flat-kept (withheld_at v at) (matters c s) es
       (each-from (λ e. is_under e.parent e.path ≡ true) (λ e. matters c s e ≡ false → withheld_at v at e ≡ []) (none-told at) es (below-parents ls)))
       ∙ flat-agree (withheld_at v at) (withheld_at v' at) (matters c s) es
       (each (λ e. matters c s e ≡ true → withheld_at v at e ≡ withheld_at v' at e) (λ e k. told-same at e) es)
+      ∙ sym (pairs-paired v' es')
 
   lines-told : told_of_lines es c s ≡ told_of_lines es' c s
   lines-told =

@@ -11,13 +11,15 @@ use Rattle.marking.specs.Marks.{label_at}
 use Rattle.policy.specs.Verdict.{is_visible}
 use Rattle.policy.specs.declared.standing.Standing.{Standing}
 use Rattle.policy.specs.declared.case.Case.{Case}
-use Rattle.redact.specs.Withheld.{class_places, place_by}
+use Rattle.redact.specs.Withheld.{place_of}
+use Rattle.redact.specs.inner.Paired.{place_by}
 use Rattle.redact.specs.Told.{verdicts_of, is_seen_class, excerpt_place}
 use Rattle.redact.specs.Excerpts.{LabelsSurvive}
 use Rattle.redact.specs.Matters.{is_refused, matters, lines_that_matter}
 use Rattle.redact.proofs.InOrder.{In, in_contained, contains_in}
 use Rattle.redact.proofs.DecidedAlike.{label-same, under-prefix}
 use Rattle.redact.proofs.Refused.{passed-above, refused-unseen}
+use Rattle.redact.proofs.Paired.{places-paired}
 use Rattle.redact.proofs.Matters.{es', agree, decides, off, places-same, same_located}
 
 in-filter : {X : Type 0} (f : X → Bool) (xs : List X) (x : X) → f x ≡ true → In xs x → In (filter f xs) x
@@ -59,7 +61,11 @@ module _ (ls : List Line) (c : Case) (s : Standing) (excerpt : List Line) (h : L
         (sym ((agree ls c s).visible e.path (ap not passed)) ∙ sees)
 
     place : excerpt_place ls c s e.path ≡ excerpt_place (lines_that_matter c s ls) c s e.path
-    place = ap (λ ps. place_by ps e.path) (places-same ls c s) ∙ sym (ap (λ xs. place_by (class_places (verdicts_of xs c s) xs) e.path) (same_located ls c s))
+    place =
+        places-paired (verdicts_of (located ls) c s) (located ls) e.path
+        ∙ ap (λ ps. place_by ps e.path) (places-same ls c s)
+        ∙ sym (places-paired (verdicts_of (es' ls c s) c s) (es' ls c s) e.path)
+        ∙ sym (ap (λ xs. place_of (verdicts_of xs c s) xs e.path) (same_located ls c s))
 
     label : label_at (located ls) e.path ≡ label_at (located (lines_that_matter c s ls)) e.path
     label = label-same (off ls c s) (located ls) (es' ls c s) (decides ls c s).reads e.path (ap not passed) ∙ sym (ap (λ xs. label_at xs e.path) (same_located ls c s))

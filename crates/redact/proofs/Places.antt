@@ -15,7 +15,7 @@ use Rattle.iodef_tree.proofs.Siblings.{all-append}
 use Rattle.iodef_tree.proofs.Located.{located-lines}
 use Rattle.iodef_tree.proofs.Distinct.{paths-distinct, distinct-filter}
 use Rattle.redact.specs.Kept.{Attribute, Verdicts, is_kept, kept_lines}
-use Rattle.redact.specs.Withheld.{beside, class_places, place_by}
+use Rattle.redact.specs.inner.Paired.{beside, class_places, place_by}
 use Rattle.redact.specs.inner.Judged.{Judged, none, plain, class, judge, Surrounding, root, inside, keeps_plain, shows_label, home_at, left_before, new_place, left_with, moved, is_end, put_leaf, attribute_leaf, put_attributes, with_label, cut, places}
 use Rattle.marking.proofs.Bad.{no_class-kind, class_paths-leaf, class_paths-append}
 use Rattle.marking.proofs.Marked.{not_root}

@@ -18,7 +18,9 @@ use Rattle.std.proofs.lemmas.List.Elements.{Contains-append_left, Contains-appen
 use Rattle.policy.specs.declared.rule.Rule.{Rule}
 use Rattle.policy.specs.declared.verdict.Verdict.TheVariants.{Shown, Hidden}
 use Rattle.policy.specs.Verdict.{is_visible}
-use Rattle.redact.specs.Withheld.{Withheld, withheld_at, withheld_pairs, beside, class_places, place_by}
+use Rattle.redact.specs.Withheld.{Withheld, withheld_at, withheld_pairs, place_of}
+use Rattle.redact.specs.inner.Paired.{beside, class_places}
+use Rattle.redact.proofs.Paired.{places-paired}
 use Rattle.redact.proofs.InOrder.{order-lists}
 use Rattle.redact.specs.Laws.{is_shown, VerdictIsServed}
 
@@ -139,7 +141,7 @@ place-some : (root : Bool) (ps : List (Tokens × Tokens)) (p : Tokens) → is_so
 place-some true ps p h = refl
 place-some false ps p h = h
 
-kept-placed : (v : Verdicts) (es : List LocatedLine) (e : LocatedLine) → Contains es e → is_class e ≡ true → is_kept v e ≡ true → is_some (place_by (class_places v es) e.path) ≡ true
+kept-placed : (v : Verdicts) (es : List LocatedLine) (e : LocatedLine) → Contains es e → is_class e ≡ true → is_kept v e ≡ true → is_some (place_of v es e.path) ≡ true
 kept-placed v es e here class keeps =
     let F : List LocatedLine = filter is_class (filter (is_kept v) es) in
     let L : List LocatedLine = filter is_class (located (kept_lines v es)) in
@@ -151,7 +153,8 @@ kept-placed v es e here class keeps =
     ∙ sym (length-map L (λ (x : LocatedLine). x.path)) in
     let own : is_kept_at v e.path e ≡ true = rw (keeps, class, same_path-refl e.path) refl in
     let found : list_any (is_kept_at v e.path) es ≡ true = list_any_at (is_kept_at v e.path) es here.0 e here.1 (ap (is_kept_at v e.path) here.2 ∙ own) in
-    place-some (is_root e.path) (class_places v es) e.path
+    ap is_some (places-paired v es e.path)
+    ∙ place-some (is_root e.path) (class_places v es) e.path
     (beside-some (class_paths (filter (is_kept v) es)) (classes_of (kept_lines v es)) e.path size (kept-among v e.path es found))
 
 -- ---- a verdict agrees with what is served
@@ -223,5 +226,5 @@ verdicts-served ls c s e here class =
     told None is frame some = absurd (false≢true some)
     told (Some q) is frame some =
         let v = verdicts_of (located ls) c s in
-        let place = place_by (class_places v (located ls)) in
+        let place = place_of v (located ls) in
         (order-lists (withheld_pairs v (located ls))).complete _ (among (withheld_at v place) (located ls) e _ here (told_frame v place e q class frame is))

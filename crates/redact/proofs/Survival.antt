@@ -31,7 +31,9 @@ use Rattle.policy.specs.declared.standing.Standing.{Standing}
 use Rattle.policy.specs.declared.case.Case.{Case}
 use Rattle.redact.specs.Kept.{Attribute, Verdicts, is_kept}
 use Rattle.redact.specs.inner.Judged.{judge, Surrounding, root, inside, keeps_plain, shows_label, left_before, new_place, left_with, moved, is_end, put_leaf, attribute_leaf, put_attributes, cut, places}
-use Rattle.redact.specs.Withheld.{class_places, place_by}
+use Rattle.redact.specs.Withheld.{place_of}
+use Rattle.redact.specs.inner.Paired.{class_places, place_by}
+use Rattle.redact.proofs.Paired.{places-paired}
 use Rattle.redact.specs.Told.{verdicts_of, kept_outline}
 use Rattle.redact.specs.Excerpts.{LabelsSurvive}
 use Rattle.redact.proofs.Fates.{by_fates, put-keeps}
@@ -206,12 +208,12 @@ module _ (f : Forest) (c : Case) (s : Standing) (sound : IsSound f) (ok : first_
 
   -- the label of the class holds at its place
   abbrev HasLabel : Tokens → Type 0
-  HasLabel p = option_map (label_at es') (place_by (class_places verdicts es) p) ≡ Some (label_at es p)
+  HasLabel p = option_map (label_at es') (place_of verdicts es p) ≡ Some (label_at es p)
 
   labels-placed : (xs : List (Tokens × Tokens)) → AllByRecursion (λ x. place_by (class_places verdicts es) x.0 ≡ Some x.1) xs → AllByRecursion (Survives es es' c s) xs →
       AllByRecursion (λ p. verdicts.visible p ≡ true → HasLabel p) (map (λ x. x.0) xs)
   labels-placed [] there h = tt
-  labels-placed (x ∷ xs) there h = ((λ seen. ap (option_map (label_at es')) there.0 ∙ ap Some (h.0.1 seen)), labels-placed xs there.1 h.1)
+  labels-placed (x ∷ xs) there h = ((λ seen. ap (option_map (label_at es')) (places-paired verdicts es x.0 ∙ there.0) ∙ ap Some (h.0.1 seen)), labels-placed xs there.1 h.1)
 
   pub labels-survive : LabelsSurvive (lines 1 f) c s (kept_outline (lines 1 f) c s)
   labels-survive =

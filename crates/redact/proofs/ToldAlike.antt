@@ -200,13 +200,13 @@ module _ (s : Standing) (a b : Report) (da : IsMarked a.lines) (db : IsMarked b.
     off-up r x k below = ap not (false_from_ne_true (is_prefix p r) (λ t. false≢true (sym (not-true (is_prefix p x) k) ∙ prefix-trans p r x t below)))
 
     off-classes : (q : Tokens) → off q ≡ true → has_class es q ≡ has_class es' q
-    off-classes q k = classes-same keep_apart es es' q h.others (λ e gone. false_from_ne_true (is_class e && same_path e.path q) (λ t.
+    off-classes q k = classes-same keep_apart es es' q h.others.lines (λ e gone. false_from_ne_true (is_class e && same_path e.path q) (λ t.
         let parts = and_parts (is_class e) (same_path e.path q) t in
         let here : class_path e ≡ q = cond-true (is_class e) e.path e.parent parts.0 ∙ same_path-true e.path q parts.1 in
         false≢true (sym (not-true (is_prefix p q) k) ∙ ap (is_prefix p) (sym here) ∙ not-false (is_within p e) gone)))
 
     off-written : (q : Tokens) → off q ≡ true → written_label es q ≡ written_label es' q
-    off-written q k = labels-stay a.lines b.lines p q da.document db.document da.marked db.marked h.others (not-true (is_prefix p q) k)
+    off-written q k = labels-stay a.lines b.lines p q da.document db.document da.marked db.marked h.others.lines (not-true (is_prefix p q) k)
 
     off-refused : (q : Tokens) → off q ≡ true → refusals_at a.case s q ≡ refusals_at b.case s q
     off-refused q k =
@@ -214,7 +214,7 @@ module _ (s : Standing) (a b : Report) (da : IsMarked a.lines) (db : IsMarked b.
         false_from_ne_true (same_path g.path q) (λ t. false≢true (sym (not-true (is_prefix p q) k) ∙ ap (is_prefix p) (sym (same_path-true g.path q t)) ∙ not-false (is_prefix p g.path) gone)) in
         let f : Gate → Bool = λ g. same_path g.path q in
         let o : Gate → Bool = λ g. not (is_prefix p g.path) in
-        ap (filter_map (refusal_of_gate s)) (filter-within f o a.case.gates no ∙ ap (filter f) h.gates ∙ sym (filter-within f o b.case.gates no))
+        ap (filter_map (refusal_of_gate s)) (filter-within f o a.case.gates no ∙ ap (filter f) h.others.gates ∙ sym (filter-within f o b.case.gates no))
 
     off-granted : (xs : List LocatedLine) (x : Tokens) → off x ≡ true → is_covered xs a.case s x ≡ is_covered xs b.case s x
     off-granted xs x k =
@@ -225,7 +225,7 @@ module _ (s : Standing) (a b : Report) (da : IsMarked a.lines) (db : IsMarked b.
         false≢true (sym (not-true (is_prefix p x) k) ∙ prefix-trans p g.path x (not-false (is_prefix p g.path) gone) two.0)) in
         let o : Permission → Bool = λ g. not (is_prefix p g.path) in
         any-kept (covers xs s x) o a.case.permissions no
-        ∙ ap (list_any (covers xs s x)) h.permissions
+        ∙ ap (list_any (covers xs s x)) h.others.permissions
         ∙ sym (any-kept (covers xs s x) o b.case.permissions no)
 
     hidden_decides : Decides off s es es' a.case b.case
@@ -302,7 +302,7 @@ module _ (s : Standing) (a b : Report) (da : IsMarked a.lines) (db : IsMarked b.
         by_kind false u = refl
 
     hidden_agree : Agree off v v'
-    hidden_agree = verdicts-agree off s keep_apart es es' a.case b.case h.others hidden_decides
+    hidden_agree = verdicts-agree off s keep_apart es es' a.case b.case h.others.lines hidden_decides
         (each (λ e. keep_apart e ≡ true → off (class_path e) ≡ true) (λ e k. k) es)
         (each-from (λ e. (is_within p e && is_visible es a.case s (class_path e)) ≡ false) (λ e. keep_apart e ≡ false → (is_class e && is_visible es a.case s e.path) ≡ false)
         (class-unseen (is_visible es a.case s)) es unseen-first)
@@ -349,7 +349,7 @@ module _ (s : Standing) (a b : Report) (da : IsMarked a.lines) (db : IsMarked b.
       es = es;
       es' = es';
       agree = hidden_agree;
-      lines = h.others;
+      lines = h.others.lines;
       places = each-from (λ e. is_under e.parent e.path ≡ true) (λ e. keep_apart e ≡ true → (off (class_path e) ≡ true) × (off e.parent ≡ true)) off-parent es (below-parents a.lines);
       gone = each-from (λ e. (is_within p e && is_visible es a.case s (class_path e)) ≡ false) (λ e. keep_apart e ≡ false → is_kept v e ≡ false)
           (hidden-gone v (none-below (is_visible es a.case s) es unseen-first)) es unseen-first;

@@ -19,7 +19,9 @@ use Rattle.policy.proofs.Steps.{enter_class-at, enter_array-at, at_root-is}
 use Rattle.policy.specs.declared.standing.Standing.{Standing}
 use Rattle.policy.specs.declared.case.Case.{Case}
 use Rattle.redact.specs.Kept.{Verdicts, kept_lines}
-use Rattle.redact.specs.Withheld.{Withheld, is_among, place_by, class_places, withheld_pairs, withheld_in_order}
+use Rattle.redact.specs.Withheld.{Withheld, is_among, withheld_pairs, withheld_in_order}
+use Rattle.redact.specs.inner.Paired.{place_by, class_places}
+use Rattle.redact.proofs.Paired.{pairs-paired}
 use Rattle.redact.specs.inner.Judged.{Judged, plain, judge, root, cut, visible_classes, withheld_below}
 use Rattle.redact.specs.Told.{verdicts_of, kept_outline, withheld_of, visible_count}
 use Rattle.redact.specs.inner.Pass.{enter, pass}
@@ -117,6 +119,7 @@ module _ (f : Forest) (c : Case) (s : Standing) (sound : IsSound f) (ok : first_
         let all : List Withheld = withheld_pairs v es in
         let pairs : all ≡ withheld_below root [] 0 (judge v [] f) =
         ap (withheld_pairs v) (located-lines f sound)
+        ∙ pairs-paired v (walk 1 [] f)
         ∙ withheld-walk v (place_by (class_places v (walk 1 [] f))) f 1 [] [] 0 says (placed v f sound says left-sound) refl refl in
         let same : withheld_below root q 0 j ≡ all = cc (at, judged-is, pairs) in
         same_in_order ws all (λ x. ap (λ (among : Withheld → Bool). among x) (ap is_among (sym (append-nil ws)) ∙ told_all ∙ ap is_among same))

@@ -50,6 +50,13 @@ gates_but p gates = filter (λ g. not (is_prefix p g.path)) gates
 abbrev pub permissions_but : Tokens → List Permission → List Permission
 permissions_but p permissions = filter (λ x. not (is_prefix p x.path)) permissions
 
+-- The reports are equal but for the lines, gates and permissions at p and below it.
+pub record IsEqualBut (p : Tokens) (a b : Report) : Type 0 where
+  pub lines : lines_but (is_within p) a.lines ≡ lines_but (is_within p) b.lines
+  pub source : a.case.source ≡ b.case.source
+  pub gates : gates_but p a.case.gates ≡ gates_but p b.case.gates
+  pub permissions : permissions_but p a.case.permissions ≡ permissions_but p b.case.permissions
+
 -- ---- what a reader is served
 
 module _ (s : Standing) where
@@ -80,17 +87,13 @@ module _ (s : Standing) where
   abbrev pub is_hidden_from : Tokens → Report → Bool
   is_hidden_from p a = not (some_seen (sees a) (filter (λ e. is_prefix p e.path) (located a.lines)))
 
-  -- The lines of a wholly hidden class and of all below it are put in, taken out or exchanged, with the gates and the
-  -- permissions there. The paths of all other classes stay. The list of what is withheld is the same: that is a
-  -- condition of this step, not a result.
+  -- The reports are equal but for what is at p and below it, where a class is wholly hidden in both. The list of what
+  -- is withheld is the same: that is a condition of this step, not a result.
   pub record HasOtherHiddenClass (p : Tokens) (a b : Report) : Type 0 where
     pub below_root : is_root p ≡ false
     pub first : is_hidden_from p a ≡ true
     pub second : is_hidden_from p b ≡ true
-    pub others : lines_but (is_within p) a.lines ≡ lines_but (is_within p) b.lines
-    pub source : a.case.source ≡ b.case.source
-    pub gates : gates_but p a.case.gates ≡ gates_but p b.case.gates
-    pub permissions : permissions_but p a.case.permissions ≡ permissions_but p b.case.permissions
+    pub others : IsEqualBut p a b
     pub withheld : withheld_of a.lines a.case s ≡ withheld_of b.lines b.case s
 
   -- other permissions that don't hold for the reader: their grantees don't include it, or they have ended

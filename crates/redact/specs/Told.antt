@@ -13,7 +13,7 @@ use Rattle.policy.specs.Verdict.{is_visible, hiding_rule}
 use Rattle.policy.specs.declared.standing.Standing.{Standing}
 use Rattle.policy.specs.declared.case.Case.{Case}
 use Rattle.redact.specs.Kept.{Attribute, Verdicts, kept_lines}
-use Rattle.redact.specs.Withheld.{Withheld, class_places, place_by, withheld_pairs, withheld_in_order}
+use Rattle.redact.specs.Withheld.{Withheld, place_of, withheld_pairs, withheld_in_order}
 
 -- the value of `ext-restriction`, for an extended label (RFC 7970 section 5.1.1)
 abbrev pub ext_restriction_of : LabelValue → Option Bytes
@@ -98,7 +98,7 @@ module _ (ls : List Line) (c : Case) (s : Standing) where
 
   -- the place in the excerpt of the class at a path; none if it isn't kept
   abbrev pub excerpt_place : Tokens → Option Tokens
-  excerpt_place = place_by (class_places (verdicts_of (located ls) c s) (located ls))
+  excerpt_place = place_of (verdicts_of (located ls) c s) (located ls)
 
   -- how many classes are visible
   abbrev pub visible_count : ℕ

@@ -1,6 +1,6 @@
 -- What is withheld: the places in the excerpt, and the rules.
-use Rattle.std.specs.Prelude.{Bool, ◌&&◌, not, List, [], ◌∷◌, ◌++◌, Option, Some, None, filter, map, if◌then◌else◌, Contains}
-use Rattle.std.specs.List.{flat_map, list_any, zip}
+use Rattle.std.specs.Prelude.{Bool, ◌&&◌, not, List, [], ◌∷◌, ◌++◌, Option, Some, None, option_and_then, slice_get, filter, position, map, if◌then◌else◌, Contains}
+use Rattle.std.specs.List.{flat_map, list_any}
 use Rattle.std.specs.List.Sorted.{IsStrictlySortedBy}
 use Rattle.std.specs.declared.cmp.Ordering.{Ordering}
 use Rattle.std.specs.declared.cmp.Ordering.TheVariants.{Less, Equal, Greater}
@@ -18,20 +18,17 @@ use Rattle.redact.specs.Kept.{Verdicts, is_frame, is_wholly_hidden, is_kept, kep
 abbrev pub Withheld : Type 0
 Withheld = Tokens × Rule
 
--- the second path of the first pair that has this path as its first, if there is one
-abbrev pub beside : List (Tokens × Tokens) → Tokens → Option Tokens
-beside [] p = None
-beside (x ∷ xs) p = if same_path x.0 p then Some x.1 else beside xs p
-
 module _ (v : Verdicts) where
-  -- The paths of the kept classes, each with the path of its line in the kept outline: that has a line for each of
-  -- them, in the same order. The path of no plain line is used.
-  abbrev pub class_places : List LocatedLine → List (Tokens × Tokens)
-  class_places es = zip (class_paths (filter (is_kept v) es)) (classes_of (kept_lines v es))
+  -- the paths of the kept classes, in stored order
+  abbrev pub kept_classes : List LocatedLine → List Tokens
+  kept_classes es = class_paths (filter (is_kept v) es)
 
--- The place of a class in the excerpt. The root's is the root's path, and a class that isn't kept has none.
-abbrev pub place_by : List (Tokens × Tokens) → Tokens → Option Tokens
-place_by ps p = if is_root p then Some [] else beside ps p
+  -- The place of a class in the excerpt: the path of the kept outline's n-th class, where n kept classes are before it.
+  -- The root's is the root's path, and a class that isn't kept has none.
+  abbrev pub place_of : List LocatedLine → Tokens → Option Tokens
+  place_of es p =
+      if is_root p then Some []
+      else option_and_then (slice_get (classes_of (kept_lines v es))) (position (λ q. same_path q p) (kept_classes es))
 
 -- a rule at a place; nothing if there is no place
 abbrev pub told_at_place : Option Tokens → Rule → List Withheld
@@ -55,7 +52,7 @@ module _ (v : Verdicts) (place : Tokens → Option Tokens) where
 
 -- all that is withheld, in stored order and with repeats
 abbrev pub withheld_pairs : Verdicts → List LocatedLine → List Withheld
-withheld_pairs v es = withheld_among v (place_by (class_places v es)) es
+withheld_pairs v es = withheld_among v (place_of v es) es
 
 -- the order of the list: by the bytes of the place's JSON pointer, then by those of the rule's name
 abbrev pub withheld_cmp : Withheld → Withheld → Ordering

@@ -1,6 +1,7 @@
 pub mod Here
 pub mod Judged
 pub mod Left
+pub mod Paired
 pub mod Pass
 pub mod Saying
 pub mod Search

@@ -19,6 +19,7 @@
 //! - [`laws`]: what excerpts and searches promise; [`examples`], the definitions computed on small reports.
 #![tactic(auto)]
 
+mod agreements;
 mod attributes;
 mod class_permissions;
 mod document_excerpt;
