@@ -15,7 +15,7 @@ use Rattle.circle.specs.declared.command.CircleCommand.{CircleCommand}
 use Rattle.circle.specs.declared.command.CircleCommand.TheVariants.{AddOrg, AddPerson, SuspendPerson, AddClient, RemoveClient, AddCommunity, Join, Leave, Link, Unlink, NewGroup, GroupAdd, GroupRemove, GroupActive, Arrange, CancelArrange, Nominate, Unnominate, NewKey}
 use Rattle.hub_state.specs.declared.TheConstants.{REVISION_LIMIT}
 use Rattle.hub_core.specs.Documents.{Lines, documents_in, made_at}
-use Rattle.hub_core.specs.State.{State}
+use Rattle.hub_core.specs.State.{State, incident_of}
 use Rattle.hub_core.specs.Aftermath.{next_incident, put_gate, put_incident, put_incidents, edits_of, edits_by}
 use Rattle.hub_core.specs.Facts.{facts_of}
 use Rattle.hub_core.specs.Requests.{looked_up, incident_facts, known_of, incident_asked}
@@ -27,9 +27,10 @@ use Rattle.hub_core.proofs.Agrees.{same_edits}
 use Rattle.hub_state.specs.declared.edit.Edit.{Edit}
 use Rattle.hub_state.specs.declared.edit.Edit.TheVariants.{Directory as Row}
 use Rattle.hub_state.specs.declared.facts.Facts.{Facts}
+use Rattle.hub_state.specs.declared.facts.IncidentFacts.{IncidentFacts}
 use Rattle.hub_state.specs.declared.state.Incident.{Incident}
 use Rattle.hub_state.specs.declared.reply.Reply.{Reply}
-use Rattle.hub_state.specs.declared.reply.Reply.TheVariants.{Numbers}
+use Rattle.hub_state.specs.declared.reply.Reply.TheVariants.{Numbers, Revision}
 use Rattle.hub_state.specs.declared.request.Distribution.{Distribution}
 use Rattle.hub_state.specs.declared.request.WantedGate.{WantedGate}
 use Rattle.hub_state.specs.declared.request.Request.{Request}
@@ -94,12 +95,17 @@ revision_fits s a r sound = small (looked_up s (incident_asked r)) (there (incid
     small None h = omega arith
     small (Some i) h = let low = h i refl in omega (arith, low)
 
+-- the revision that the facts tell is that of the row
+told_revision : (o : Option Incident) → option_map_or (λ (k : IncidentFacts). k.revision) (option_map incident_facts o) 0 ≡ option_map_or (λ (i : Incident). i.naming.revision) o 0
+told_revision None = refl
+told_revision (Some i) = refl
+
 -- ---- the reply
 
 pub reply_is : (s : State) (now : ℤ) (a : Person) (r : Request) → is_reading r ≡ false → made_reply (facts_of s a r) r (edits_of s a r) ≡ answer_to s now a r
 reply_is s now a (ask.Circle command) h = circle_numbers s.directory a (facts_of s a (ask.Circle command)) command
 reply_is s now a (ask.Post r) h = ap Numbers (numbers_of a.org (next_incident s) r.distribution (documents_in r.document))
-reply_is s now a (ask.Replace r) h = refl
+reply_is s now a (ask.Replace r) h = ap (λ n. Revision (n + 1)) (told_revision (incident_of r.incident s))
 reply_is s now a (ask.Redistribute r) h = refl
 reply_is s now a (ask.Address r) h = refl
 reply_is s now a (ask.Unaddress r) h = refl

@@ -1,9 +1,11 @@
 -- Several reads, one after another, and what they leave.
-use Rattle.std.proofs.Common.{◌≡◌, ℕ, arith}
-use Rattle.std.specs.Prelude.{Option, Result}
+use Rattle.std.proofs.Common.{◌≡◌, ◌<◌, ◌≤◌, inl, inr, ℕ, Result, Ok, Err, sym, arith}
+use Rattle.std.specs.Prelude.{Option}
+use Rattle.std.proofs.Math.Nat.{eq-or-lt_of_le}
 use Rattle.hub_core.specs.State.{State}
 use Rattle.hub_core.specs.Shelves.{IsRead}
 use Rattle.hub_state.specs.declared.shelf.ShelfFault.{ShelfFault}
+use Rattle.hub_state.specs.declared.shelf.ShelfFault.TheVariants.{Failed}
 use Rattle.hub_core.specs.Shelves.{IsKept}
 
 pub kept_on : {D : Type 0} {has : D → State → Type 0} {doubts failed : D → ℕ} {may_remain : D → Option State → Type 0} {old mid new : D} →
@@ -14,6 +16,10 @@ kept_on {doubts = doubts} {old = old} {mid = mid} {new = new} first then = recor
   content = λ clean s has. let before : doubts mid ≡ 0 = omega (arith, then.doubt) in then.content clean s (first.content before s has);
   crash = λ clean left leaves. let before : doubts mid ≡ 0 = omega (arith, then.doubt) in first.crash before left (then.crash clean left leaves);
 }
+
+-- a call that succeeded counted no failure
+pub uncounted : {T : Type 0} {before now : ℕ} {x : T} → before ≤ now → (before < now → (λ (result : Result T ShelfFault). result ≡ Err Failed) (Ok x)) → now ≡ before
+uncounted later counted = elim (eq-or-lt_of_le later) [ inl same ↦ sym same | inr rose ↦ let failed = counted rose in absurd cc ]
 
 -- one call more
 pub kept_read : {D T : Type 0} {has : D → State → Type 0} {doubts failed : D → ℕ} {may_remain : D → Option State → Type 0} {old new : D} {result : Result T ShelfFault} →

@@ -354,6 +354,11 @@ pub given_up : (fault : ShelfFault) (reply : Reply) → reply ≡ Refused (bare 
 given_up NoMemory reply is = inr is
 given_up Failed reply is = inl is
 
+-- the reply says that the store failed if it did
+pub told_failed : (fault : ShelfFault) (result : Result Reply ShelfFault) → result ≡ Err fault → result ≡ Err Failed → Refused (bare (code_told fault)) ≡ Refused (bare F1)
+told_failed NoMemory result is failed = absurd cc
+told_failed Failed result is failed = refl
+
 -- the reply says that the store failed only if it did
 pub failure_told : (cause : Type 0) (fault : ShelfFault) → (Failed ≡ fault → cause) → Refused (bare (code_told fault)) ≡ Refused (bare F1) → cause
 failure_told cause NoMemory had is = absurd (memory_tells is)

@@ -1,5 +1,5 @@
 -- What requests answered one by one leave of a shelf.
-use Rattle.std.specs.Prelude.{◌≡◌, ◌⊎◌, ◌≤◌, ◌↔◌, ℕ, false, List, [], ◌∷◌, Option, Some, IsTrue}
+use Rattle.std.specs.Prelude.{◌≡◌, ◌⊎◌, ◌<◌, ◌≤◌, ◌↔◌, ℕ, false, List, [], ◌∷◌, Option, Some, IsTrue}
 use Rattle.circle.specs.Outcomes.{bare}
 use Rattle.circle.specs.declared.refusal.Code.TheVariants.{F1}
 use Rattle.hub_core.specs.State.{State}
@@ -21,6 +21,8 @@ module _ {D : Type 0} (has : D → State → Type 0) (doubts failed : D → ℕ)
     -- the reply says that the store failed only if a failure was counted in this step
     pub cause : doubts new ≡ 0 → (s : State) → has old s → IsSound s → reply ≡ Refused (bare F1) →
         HasFailed (failed old) (failed new)
+    -- a step in which a failure was counted says so
+    pub counted : failed old < failed new → reply ≡ Refused (bare F1)
     pub durable : doubts new ≡ 0 → (s : State) → has old s → IsSound s → IsTrue (is_made reply) →
         (left : Option State) → may_remain new left ↔ (left ≡ Some (state_left s asked.1 asked.2))
     pub crash : doubts new ≡ 0 → (s : State) → has old s → IsSound s → (left : Option State) →

@@ -1,5 +1,6 @@
 -- The reply to a request.
 use Rattle.std.specs.Prelude.{ℕ, ◌+◌, ℤ, Bool, ◌&&◌, List, [], ◌∷◌, map, filter, take, Option, Some, None, option_map, option_and_then, if◌then◌else◌}
+use Rattle.std.specs.Option.{option_map_or}
 use Rattle.circle.specs.Outcomes.{bare}
 use Rattle.circle.specs.Aftermath.{next_in}
 use Rattle.circle.specs.Directory.{Directory}
@@ -13,9 +14,7 @@ use Rattle.iodef_tree.specs.Pointer.{pointer_tokens}
 use Rattle.hub_core.specs.Documents.{Lines, documents_in}
 use Rattle.hub_core.specs.State.{State, incident_of}
 use Rattle.hub_core.specs.Aftermath.{next_incident}
-use Rattle.hub_core.specs.Requests.{known_of}
 use Rattle.hub_core.specs.Refusals.{refusal_of}
-use Rattle.hub_core.specs.Judgement.{next_revision}
 use Rattle.hub_core.specs.Reads.{person_by_key, entry_of, incidents_above, groups_of, joined_communities}
 use Rattle.hub_state.specs.declared.state.Incident.{Incident}
 use Rattle.hub_state.specs.declared.reply.Entry.{Entry}
@@ -87,11 +86,15 @@ sharing_or_nothing (Some sharing) = Sharing sharing
 
 -- ---- replies
 
+-- the revision in the row of an incident; 0 if the incident is missing
+abbrev pub revision_in : State → ℕ → ℕ
+revision_in s n = option_map_or (λ (i : Incident). i.naming.revision) (incident_of n s) 0
+
 -- the reply to a person's request if nothing refuses it
 abbrev pub answer_to : State → ℤ → Person → Request → Reply
 answer_to s now p (ask.Circle command) = circle_reply s.directory command
 answer_to s now p (ask.Post r) = Numbers (numbers_from (next_incident s) (documents_in r.document))
-answer_to s now p (ask.Replace r) = Revision (next_revision (known_of s (ask.Replace r)))
+answer_to s now p (ask.Replace r) = Revision (revision_in s r.incident + 1)
 answer_to s now p (ask.Redistribute r) = Done
 answer_to s now p (ask.Address r) = Done
 answer_to s now p (ask.Unaddress r) = Done

@@ -1,5 +1,5 @@
 -- How a person is served, in parts.
-use Rattle.std.specs.Prelude.{◌≡◌, ◌⊎◌, ◌≤◌, ◌↔◌, ℕ, ℤ, Bool, true, false, List, Option, Some, None, Result, Ok, Err, IsTrue, IfOk, IsErrOf, if◌then◌else◌}
+use Rattle.std.specs.Prelude.{◌≡◌, ◌⊎◌, ◌<◌, ◌≤◌, ◌↔◌, ℕ, ℤ, Bool, true, false, List, Option, Some, None, Result, Ok, Err, IsTrue, IfOk, IsErrOf, if◌then◌else◌}
 use Rattle.std.specs.List.{filter_map}
 use Rattle.circle.specs.declared.directory.Person.{Person}
 use Rattle.circle.specs.declared.command.CircleCommand.TheVariants.{AddOrg, AddPerson, AddCommunity, NewGroup}
@@ -91,8 +91,9 @@ pub record IsDoneAsDue {D : Type 0} (has : D → State → Type 0) (may_remain :
   pub crash : (left : Option State) → may_remain new left →
       may_remain old left ⊎ (IsTrue (is_made due) × (left ≡ Some after))
 
--- counts don't fall, and Failed is returned only if a failure was counted
+-- Counts don't fall. A call that counts a failure returns Failed, which is returned only if one was counted.
 pub record IsCounted {D T : Type 0} (doubts failed : D → ℕ) (old new : D) (result : Result T ShelfFault) : Type 0 where
   pub later : failed old ≤ failed new
   pub doubt : doubts old ≤ doubts new
   pub cause : IsErrOf result Failed → HasFailed (failed old) (failed new)
+  pub counted : failed old < failed new → result ≡ Err Failed

@@ -1,5 +1,5 @@
 //! The hub over a shelf: one request, and a list of them.
-ghost use Rattle.std.specs.Prelude.{◌≡◌, ◌⊎◌, ◌≤◌, ◌↔◌, Option, Some, true, false, IsTrue, IfOk, OnErr};
+ghost use Rattle.std.specs.Prelude.{◌≡◌, ◌⊎◌, ◌<◌, ◌≤◌, ◌↔◌, Option, Some, true, false, IsTrue, IfOk, OnErr};
 ghost use Rattle.circle.specs.Outcomes.{bare};
 ghost use Rattle.circle.specs.declared.directory.Account.{Account};
 ghost use Rattle.circle.specs.declared.refusal.Code.TheVariants.{F1};
@@ -53,8 +53,8 @@ impl<Sh: Shelf> Hub<Sh> {
     /// Answers one request at a moment, in seconds since the beginning of 1970 (UTC). This is one step, from whatever
     /// sound state the shelf has.
     ///
-    /// The reply is made before the change, so `F2` means that nothing changed. So does `F1`, which is the reply only
-    /// if the shelf failed. If everything stops after a change whose reply says that it was made, only what the request
+    /// The reply is made before the change, so `F2` means that nothing changed. So does `F1`, which is the reply if the
+    /// shelf counted a failure, and only if it failed. If everything stops after a change whose reply says that it was made, only what the request
     /// leaves may be left: no other state, and nothing that stands for none. Otherwise what could have been left before
     /// may be left. If a change was due and is given up, what the request would have left may be left too. So a request
     /// that reads or is refused adds nothing.
@@ -74,6 +74,7 @@ impl<Sh: Shelf> Hub<Sh> {
             (result ≡ reply_of t now key.now request.now) ⊎ IsGivenUp result }
         ensures cause { Sh.doubts self.new ≡ 0 → (s : State) → Sh.has self.old s → IsSound s →
             result ≡ Refused (bare F1) → HasFailed (Sh.failed self.old) (Sh.failed self.new) }
+        ensures counted { Sh.failed self.old < Sh.failed self.new → result ≡ Refused (bare F1) }
         ensures durable { Sh.doubts self.new ≡ 0 → (s : State) → Sh.has self.old s → IsSound s →
             IsTrue (is_made result) → (left : Option State) →
             Sh.may_remain self.new left ↔ (left ≡ Some (state_left s key.now request.now)) }

@@ -84,6 +84,8 @@ impl<'a, Sh: Shelf> Shelf for Watched<'a, Sh> {
 
     ghost has = { λ f s. Sh.has f.shelf s };
 
+    ghost holds = { λ f s. Sh.holds f.shelf s };
+
     ghost doubts = { λ f. Sh.doubts f.shelf };
 
     ghost failed = { λ f. f.failures };

@@ -1,5 +1,5 @@
 -- Serving one connection.
-use Rattle.std.specs.Prelude.{◌≡◌, ◌⊎◌, ◌↔◌, ℕ, ℤ, List, ◌++◌, Option, Some, Result, Ok, Err, is_some, true, IsTrue}
+use Rattle.std.specs.Prelude.{◌≡◌, ◌⊎◌, ◌<◌, ◌↔◌, ℕ, ℤ, List, ◌++◌, Option, Some, Result, Ok, Err, is_some, true, IsTrue}
 use Rattle.std.specs.Io.KnownBytes.{Consumes, Appends, Keeps, IsAtEnd}
 use Rattle.hub_core.specs.Sound.{IsSound}
 use Rattle.hub_core.specs.State.{State}
@@ -59,6 +59,8 @@ pub record Steps {D : Type 0} (has : D → State → Type 0) (doubts failed : D 
   -- the reply says that the store failed only if it did
   pub cause : doubts new ≡ 0 → (s : State) → has old s → IsSound s → reply ≡ Refused (bare F1) →
       HasFailed (failed old) (failed new)
+  -- the reply says so whenever the store failed
+  pub counted : failed old < failed new → reply ≡ Refused (bare F1)
   -- after a change that was made a crash may leave what the request leaves, and nothing else
   pub durable : doubts new ≡ 0 → (s : State) → has old s → IsSound s → IsTrue (is_made reply) →
       (left : Option State) → may_remain new left ↔ (left ≡ Some (state_left s asked.0 asked.1))

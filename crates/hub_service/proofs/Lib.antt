@@ -1,2 +1,3 @@
 pub mod FirstRows
+pub mod Inputs
 pub mod Served

@@ -1,8 +1,6 @@
 //! One request to the hub.
 ghost use Rattle.std.specs.Prelude.{◌≡◌, ℕ, ℤ, List, IfOk, OnErr};
-ghost use Rattle.hub_core.specs.State.{State};
-ghost use Rattle.hub_core.specs.Sound.{IsSound};
-ghost use Rattle.hub.specs.Machine.{IsStep};
+ghost use Rattle.hub_http.specs.Serving.{Steps};
 ghost use Rattle.hub_service.specs.Keys.{IsFirstLine};
 ghost use Rattle.hub_service.specs.Keys as spec;
 
@@ -24,9 +22,8 @@ pub fn reply_to<Sh: Shelf>(
     line: &[u8],
     request: &Request,
 ) -> Reply
-    ensures step { Sh.doubts hub.new ≡ 0 → (s : State) → Sh.has hub.old s → IsSound s →
-        (left : State) × IsStep s (now, spec.line_key line.now, request.now) result left ×
-        Sh.has hub.new left }
+    ensures steps { Steps Sh.has Sh.doubts Sh.failed Sh.may_remain hub.old now
+        (spec.line_key line.now, request.now) result hub.new }
 {
     hub.answer(alloc, now, &line_key(line), request)
 }
@@ -61,10 +58,10 @@ pub fn reply_to_input<Sh: Shelf, R: Read, C: Clock>(
     request: &Request,
     reader: &mut R,
 ) -> Result<Reply, Fault>
-    ensures step { IfOk result (λ reply. Sh.doubts hub.new ≡ 0 → (s : State) → Sh.has hub.old s →
-        IsSound s → (line : List ℕ) × (now : ℤ) × (left : State) ×
+    ensures steps { IfOk result (λ reply. (line : List ℕ) × (now : ℤ) ×
         IsFirstLine (R.remaining reader.old) (R.remaining reader.new) line ×
-        IsStep s (now, spec.line_key line, request.now) reply left × Sh.has hub.new left) }
+        Steps Sh.has Sh.doubts Sh.failed Sh.may_remain hub.old now
+        (spec.line_key line, request.now) reply hub.new) }
     ensures unasked { OnErr result (hub.new ≡ hub.old) }
 {
     let caller = read_caller(alloc, clock, reader)?;

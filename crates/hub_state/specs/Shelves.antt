@@ -12,11 +12,12 @@ last_count = 18446744073709551615
 abbrev pub HasFailed : ℕ → ℕ → Type 0
 HasFailed before now = (before < now) ⊎ (now ≡ last_count)
 
--- The count never falls. Failed is returned only if it rose or is at its last value; from that value on every call
--- returns Failed.
+-- The count never falls. A call that raises it returns Failed. Failed is returned only if it rose or is at its last
+-- value; from that value on every call returns Failed.
 pub record HasCause {T : Type 0} (before now : ℕ) (result : Result T ShelfFault) : Type 0 where
   pub later : before ≤ now
   pub failed : IsErrOf result Failed → HasFailed before now
+  pub counted : before < now → result ≡ Err Failed
   pub ended : before ≡ last_count → result ≡ Err Failed
 
 module _ {D : Type 0} (has : D → State → Type 0) (doubts : D → ℕ) (failed : D → ℕ) (may_remain : D → Option State → Type 0) (old new : D) where
@@ -52,3 +53,4 @@ module _ {D : Type 0} (has : D → State → Type 0) (doubts : D → ℕ) (faile
     pub value : doubts new ≡ 0 → (s : State) → has old s → Says s
     pub kept : IsKept
     pub cause : IsErrOf result Failed → HasFailed (failed old) (failed new)
+    pub counted : failed old < failed new → result ≡ Err Failed

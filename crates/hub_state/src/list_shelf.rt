@@ -64,6 +64,8 @@ impl Shelf for ListShelf {
 
     ghost has = { λ shelf s. (shelf ≡ s) × IsSound s };
 
+    ghost holds = { λ shelf s. shelf ≡ s };
+
     ghost doubts = { λ _. 0 };
 
     ghost failed = { λ _. 0 };

@@ -36,6 +36,9 @@ pub trait Shelf {
     // The content is this state. A store that an earlier failure has shut has any state, so a read of it can only fail.
     ghost has: { Self → State → Type 0 };
 
+    // What was written is this state, which may be one that isn't sound. Of such a state no read says anything.
+    ghost holds: { Self → State → Type 0 };
+
     // 0 as long as the store has returned what was written to it
     ghost doubts: { Self → ℕ };
 
@@ -143,13 +146,15 @@ pub trait Shelf {
         ensures { Reads has doubts failed may_remain self.old self.new (λ s facts. facts ≡
             facts_of s actor.now request.now) result };
 
-    /// Makes all edits, or none. What is promised after Ok, and of a crash, holds if the edits lead to a sound state.
-    /// For other edits only this is promised: without Ok the content is as it was, and failures and doubts are counted.
-    /// A table refuses some rows that no sound state has.
+    /// Makes all edits, or none: without Ok the content is as it was. If the edits lead to a state that isn't sound, this
+    /// is promised after Ok: it was written, with all its rows. What later calls return, and what a crash may leave,
+    /// isn't. A table refuses some rows that no sound state has.
     fn apply(&mut self, edits: &[Edit]) -> Result<(), ShelfFault>
         ensures made { doubts self.new ≡ 0 → (s : State) → has self.old s →
             IsSound (state_with_edits edits.now s) →
             OnOk result (has self.new (state_with_edits edits.now s)) }
+        ensures written { doubts self.new ≡ 0 → (s : State) → has self.old s →
+            OnOk result (holds self.new (state_with_edits edits.now s)) }
         ensures none { OnErr result (KeepsContent has doubts failed may_remain self.old self.new) }
         ensures cause { HasCause (failed self.old) (failed self.new) result }
         ensures doubt { doubts self.old ≤ doubts self.new }

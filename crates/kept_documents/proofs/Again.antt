@@ -1,5 +1,6 @@
 -- A read that is made once more.
 use Rattle.std.proofs.Common.{◌≡◌, ◌≤◌, ℕ, List, Option, Result, Ok, Err, inl, inr, arith}
+use Rattle.std.proofs.Math.Nat.{eq-or-lt_of_le}
 use Rattle.std.proofs.lemmas.Result.{IfOk-weaker}
 use Rattle.hub_state.specs.Shelves.{HasCause, HasFailed, IsRead, Reads}
 use Rattle.hub_state.specs.State.{State}
@@ -21,6 +22,7 @@ cause_since : {T U : Type 0} (before mid now : ℕ) (first : Result U ShelfFault
 cause_since before mid now first second well one two = record {
   later = omega (arith, one.later, two.later);
   failed = λ e. failed_since before mid now one.later (two.failed e);
+  counted = λ rose. elim (eq-or-lt_of_le one.later) [ inl same ↦ two.counted (omega (arith, same, rose)) | inr risen ↦ absurd (well (one.counted risen)) ];
   ended = λ e. absurd (well (one.ended e));
 }
 

@@ -155,6 +155,8 @@ impl<Sh: Shelf, const MOST: usize> Shelf for KeptDocuments<Sh, MOST> {
 
     ghost has = { λ k s. Sh.has k.shelf s × AreDocuments k.documents s };
 
+    ghost holds = { λ k s. Sh.holds k.shelf s × AreDocuments k.documents s };
+
     ghost doubts = { λ k. Sh.doubts k.shelf };
 
     ghost failed = { λ k. Sh.failed k.shelf };

@@ -29,7 +29,7 @@ module _ {D : Type 0} (has : D → State → Type 0) (doubts : D → ℕ) (faile
   pub answered : {T : Type 0} (Right : State → T → Type 0) (x : T) → failed k ≢ last_count → ((s : State) → has k s → Right s x) → Reads has doubts failed may_remain k k Right (Ok x)
   answered Right x asked right = record {
     value = λ clean s h. right s h;
-    kept = stays (Ok x) (record { later = omega arith; failed = λ e. absurd (nothing e); ended = λ e. absurd (asked e) });
+    kept = stays (Ok x) (record { later = omega arith; failed = λ e. absurd (nothing e); counted = λ rose. absurd (omega (arith, rose)); ended = λ e. absurd (asked e) });
   }
     where
       nothing : IsErrOf (Ok x) Failed → ⊥
@@ -43,7 +43,7 @@ module _ {D : Type 0} (has : D → State → Type 0) (doubts : D → ℕ) (faile
   answered_after Right x asked count doubt keeps leaves right = record {
     value = λ clean s h. right s h;
     kept = record {
-      cause = record { later = omega (arith, count); failed = λ e. absurd (nothing e); ended = λ e. absurd (asked e) };
+      cause = record { later = omega (arith, count); failed = λ e. absurd (nothing e); counted = λ rose. absurd (omega (arith, count, rose)); ended = λ e. absurd (asked e) };
       doubt = omega (arith, doubt);
       content = λ clean s h. keeps s h;
       crash = λ clean left h. leaves left h;

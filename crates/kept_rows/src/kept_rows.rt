@@ -1,6 +1,6 @@
 //! The shelf.
 ghost use Rattle.std.specs.Prelude.{◌≡◌, ◌≢◌, true, false, None, Ok, Err, is_none, IfOk, IfErr, IfSome, OnOk};
-ghost use Rattle.hub_state.specs.Shelves.{IsKept, IsRead, Reads, last_count};
+ghost use Rattle.hub_state.specs.Shelves.{HasCause, IsKept, IsRead, Reads, last_count};
 ghost use Rattle.hub_state.specs.State.{State};
 ghost use Rattle.hub_state.specs.Sound.{IsSound};
 ghost use Rattle.hub_state.specs.Reads as spec;
@@ -100,6 +100,7 @@ impl<Sh: Shelf> KeptRows<Sh> {
     /// Reads the document of an incident, if there is one, and keeps its sketch. Fails if the document can't be read, or
     /// if the memory doesn't suffice.
     pub fn draw(&mut self, incident: u32) -> Result<(), ShelfFault>
+        ensures cause { HasCause (Sh.failed self.old.shelf) (Sh.failed self.new.shelf) result }
         ensures drawn { Sh.doubts self.new.shelf ≡ 0 → (s : State) → Sh.has self.old.shelf s →
             OnOk result (is_none (spec.document_of incident s) ≡ false →
             is_none (kept self.new.sketches incident) ≡ false) }
@@ -182,9 +183,13 @@ fn may_meet_by(
 }
 
 impl<Sh: Shelf> Shelf for KeptRows<Sh> {
-    ghost use Rattle.kept_rows.specs.Drawn.{Keeps};
+    ghost use Rattle.std.specs.Prelude.{◌≡◌};
+    ghost use Rattle.hub_state.specs.Bare.{bare};
+    ghost use Rattle.kept_rows.specs.Drawn.{AreDrawn, Keeps};
 
     ghost has = { λ k s. Sh.has k.shelf s × Keeps k.rows k.sketches k.seen s };
+
+    ghost holds = { λ k s. Sh.holds k.shelf s × (k.rows ≡ bare s) × AreDrawn k.sketches s };
 
     ghost doubts = { λ k. Sh.doubts k.shelf };
 

@@ -26,9 +26,11 @@ use sqlite::Alter;
 impl<S: Alter> Shelf for SqlShelf<S> {
     ghost use Rattle.sqlite_trees.specs.View.{doubt};
     ghost use Rattle.sqlite.specs.Held.{state};
-    ghost use Rattle.hub_store.specs.Content.{Has, MayLeave};
+    ghost use Rattle.hub_store.specs.Content.{CommitsState, Has, MayLeave};
 
     ghost has = { λ shelf s. Has (state S.Store shelf.conn) s };
+
+    ghost holds = { λ shelf s. CommitsState (state S.Store shelf.conn) s };
 
     ghost doubts = { λ shelf. doubt (state S.Store shelf.conn).is_clean };
 

@@ -9,4 +9,5 @@ returns g c = record {
       subst P (met_found c.args.incident c.args.case c.args.standing c.args.want s sound) (c.meets.ensures.value clean s has);
   kept = search rules;
   cause = search rules;
+  counted = search rules;
 }

@@ -14,4 +14,5 @@ returns g c = record {
       (c.may_meet.ensures.value clean s has);
   kept = search rules;
   cause = search rules;
+  counted = search rules;
 }

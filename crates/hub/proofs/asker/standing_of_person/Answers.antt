@@ -13,4 +13,5 @@ returns g c = record {
       (subst (λ t. P (standing_of c.args.person c.args.incident t s)) (to_z-of_z fits) (c.standing.ensures.value clean s has));
   kept = search rules;
   cause = search rules;
+  counted = search rules;
 }

@@ -25,4 +25,5 @@ returns g c = record {
       c.reply_of.ensures told (text ∙ there) ∙ ap (λ refusal. refused_or refusal (Trace told)) (sym fine);
   kept = search rules;
   cause = search rules;
+  counted = search rules;
 }

@@ -28,4 +28,5 @@ returns g c = record {
       (c.text_of.ensures.told (marked s c.args.asked.now.incident c.in-Some-document.document sound document));
   kept = search rules;
   cause = search rules;
+  counted = search rules;
 }

@@ -13,6 +13,7 @@ returns-then-is_ruled_out g c = record {
       (λ i. ruled_out c.args.wanted i.document (case_for s i) c.args.standing (sym c.is_ruled_out.ensures ∙ c.if-is_ruled_out.true));
   kept = search rules;
   cause = search rules;
+  counted = search rules;
 }
 
 pub returns-then-is_shut : goal.returns-then-is_shut
@@ -21,6 +22,7 @@ returns-then-is_shut g c = record {
       shut_told s c.args.wanted c.args.standing (incident_of c.args.incident s) c.in-Some.case (sym c.is_shut.ensures ∙ c.if-is_shut.true) (sym c.in-Some.is ∙ c.in_ok-case.ensures.value clean s has);
   kept = search rules;
   cause = search rules;
+  counted = search rules;
 }
 
 pub returns : goal.returns
@@ -35,4 +37,5 @@ returns g c = record {
       (c.is_met.ensures.value clean s (first.kept.content mid s has) sound);
   kept = search rules;
   cause = search rules;
+  counted = search rules;
 }

@@ -3,7 +3,7 @@ use Rattle.hub_core.specs.Reads.{entries_after}
 use Rattle.hub_state.specs.declared.reply.Entry.{Entry}
 use Rattle.hub.specs.declared.TheConstants.{PAGE_LIMIT}
 use Rattle.hub.specs.inner.PageFilter.{is_wanted, is_wanted_at, number_at_end}
-use Rattle.hub.proofs.Keeping.{kept_on, kept_read}
+use Rattle.hub.proofs.Keeping.{kept_on, kept_read, uncounted}
 use Rattle.hub.proofs.Paging.{take_full, no_end, passing_above, page_on, page_end, none_read}
 use Rattle.hub.proofs.pages.page.Goals as goal
 use Rattle.hub.proofs.pages.page.Goals.{else-pages-test, then-pages-test+in_ok-entries+in-None, then-pages-test+in_ok-entries+in-Some+then-last-above}
@@ -39,6 +39,7 @@ returns g c = record {
       ];
   kept = search rules;
   cause = search rules;
+  counted = search rules;
 }
 
 pub pages-preserved : goal.pages-preserved
@@ -50,6 +51,7 @@ pages-preserved g c =
     record {
       room = pick.room;
       kept = kept_on left.kept (kept_on (kept_read read.kept) pick.found.kept);
+      uncounted = uncounted pick.found.kept.later pick.found.counted ∙ uncounted read.kept.cause.later read.kept.cause.counted ∙ left.uncounted;
       told = λ clean s has sound there.
           let test = is_wanted s c.args.asker.now c.args.asker.person.now c.args.wanted in
           let at = λ (e : Entry). is_wanted_at s c.args.asker.now c.args.asker.person.now c.args.wanted e.number in

@@ -15,6 +15,7 @@ invariant-pages g l =
     record {
       room : length l.listed.items ≤ PAGE_LIMIT;
       kept : IsKept shelf.has shelf.doubts shelf.failed shelf.may_remain l.initial.shelf l.shelf;
+      uncounted : shelf.failed l.shelf ≡ shelf.failed l.initial.shelf;
       told : shelf.doubts l.shelf ≡ 0 → (s : State) → shelf.has l.initial.shelf s → IsSound s → IsThere s l.asker.person.now →
           take PAGE_LIMIT (l.listed.items ++ passing_above s (is_wanted s l.asker.now l.asker.person.now l.wanted) l.above) ≡ page_of (is_wanted s l.asker.now l.asker.person.now l.wanted) l.after s;
     }

@@ -5,7 +5,7 @@ use Rattle.std.proofs.lemmas.List.{length-append}
 use Rattle.hub_state.specs.declared.reply.Entry.{Entry}
 use Rattle.hub.specs.declared.TheConstants.{PAGE_LIMIT}
 use Rattle.hub.specs.inner.PageFilter.{is_wanted_at}
-use Rattle.hub.proofs.Keeping.{kept_on}
+use Rattle.hub.proofs.Keeping.{kept_on, uncounted}
 use Rattle.hub.proofs.Paging.{take_full, picked, passed_over, no_more}
 use Rattle.hub.proofs.pages.pick.Goals as goal
 use Rattle.hub.proofs.pages.pick.Goals.{then-branch+else-is_err, else-branch}
@@ -19,6 +19,7 @@ returns-then-len-eq-PAGE_LIMIT-clause-found g c = record {
       ∙ c.loop-entry.invariant.told clean s has sound there;
   kept = search rules;
   cause = search rules;
+  counted = search rules;
 }
 
 pub returns-clause-found : goal.returns-clause-found
@@ -29,6 +30,7 @@ returns-clause-found g c = record {
       ∙ c.loop-entry.invariant.told clean s has sound there;
   kept = search rules;
   cause = search rules;
+  counted = search rules;
 }
 
 pub loop-entry-preserved : goal.loop-entry-preserved
@@ -47,6 +49,7 @@ loop-entry-preserved g c =
           record {
             room = omega (arith, ap length grown, length-append L (get_or E i d ∷ []));
             kept = kept_on left.kept read.kept;
+            uncounted = uncounted read.kept.later read.counted ∙ left.uncounted;
             told = λ clean s has sound there.
                 let test = λ (e : Entry). is_wanted_at s c.args.asker.now c.args.asker.person.now c.args.wanted e.number in
                 let before : g.Sh.Shelf.doubts c.loop-entry.shelf ≡ 0 = omega (arith, read.kept.doubt) in
@@ -58,6 +61,7 @@ loop-entry-preserved g c =
           record {
             room = omega (arith, ap length same);
             kept = kept_on left.kept read.kept;
+            uncounted = uncounted read.kept.later read.counted ∙ left.uncounted;
             told = λ clean s has sound there.
                 let test = λ (e : Entry). is_wanted_at s c.args.asker.now c.args.asker.person.now c.args.wanted e.number in
                 let before : g.Sh.Shelf.doubts c.loop-entry.shelf ≡ 0 = omega (arith, read.kept.doubt) in

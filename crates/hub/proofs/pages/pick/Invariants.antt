@@ -14,6 +14,7 @@ invariant-loop-entry g l =
     record {
       room : length l.listed.items ≤ PAGE_LIMIT;
       kept : IsKept shelf.has shelf.doubts shelf.failed shelf.may_remain l.initial.shelf l.shelf;
+      uncounted : shelf.failed l.shelf ≡ shelf.failed l.initial.shelf;
       told : shelf.doubts l.shelf ≡ 0 → (s : State) → shelf.has l.initial.shelf s → IsSound s → IsThere s l.asker.person.now →
           take PAGE_LIMIT (l.listed.items ++ filter (λ (e : Entry). is_wanted_at s l.asker.now l.asker.person.now l.wanted e.number) (drop l.entry-index l.entries))
           ≡ take PAGE_LIMIT (l.initial.listed.items ++ filter (λ (e : Entry). is_wanted_at s l.asker.now l.asker.person.now l.wanted e.number) l.entries);

@@ -29,4 +29,5 @@ returns g c = record {
       (c.list.ensures.value clean s (read.kept.content mid s has) sound there);
   kept = search rules;
   cause = search rules;
+  counted = search rules;
 }

@@ -21,4 +21,5 @@ returns-in_ok-told-in-Some g c = record {
       (sym c.in-Some.is ∙ c.in_ok-found.ensures.value clean s has) own;
   kept = search rules;
   cause = search rules;
+  counted = search rules;
 }

@@ -13,4 +13,5 @@ returns g c = record {
       ∙ entry_is s c.args.incident sound;
   kept = search rules;
   cause = search rules;
+  counted = search rules;
 }

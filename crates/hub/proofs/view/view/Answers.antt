@@ -18,6 +18,7 @@ returns-then-is_shut g c = record {
       (sym c.in-Some.is ∙ first.value before s has there) (sym c.in-Some-2.is ∙ next.value clean s (first.kept.content before s has));
   kept = search rules;
   cause = search rules;
+  counted = search rules;
 }
 
 pub returns-in_default-3 : goal.returns-in_default-3
@@ -36,6 +37,7 @@ returns-in_default-3 g c = record {
       (subst P c.in_default-3.is (last.value clean s (next.kept.content mid s here)));
   kept = search rules;
   cause = search rules;
+  counted = search rules;
 }
 
 pub returns : goal.returns
@@ -59,4 +61,5 @@ returns g c = record {
       (subst P c.in-Some-3.is (third.value late s there-too));
   kept = search rules;
   cause = search rules;
+  counted = search rules;
 }

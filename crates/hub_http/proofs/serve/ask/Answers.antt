@@ -10,6 +10,7 @@ returns-clause-steps g c =
     record {
       step = c.answer.ensures.step;
       cause = c.answer.ensures.cause;
+      counted = c.answer.ensures.counted;
       durable = c.answer.ensures.durable;
       crash = c.answer.ensures.crash;
     }

@@ -41,4 +41,5 @@ returns g c = record {
       (c.counts_then-counts.ensures s (g.met.L.LookUps.sound c.args.shelf.now s has) shared there c.args.actor.now);
   kept = search rules;
   cause = search rules;
+  counted = search rules;
 }

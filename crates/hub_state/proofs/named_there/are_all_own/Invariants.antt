@@ -11,5 +11,6 @@ invariant-loop-gate g l =
     let shelf = g.L.LookUps in
     record {
       kept : IsKept shelf.has shelf.doubts shelf.failed shelf.may_remain l.initial.shelf l.shelf;
+      uncounted : shelf.failed l.shelf ≡ shelf.failed l.initial.shelf;
       all : shelf.doubts l.shelf ≡ 0 → (s : State) → shelf.has l.initial.shelf s → list_all (λ (w : WantedGate). is_own_group s l.actor w.group) (take l.gate-index l.gates) ≡ true;
     }

@@ -19,4 +19,5 @@ returns-then-branch g c = record {
       (c.are_all_own.ensures.value clean s (own.kept.content mid s has));
   kept = search rules;
   cause = search rules;
+  counted = search rules;
 }

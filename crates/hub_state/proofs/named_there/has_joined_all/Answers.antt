@@ -16,4 +16,5 @@ returns-then-branch g c = record {
       (c.are_own_groups.ensures.value clean s (own.kept.content mid s has));
   kept = search rules;
   cause = search rules;
+  counted = search rules;
 }

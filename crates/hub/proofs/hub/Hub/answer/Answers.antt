@@ -6,7 +6,7 @@ use Rattle.hub_core.specs.Shelves.{HasFailed, KeepsContent}
 use Rattle.hub.specs.Machine.{state_left}
 use Rattle.hub.specs.Serving.{is_made}
 use Rattle.hub.proofs.AnsweredAlike.{answered-alike}
-use Rattle.hub.proofs.Served.{due_tells, given_up, failure_told}
+use Rattle.hub.proofs.Served.{due_tells, given_up, failure_told, told_failed}
 use Rattle.hub.proofs.hub.Hub.answer.Goals as goal
 use Rattle.hub.proofs.hub.Hub.answer.Goals.{in-Ok, in-Err}
 
@@ -52,6 +52,18 @@ returns-clause-cause g c = λ clean s has sound failed.
           failure_told (HasFailed (g.Sh.Shelf.failed c.args.self.now) (g.Sh.Shelf.failed c.answer_key.new.shelf)) w.in-Err.fault
           (λ is. subst R c.self.view_is (w.in-Err.ensures.counted.cause (ap Err (sym is))))
           (sym (w.result-is ∙ w.given_up.ensures) ∙ failed)
+    ]
+
+pub returns-clause-counted : goal.returns-clause-counted
+returns-clause-counted g c = λ rose.
+    let R : g.row.Sh.Denot → Type 0 = λ shelf. g.Sh.Shelf.failed shelf < g.Sh.Shelf.failed c.answer_key.new.shelf in
+    let counted = subst R (sym c.self.view_is) rose in
+    elim c.match-answer_key.branch [
+      | in-Ok w ↦
+          let failed = w.in-Ok.ensures.counted.counted counted in
+          absurd cc
+      | in-Err w ↦
+          w.result-is ∙ w.given_up.ensures ∙ told_failed w.in-Err.fault _ refl (w.in-Err.ensures.counted.counted counted)
     ]
 
 pub returns-clause-kept : goal.returns-clause-kept

@@ -13,6 +13,7 @@ returns g c =
       kept = c.answer.ensures.kept;
       step = c.answer.ensures.step;
       cause = c.answer.ensures.cause;
+      counted = c.answer.ensures.counted;
       durable = c.answer.ensures.durable;
       crash = c.answer.ensures.crash;
       later = c.answer.ensures.later;

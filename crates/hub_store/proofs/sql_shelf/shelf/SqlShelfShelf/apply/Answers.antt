@@ -7,6 +7,11 @@ use Rattle.hub_store.proofs.Runs.{kept_has}
 use Rattle.hub_store.proofs.Telling.{err_only, ok_only}
 use Rattle.hub_store.proofs.sql_shelf.shelf.SqlShelfShelf.apply.Goals as goal
 
+pub returns-clause-written : goal.returns-clause-written
+returns-clause-written g c clean s has =
+    let here : Has (state g.S.Store c.self.inside.conn) s = subst (λ h. Has (state g.S.Store h.conn) s) (sym c.self.view_is) has in
+    ok_only c.apply-made.result c.count_failure.result _ _ c.count_failure.ensures.value (c.apply-made.ensures.made clean s here) (λ is. is)
+
 pub returns-clause-none : goal.returns-clause-none
 returns-clause-none g c =
     err_only c.apply-made.result c.count_failure.result _ _ _ c.count_failure.ensures.given c.apply-made.ensures.none
