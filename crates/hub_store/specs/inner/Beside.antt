@@ -1,20 +1,18 @@
 -- The tables that a migration fills beside the others: the lines, the incidents, the permissions.
-use Rattle.std.specs.Prelude.{◌≡◌, ◌<◌, ◌^◌, ◌&&◌, ℕ, suc, pos, Bool, false, List, [], ◌∷◌, ◌++◌, length}
+use Rattle.std.specs.Prelude.{◌≡◌, ◌<◌, ◌^◌, ℕ, suc, pos, Bool, false, List, [], ◌∷◌, ◌++◌, length}
 use Rattle.std.specs.List.{AllByRecursion}
 use Rattle.sqlite_value.specs.declared.value.Value.TheVariants.{Null, Int}
-use Rattle.sqlite_value.specs.declared.keys.Collation.TheVariants.{Binary}
+use Rattle.sqlite_value.specs.Keys.{plain}
 use Rattle.std.specs.Ordering.{is_eq}
-use Rattle.sqlite_value.specs.Order.{Row, column, value_cmp}
-use Rattle.sqlite_trees.specs.Tree.{rowid}
-use Rattle.sqlite_schema.specs.Rules.{equal}
+use Rattle.sqlite_value.specs.Order.{Row, value_cmp}
+use Rattle.sqlite_trees.specs.Tree.{IsAscending, rowid}
+use Rattle.sqlite_schema.specs.Rules.{agree}
 use Rattle.sqlite.specs.Effect.{Database}
-use Rattle.circle.specs.Sound.{Pairwise}
 use Rattle.hub_state.specs.State.{State}
-use Rattle.hub_store.specs.Items.{Item, item_row}
+use Rattle.hub_store.specs.Items.{item_row}
 use Rattle.hub_state.specs.declared.state.Naming.{Naming}
 use Rattle.hub_state.specs.declared.state.Permission.{Permission}
 use Rattle.hub_store.specs.Rows.{naming_row_2, endless_row, without_end}
-use Rattle.hub_store.specs.inner.Shown.{naming_shown_2}
 use Rattle.hub_store.specs.Fit.{ShortItem, IsShort}
 use Rattle.hub_store.specs.Layout.{with_items, item_part}
 use Rattle.hub_store.specs.Parts.{HoldsParts}
@@ -29,23 +27,30 @@ pub record HoldsBeside (items : List Row) (s : State) (db : Database) : Type 0 w
   pub parts : HoldsParts (with_items items s) db
   pub numbered : AreNumbered 1 (db.trees (item_part items).table.tree)
 
--- two rows have equal values in two columns, as SQL compares them
-abbrev pub begin_alike : ℕ → Row → Row → Bool
-begin_alike at a b = equal Binary (column a at) (column b at) && equal Binary (column a (suc at)) (column b (suc at))
+-- two rows have equal values in these columns, as SQL compares them
+abbrev pub alike : List ℕ → Row → Row → Bool
+alike columns a b = agree plain columns a columns b
 
--- the first two columns of two rows differ
-abbrev pub Apart : Row → Row → Type 0
-Apart a b = (begin_alike 0 a b ≡ false) × (begin_alike 0 b a ≡ false)
+-- two rows are not alike in these columns
+abbrev pub Unlike : List ℕ → Row → Row → Type 0
+Unlike columns a b = (alike columns a b ≡ false) × (alike columns b a ≡ false)
 
--- the row is that of a line, and SQLite takes it
-abbrev pub IsShortLine : Row → Type 0
-IsShortLine row = (x : Item) × (row ≡ item_row x) × ShortItem x
+-- the row is that of an element that SQLite takes
+abbrev pub IsRowOf : {X : Type 0} → (X → Row) → (X → Type 0) → Row → Type 0
+IsRowOf {X} kept IsTaken row = (x : X) × (row ≡ kept x) × IsTaken x
 
--- The table takes these lines: each has a place of its own, is short enough, and the rowids suffice.
-pub record CanStand (items : List Row) : Type 0 where
-  pub apart : Pairwise Apart items
-  pub lines : AllByRecursion IsShortLine items
-  pub few : length items < 2 ^ 62
+-- A table takes these rows: each two are apart, and each is one that SQLite takes.
+pub record CanHold (AreApart : Row → Row → Type 0) (IsOne : Row → Type 0) (rows : List Row) : Type 0 where
+  pub apart : IsAscending AreApart rows
+  pub each : AllByRecursion IsOne rows
+
+-- the same, and the rowids suffice
+abbrev pub CanNumber : (Row → Row → Type 0) → (Row → Type 0) → List Row → Type 0
+CanNumber AreApart IsOne rows = CanHold AreApart IsOne rows × (length rows < 2 ^ 62)
+
+-- The table takes these lines: each has a place of its own.
+abbrev pub CanStand : List Row → Type 0
+CanStand = CanNumber (Unlike (0 ∷ 1 ∷ [])) (IsRowOf item_row ShortItem)
 
 -- ---- the table of the incidents, while it is filled again
 
@@ -53,49 +58,28 @@ pub record CanStand (items : List Row) : Type 0 where
 abbrev pub NumbersApart : Row → Row → Type 0
 NumbersApart a b = (is_eq (value_cmp (rowid a) (rowid b)) ≡ false) × (is_eq (value_cmp (rowid b) (rowid a)) ≡ false)
 
--- two rows don't have the same source and ident
-abbrev pub IdentsApart : Row → Row → Type 0
-IdentsApart a b = (begin_alike 2 a b ≡ false) × (begin_alike 2 b a ≡ false)
+-- two rows have different numbers, and are not alike in these columns
+abbrev pub NumberedApart : List ℕ → Row → Row → Type 0
+NumberedApart columns a b = NumbersApart a b × Unlike columns a b
 
--- the row is that of an incident as a version keeps it, and SQLite takes it
-abbrev pub IsShortNaming : (Naming → Row) → Row → Type 0
-IsShortNaming kept row = (k : Naming) × (row ≡ kept k) × IsShort row × (k.number < 2 ^ 63)
+-- SQLite takes the row of the incident, as a version keeps it
+abbrev pub ShortNamingAs : (Naming → Row) → Naming → Type 0
+ShortNamingAs kept k = IsShort (kept k) × (k.number < 2 ^ 63)
 
--- The table of a version takes these incidents: numbers differ, source and ident together differ, and each is short
--- enough.
-pub record CanName (kept : Naming → Row) (rows : List Row) : Type 0 where
-  pub numbers : Pairwise NumbersApart rows
-  pub idents : Pairwise IdentsApart rows
-  pub namings : AllByRecursion (IsShortNaming kept) rows
+-- The table of a version takes these incidents: no two have one number, or the same source and ident.
+abbrev pub CanName : (Naming → Row) → List Row → Type 0
+CanName kept = CanHold (NumberedApart (2 ∷ 3 ∷ [])) (IsRowOf kept (ShortNamingAs kept))
 
 -- the row of an incident that names no community, as version 4 keeps it
 abbrev pub unnamed_row : Naming → Row
 unnamed_row k = naming_row_2 k ++ Null ∷ []
 
--- the row is one that the query of all incidents of version 3 shows
-abbrev pub IsShownBefore4 : Row → Type 0
-IsShownBefore4 row = (k : Naming) × (row ≡ naming_shown_2 k)
-
 -- ---- the table of the permissions, while it is filled again
 
--- the row is one that the query of all permissions of version 2 shows
-abbrev pub IsEndlessRow : Row → Type 0
-IsEndlessRow row = (x : Permission) × (row ≡ endless_row x)
+-- the row of a permission without an end, as version 3 keeps it
+abbrev pub ending_row : Permission → Row
+ending_row x = without_end (endless_row x)
 
--- two rows have the same incident, path, kind and target, as SQL compares them
-abbrev pub granted_alike : Row → Row → Bool
-granted_alike a b = begin_alike 0 a b && begin_alike 2 a b
-
--- two permissions differ in incident, path, kind or target
-abbrev pub GrantsApart : Row → Row → Type 0
-GrantsApart a b = (granted_alike a b ≡ false) × (granted_alike b a ≡ false)
-
--- the row is that of a permission without an end, and SQLite takes it under a rowid
-abbrev pub IsShortGrant : Row → Type 0
-IsShortGrant row = (x : Permission) × (row ≡ without_end (endless_row x)) × IsShort (Null ∷ row)
-
--- The table takes these permissions: they differ, each is short enough, and the rowids suffice.
-pub record CanGrant (permissions : List Row) : Type 0 where
-  pub apart : Pairwise GrantsApart permissions
-  pub grants : AllByRecursion IsShortGrant permissions
-  pub few : length permissions < 2 ^ 62
+-- The table takes these permissions: they differ in incident, path, kind or target.
+abbrev pub CanGrant : List Row → Type 0
+CanGrant = CanNumber (Unlike (0 ∷ 1 ∷ 2 ∷ 3 ∷ [])) (IsRowOf ending_row (λ x. IsShort (Null ∷ ending_row x)))

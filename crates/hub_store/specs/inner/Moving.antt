@@ -1,6 +1,6 @@
 -- What a migration has moved of version 1: it reads the documents one after another, in the order of their incidents'
 -- numbers.
-use Rattle.std.specs.Prelude.{◌≡◌, ◌<◌, ◌≤◌, ◌^◌, IsUtf8, ℕ, nat_lt, nat_le, List, [], ◌∷◌, ◌++◌, map, filter, find, Option, Some, None, Ok}
+use Rattle.std.specs.Prelude.{◌≡◌, ◌<◌, ◌≤◌, ◌^◌, IsUtf8, ℕ, nat_lt, List, [], ◌∷◌, ◌++◌, map, find, Option, Some, None, Ok, take}
 use Rattle.std.specs.List.{AllByRecursion}
 use Rattle.sqlite_value.specs.declared.value.Value.TheVariants.{Text}
 use Rattle.sqlite_value.specs.Order.{Row}
@@ -68,9 +68,9 @@ naming_in = map (λ (i : Incident). i.naming)
 abbrev pub incident_above : ℕ → State → Option Incident
 incident_above n s = find (λ (i : Incident). nat_lt n i.naming.number) s.incidents
 
--- the incidents up to a number
+-- the incidents up to a number; numbers count from 1, so they are that many
 abbrev pub incidents_up_to : ℕ → State → List Incident
-incidents_up_to n s = filter (λ (i : Incident). nat_le i.naming.number n) s.incidents
+incidents_up_to n s = take n s.incidents
 
 -- the lines of the documents up to a number are put, and the namings of their incidents are kept
 pub record HoldsMoved (number : ℕ) (kept : List Naming) (db : Database) (s : State) : Type 0 where

@@ -2,13 +2,13 @@ use Rattle.std.proofs.Common.{[]}
 use Rattle.sqlite.specs.Held.{state}
 use Rattle.hub_store.specs.inner.Adds.{naming_edit, namings}
 use Rattle.hub_store.specs.inner.Shown.{naming_shown}
-use Rattle.hub_store.proofs.Adding.{adds_all}
-use Rattle.hub_store.proofs.AllListed.{namings_listed}
-use Rattle.hub_store.proofs.Answering.{read_shown}
-use Rattle.hub_store.proofs.TextsWhole.{all_namings, all_namings_is, all_namings_plain}
+use Rattle.hub_store.proofs.LookUps.Adding.{adds_all}
+use Rattle.hub_store.proofs.LookUps.AllListed.{namings_listed}
+use Rattle.hub_store.proofs.LookUps.Answering.{read_shown}
+use Rattle.hub_store.proofs.Rows.TextsWhole.{all_namings_is}
 use Rattle.hub_store.proofs.add_incidents.add_namings.Goals as goal
 
 pub returns-clause-read : goal.returns-clause-read
 returns-clause-read g c =
-    read_shown g.S.Store all_namings [] c.args.tx.now.conn.now c.ask.new.tx.conn.now c.in_ok-shown.shown.items _ _ _ c.put_shown.result all_namings_is all_namings_plain c.ask.ensures.survives c.in_ok-shown.ensures.shown
+    read_shown g.S.Store all_namings_is [] c.args.tx.now.conn.now c.ask.new.tx.conn.now c.in_ok-shown.shown.items _ c.put_shown.result c.ask.ensures.survives c.in_ok-shown.ensures.shown
     (λ s holds sound answer. adds_all naming_shown naming_edit (namings s) c.in_ok-shown.shown.items c.args.rows c.put_shown.result (namings_listed (state g.S.Store c.args.tx.now.conn.now).now.trees s c.in_ok-shown.shown.items sound holds.means answer) (rw c.deref.ensures.value at c.put_shown.ensures))

@@ -2,13 +2,13 @@ use Rattle.std.proofs.Common.{[]}
 use Rattle.sqlite.specs.Held.{state}
 use Rattle.hub_store.specs.Rows.{permission_row}
 use Rattle.hub_store.specs.inner.Adds.{permission_edit}
-use Rattle.hub_store.proofs.Adding.{adds_all}
-use Rattle.hub_store.proofs.AllListed.{all_permissions_listed}
-use Rattle.hub_store.proofs.Answering.{read_shown}
-use Rattle.hub_store.proofs.TextsWhole.{all_permissions, all_permissions_is, all_permissions_plain}
+use Rattle.hub_store.proofs.LookUps.Adding.{adds_all}
+use Rattle.hub_store.proofs.LookUps.AllListed.{all_permissions_listed}
+use Rattle.hub_store.proofs.LookUps.Answering.{read_shown}
+use Rattle.hub_store.proofs.Rows.TextsWhole.{all_permissions_is}
 use Rattle.hub_store.proofs.add_incidents.add_permissions.Goals as goal
 
 pub returns-clause-read : goal.returns-clause-read
 returns-clause-read g c =
-    read_shown g.S.Store all_permissions [] c.args.tx.now.conn.now c.ask.new.tx.conn.now c.in_ok-shown.shown.items _ _ _ c.put_shown.result all_permissions_is all_permissions_plain c.ask.ensures.survives c.in_ok-shown.ensures.shown
+    read_shown g.S.Store all_permissions_is [] c.args.tx.now.conn.now c.ask.new.tx.conn.now c.in_ok-shown.shown.items _ c.put_shown.result c.ask.ensures.survives c.in_ok-shown.ensures.shown
     (λ s holds sound answer. adds_all permission_row permission_edit s.permissions c.in_ok-shown.shown.items c.args.rows c.put_shown.result (all_permissions_listed (state g.S.Store c.args.tx.now.conn.now).now.trees s c.in_ok-shown.shown.items sound holds.means answer) (rw c.deref.ensures.value at c.put_shown.ensures))

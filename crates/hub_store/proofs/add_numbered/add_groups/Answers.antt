@@ -2,13 +2,13 @@ use Rattle.std.proofs.Common.{[]}
 use Rattle.sqlite.specs.Held.{state}
 use Rattle.hub_store.specs.inner.Adds.{group_edit}
 use Rattle.hub_store.specs.inner.ShownPairs.{group_shown}
-use Rattle.hub_store.proofs.Adding.{adds_all}
-use Rattle.hub_store.proofs.AllListed.{groups_listed}
-use Rattle.hub_store.proofs.Answering.{read_shown}
-use Rattle.hub_store.proofs.TextsWhole.{all_groups, all_groups_is, all_groups_plain}
+use Rattle.hub_store.proofs.LookUps.Adding.{adds_all}
+use Rattle.hub_store.proofs.LookUps.AllListed.{groups_listed}
+use Rattle.hub_store.proofs.LookUps.Answering.{read_shown}
+use Rattle.hub_store.proofs.Rows.TextsWhole.{all_groups_is}
 use Rattle.hub_store.proofs.add_numbered.add_groups.Goals as goal
 
 pub returns-clause-read : goal.returns-clause-read
 returns-clause-read g c =
-    read_shown g.S.Store all_groups [] c.args.tx.now.conn.now c.ask.new.tx.conn.now c.in_ok-shown.shown.items _ _ _ c.put_shown.result all_groups_is all_groups_plain c.ask.ensures.survives c.in_ok-shown.ensures.shown
+    read_shown g.S.Store all_groups_is [] c.args.tx.now.conn.now c.ask.new.tx.conn.now c.in_ok-shown.shown.items _ c.put_shown.result c.ask.ensures.survives c.in_ok-shown.ensures.shown
     (λ s holds sound answer. adds_all group_shown group_edit s.directory.groups c.in_ok-shown.shown.items c.args.rows c.put_shown.result (groups_listed (state g.S.Store c.args.tx.now.conn.now).now.trees s c.in_ok-shown.shown.items sound holds.means answer) (rw c.deref.ensures.value at c.put_shown.ensures))

@@ -8,9 +8,9 @@ use Rattle.hub_state.specs.State.{State}
 use Rattle.hub_state.specs.Edits.{with_edits}
 use Rattle.hub_store.specs.Content.{Has, CommitsState}
 use Rattle.hub_store.specs.Means.{TreesHold, Holds}
-use Rattle.hub_store.proofs.Left.{trees_hold}
-use Rattle.hub_store.proofs.Runs.{committed_made, ready}
-use Rattle.hub_store.proofs.Steps.{on_ok, survives_on}
+use Rattle.hub_store.proofs.Shelf.Left.{trees_hold}
+use Rattle.hub_store.proofs.Edits.Runs.{committed_made, ready}
+use Rattle.hub_store.proofs.Edits.Steps.{on_ok, survives_on}
 use Rattle.hub_store.proofs.apply.apply.Goals as goal
 
 pub returns-clause-made : goal.returns-clause-made

@@ -5,8 +5,8 @@ use Rattle.hub_state.specs.State.{empty}
 use Rattle.hub_state.specs.Edits.{with_edits}
 use Rattle.hub_store.specs.Means.{Holds}
 use Rattle.hub_store.specs.inner.Makes.{Makes}
-use Rattle.hub_store.proofs.Runs.{after_more}
-use Rattle.hub_store.proofs.Steps.{makes_then}
+use Rattle.hub_store.proofs.Edits.Runs.{after_more}
+use Rattle.hub_store.proofs.Edits.Steps.{makes_then}
 use Rattle.hub_store.proofs.apply.make_all.Goals as goal
 
 pub loop-edit-preserved : goal.loop-edit-preserved

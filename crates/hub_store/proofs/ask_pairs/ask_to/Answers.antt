@@ -2,12 +2,12 @@ use Rattle.std.proofs.Common.{pos, ◌∷◌, [], Ok}
 use Rattle.sqlite_value.specs.declared.value.Value.TheVariants.{Int, Text}
 use Rattle.sqlite.specs.Held.{state}
 use Rattle.hub_store.specs.inner.PairKinds.{kind_name}
-use Rattle.hub_store.proofs.Answering.{read_shown}
-use Rattle.hub_store.proofs.AskedPairs.{to_shown}
-use Rattle.hub_store.proofs.Texts.{pairs_with_second, pairs_with_second_is, pairs_with_second_plain}
+use Rattle.hub_store.proofs.LookUps.Answering.{read_shown}
+use Rattle.hub_store.proofs.LookUps.AskedPairs.{to_shown}
+use Rattle.hub_store.proofs.Rows.Texts.{pairs_with_second_is}
 use Rattle.hub_store.proofs.ask_pairs.ask_to.Goals as goal
 
 pub returns-clause-read : goal.returns-clause-read
 returns-clause-read g c =
-    read_shown g.S.Store pairs_with_second (Text (kind_name c.args.kind) ∷ Int (pos c.args.b) ∷ []) c.args.tx.now.conn.now c.ask.new.tx.conn.now c.in_ok-rows.rows.items _ _ _ (Ok c.in_ok-rows.rows) pairs_with_second_is pairs_with_second_plain c.ask.ensures.survives
+    read_shown g.S.Store pairs_with_second_is (Text (kind_name c.args.kind) ∷ Int (pos c.args.b) ∷ []) c.args.tx.now.conn.now c.ask.new.tx.conn.now c.in_ok-rows.rows.items _ (Ok c.in_ok-rows.rows) c.ask.ensures.survives
     (λ clean. rw (c.params-to_sql.ensures, c.params-to_sql-2.ensures, c.name.ensures) at (c.in_ok-rows.ensures.shown clean)) (λ s holds sound answer. to_shown (state g.S.Store c.args.tx.now.conn.now).now.trees s c.args.kind sound holds.means c.args.b c.in_ok-rows.rows.items answer)

@@ -1,5 +1,5 @@
 use Rattle.std.proofs.Common.{◌∙◌}
-use Rattle.hub_store.proofs.Halving.{found_by_halving}
+use Rattle.hub_store.proofs.LookUps.Halving.{found_by_halving}
 use Rattle.hub_store.proofs.common_numbers.is_among.Goals as goal
 
 pub returns : goal.returns

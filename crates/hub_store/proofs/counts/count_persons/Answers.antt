@@ -2,15 +2,15 @@ use Rattle.std.proofs.Common.{[], length, refl}
 use Rattle.sqlite.specs.Held.{state}
 use Rattle.circle.specs.Directory.{account_number}
 use Rattle.hub_store.specs.Rows.{account_row}
-use Rattle.hub_store.proofs.Answering.{read_shown}
-use Rattle.hub_store.proofs.Highest.{highest_listed, reads_count}
-use Rattle.hub_store.proofs.TextsHighest.{highest_person, highest_person_is, highest_person_plain}
+use Rattle.hub_store.proofs.LookUps.Answering.{read_shown}
+use Rattle.hub_store.proofs.LookUps.Highest.{highest_listed, reads_count}
+use Rattle.hub_store.proofs.Rows.TextsHighest.{highest_person_is}
 use Rattle.hub_store.proofs.counts.count_persons.Goals as goal
-use Rattle.hub_store.proofs.Places.{person_place, person_tree, held_of}
+use Rattle.hub_store.proofs.Rows.Places.{person_place, person_tree, held_of}
 
 pub returns-clause-read : goal.returns-clause-read
 returns-clause-read g c =
     let rows = c.in_ok-rows.rows.items in
-    read_shown g.S.Store highest_person [] c.args.tx.now.conn.now c.ask.new.tx.conn.now rows _ _ _ c.number_in.result highest_person_is highest_person_plain c.ask.ensures.survives c.in_ok-rows.ensures.shown
+    read_shown g.S.Store highest_person_is [] c.args.tx.now.conn.now c.ask.new.tx.conn.now rows _ c.number_in.result c.ask.ensures.survives c.in_ok-rows.ensures.shown
     (λ s holds sound answer. reads_count (length s.directory.accounts) rows c.number_in.result
     (highest_listed (state g.S.Store c.args.tx.now.conn.now).now.trees person_tree account_row account_number s.directory.accounts rows (λ x. refl) sound.directory.accounts.numbered.0 (held_of s person_place _ refl holds.means) answer) (rw c.deref.ensures.value at c.number_in.ensures))

@@ -7,10 +7,10 @@ use Rattle.sqlite.proofs.Callers.{survives_begin}
 use Rattle.hub_state.specs.State.{empty}
 use Rattle.hub_store.specs.Content.{CommitsState}
 use Rattle.hub_store.specs.Means.{TreesHold, Holds}
-use Rattle.hub_store.proofs.Left.{trees_hold}
-use Rattle.hub_store.proofs.Empty.{no_tables}
-use Rattle.hub_store.proofs.Runs.{committed_made}
-use Rattle.hub_store.proofs.Steps.{on_ok}
+use Rattle.hub_store.proofs.Shelf.Left.{trees_hold}
+use Rattle.hub_store.proofs.Rows.Empty.{no_tables}
+use Rattle.hub_store.proofs.Edits.Runs.{committed_made}
+use Rattle.hub_store.proofs.Edits.Steps.{on_ok}
 use Rattle.hub_store.proofs.create.make_store.Goals as goal
 
 pub returns-clause-made : goal.returns-clause-made

@@ -1,4 +1,4 @@
-use Rattle.hub_store.proofs.Compare.{bound_option}
+use Rattle.hub_store.proofs.Rows.Compare.{bound_option}
 use Rattle.hub_store.proofs.directory_edits.insert_pair.Goals as goal
 
 pub returns-clause-ran : goal.returns-clause-ran

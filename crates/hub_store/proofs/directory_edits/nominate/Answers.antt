@@ -1,12 +1,24 @@
-use Rattle.hub_state.specs.Edits.{edited}
-use Rattle.hub_state.specs.declared.edit.Edit.TheVariants.{Directory}
-use Rattle.circle.specs.declared.command.RowEdit.TheVariants.{SetNominated}
-use Rattle.hub_store.specs.Means.{Holds}
-use Rattle.hub_store.proofs.Changes.{nominates}
-use Rattle.hub_store.proofs.Steps.{made_by}
-use Rattle.hub_store.proofs.Texts.{set_nominated}
+use Rattle.std.proofs.Common.{◌==◌, refl, ◌∙◌}
+use Rattle.circle.specs.declared.directory.Account.{Account}
+use Rattle.hub_store.specs.Rows.{role_number}
+use Rattle.hub_store.proofs.Rows.Compare.{and-true, equal_numbers, cast_int, cast_null, cast_flag}
+use Rattle.hub_store.proofs.Rows.SetKinds.{exchanged_in}
+use Rattle.hub_store.proofs.Rows.Sets.{persons}
+use Rattle.hub_store.proofs.Rows.Texts.{set_nominated_is}
 use Rattle.hub_store.proofs.directory_edits.nominate.Goals as goal
 
 pub returns-clause-made : goal.returns-clause-made
 returns-clause-made g c s =
-    made_by g.S.Store set_nominated _ _ _ (λ db. Holds db s) (λ db. Holds db (edited (Directory (SetNominated c.args.person c.args.nominated)) s)) _ c.run.ensures.goes (λ clean inside. rw (c.params-to_sql.ensures, c.params-to_sql-2.ensures) at (c.run.ensures.ran clean inside)) (λ mid count h held. nominates mid _ c.args.person c.args.nominated count h s held)
+    exchanged_in g.S.Store persons s set_nominated_is _ _ _ c.run.ensures.goes
+    (λ clean inside. rw (c.params-to_sql.ensures, c.params-to_sql-2.ensures) at (c.run.ensures.ran clean inside))
+    (λ (x : Account). x.person.number == c.args.person)
+    (λ x. record x { person = record x.person { nominated = c.args.nominated } }) refl refl (λ l. refl)
+    (λ x. and-true _ ∙ equal_numbers x.person.number c.args.person)
+    (λ x. rw (
+      cast_int x.person.number,
+      cast_null,
+      cast_int x.person.org,
+      cast_int (role_number x.person.role),
+      cast_flag x.person.active,
+      cast_flag c.args.nominated,
+    ) refl) (λ x h. h)

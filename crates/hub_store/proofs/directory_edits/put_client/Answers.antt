@@ -1,12 +1,10 @@
-use Rattle.hub_state.specs.Edits.{edited}
-use Rattle.hub_state.specs.declared.edit.Edit.TheVariants.{Directory}
-use Rattle.circle.specs.declared.command.RowEdit.TheVariants.{PutClient}
-use Rattle.hub_store.specs.Means.{Holds}
-use Rattle.hub_store.proofs.Changes.{puts_client}
-use Rattle.hub_store.proofs.Steps.{made_by}
-use Rattle.hub_store.specs.Pairs.{put_pair}
+use Rattle.std.proofs.Common.{refl}
+use Rattle.hub_store.proofs.Rows.SetKinds.{put_into}
+use Rattle.hub_store.proofs.Rows.Sets.{clients, in_pairs}
+use Rattle.hub_store.proofs.Rows.Texts.{put_pair_is}
 use Rattle.hub_store.proofs.directory_edits.put_client.Goals as goal
 
 pub returns-clause-made : goal.returns-clause-made
 returns-clause-made g c s =
-    made_by g.S.Store put_pair _ _ _ (λ db. Holds db s) (λ db. Holds db (edited (Directory (PutClient c.args.row.now)) s)) _ c.insert_pair.ensures.goes (λ clean inside. c.insert_pair.ensures.ran clean inside) (λ mid count h held. puts_client mid _ c.args.row.now count h s held)
+    put_into g.S.Store (in_pairs clients) s put_pair_is _ _ _ c.insert_pair.ensures.goes c.insert_pair.ensures.ran
+    c.args.row.now refl tt

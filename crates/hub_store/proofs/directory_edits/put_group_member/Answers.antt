@@ -1,12 +1,10 @@
-use Rattle.hub_state.specs.Edits.{edited}
-use Rattle.hub_state.specs.declared.edit.Edit.TheVariants.{Directory}
-use Rattle.circle.specs.declared.command.RowEdit.TheVariants.{PutGroupMember}
-use Rattle.hub_store.specs.Means.{Holds}
-use Rattle.hub_store.proofs.Changes.{puts_group_member}
-use Rattle.hub_store.proofs.Steps.{made_by}
-use Rattle.hub_store.specs.Pairs.{put_pair}
+use Rattle.std.proofs.Common.{refl}
+use Rattle.hub_store.proofs.Rows.SetKinds.{put_into}
+use Rattle.hub_store.proofs.Rows.Sets.{group_members, in_pairs}
+use Rattle.hub_store.proofs.Rows.Texts.{put_pair_is}
 use Rattle.hub_store.proofs.directory_edits.put_group_member.Goals as goal
 
 pub returns-clause-made : goal.returns-clause-made
 returns-clause-made g c s =
-    made_by g.S.Store put_pair _ _ _ (λ db. Holds db s) (λ db. Holds db (edited (Directory (PutGroupMember c.args.row.now)) s)) _ c.insert_pair.ensures.goes (λ clean inside. rw (c.one_if.ensures) at (c.insert_pair.ensures.ran clean inside)) (λ mid count h held. puts_group_member mid _ c.args.row.now count h s held)
+    put_into g.S.Store (in_pairs group_members) s put_pair_is _ _ _ c.insert_pair.ensures.goes
+    (λ clean inside. rw (c.one_if.ensures) at (c.insert_pair.ensures.ran clean inside)) c.args.row.now refl tt

@@ -1,14 +1,27 @@
-use Rattle.hub_state.specs.Edits.{edited}
-use Rattle.hub_state.specs.declared.edit.Edit.TheVariants.{Directory}
-use Rattle.circle.specs.declared.command.RowEdit.TheVariants.{SetKey}
-use Rattle.hub_store.specs.Means.{Holds}
-use Rattle.hub_store.proofs.Changes.{sets_key}
-use Rattle.hub_store.proofs.Steps.{made_by}
-use Rattle.hub_store.proofs.Texts.{set_key}
+use Rattle.std.proofs.Common.{◌==◌, refl, ◌∙◌}
+use Rattle.circle.specs.declared.directory.Account.{Account}
+use Rattle.hub_store.specs.Rows.{role_number}
+use Rattle.hub_store.proofs.Rows.Compare.{and-true, equal_numbers, cast_int, cast_null, cast_flag}
+use Rattle.hub_store.proofs.Rows.SetKinds.{exchanged_in}
+use Rattle.hub_store.proofs.Rows.Sets.{persons}
+use Rattle.hub_store.proofs.Rows.Texts.{set_key_is}
 use Rattle.hub_store.proofs.directory_edits.set_key.Goals as goal
 
 pub returns-clause-made : goal.returns-clause-made
 returns-clause-made g c s =
-    made_by g.S.Store set_key _ _ _ (λ db. Holds db s) (λ db. Holds db (edited (Directory (SetKey c.args.person c.args.key.now)) s)) _ c.run.ensures.goes
-    (λ clean inside. rw (c.params-to_sql.ensures, c.params-to_sql-2.ensures, c.as_slice.ensures) at (c.run.ensures.ran clean inside))
-    (λ mid count h held. sets_key mid _ c.args.person c.args.key.now count h s held)
+    exchanged_in g.S.Store persons s set_key_is _ _ _ c.run.ensures.goes
+    (λ clean inside. rw (
+      c.params-to_sql.ensures,
+      c.params-to_sql-2.ensures,
+      c.as_slice.ensures,
+    ) at (c.run.ensures.ran clean inside))
+    (λ (x : Account). x.person.number == c.args.person) (λ x. record x { key = c.args.key.now }) refl refl (λ l. refl)
+    (λ x. and-true _ ∙ equal_numbers x.person.number c.args.person)
+    (λ x. rw (
+      cast_int x.person.number,
+      cast_null,
+      cast_int x.person.org,
+      cast_int (role_number x.person.role),
+      cast_flag x.person.active,
+      cast_flag x.person.nominated,
+    ) refl) (λ x h. h)

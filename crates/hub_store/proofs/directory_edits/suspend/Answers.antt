@@ -1,12 +1,24 @@
-use Rattle.hub_state.specs.Edits.{edited}
-use Rattle.hub_state.specs.declared.edit.Edit.TheVariants.{Directory}
-use Rattle.circle.specs.declared.command.RowEdit.TheVariants.{Suspend}
-use Rattle.hub_store.specs.Means.{Holds}
-use Rattle.hub_store.proofs.Changes.{suspends}
-use Rattle.hub_store.proofs.Steps.{made_by}
-use Rattle.hub_store.proofs.Texts.{set_active}
+use Rattle.std.proofs.Common.{◌==◌, false, refl, ◌∙◌}
+use Rattle.circle.specs.declared.directory.Account.{Account}
+use Rattle.hub_store.specs.Rows.{role_number}
+use Rattle.hub_store.proofs.Rows.Compare.{and-true, equal_numbers, cast_int, cast_null, cast_flag}
+use Rattle.hub_store.proofs.Rows.SetKinds.{exchanged_in}
+use Rattle.hub_store.proofs.Rows.Sets.{persons}
+use Rattle.hub_store.proofs.Rows.Texts.{set_active_is}
 use Rattle.hub_store.proofs.directory_edits.suspend.Goals as goal
 
 pub returns-clause-made : goal.returns-clause-made
 returns-clause-made g c s =
-    made_by g.S.Store set_active _ _ _ (λ db. Holds db s) (λ db. Holds db (edited (Directory (Suspend c.args.person)) s)) _ c.run.ensures.goes (λ clean inside. rw (c.params-to_sql.ensures, c.params-to_sql-2.ensures) at (c.run.ensures.ran clean inside)) (λ mid count h held. suspends mid _ c.args.person count h s held)
+    exchanged_in g.S.Store persons s set_active_is _ _ _ c.run.ensures.goes
+    (λ clean inside. rw (c.params-to_sql.ensures, c.params-to_sql-2.ensures) at (c.run.ensures.ran clean inside))
+    (λ (x : Account). x.person.number == c.args.person)
+    (λ x. record x { person = record x.person { active = false } }) refl refl (λ l. refl)
+    (λ x. and-true _ ∙ equal_numbers x.person.number c.args.person)
+    (λ x. rw (
+      cast_int x.person.number,
+      cast_null,
+      cast_int x.person.org,
+      cast_int (role_number x.person.role),
+      cast_flag false,
+      cast_flag x.person.nominated,
+    ) refl) (λ x h. h)

@@ -1,12 +1,15 @@
-use Rattle.hub_state.specs.Edits.{edited}
-use Rattle.hub_state.specs.declared.edit.Edit.TheVariants.{Directory}
-use Rattle.circle.specs.declared.command.RowEdit.TheVariants.{SetGroupActive}
-use Rattle.hub_store.specs.Means.{Holds}
-use Rattle.hub_store.proofs.Changes.{switches}
-use Rattle.hub_store.proofs.Steps.{made_by}
-use Rattle.hub_store.proofs.Texts.{set_group_active}
+use Rattle.std.proofs.Common.{◌==◌, refl, ◌∙◌}
+use Rattle.circle.specs.declared.directory.Group.{Group}
+use Rattle.hub_store.proofs.Rows.Compare.{and-true, equal_numbers, cast_int, cast_null, cast_flag}
+use Rattle.hub_store.proofs.Rows.SetKinds.{exchanged_in}
+use Rattle.hub_store.proofs.Rows.Sets.{groups}
+use Rattle.hub_store.proofs.Rows.Texts.{set_group_active_is}
 use Rattle.hub_store.proofs.directory_edits.switch.Goals as goal
 
 pub returns-clause-made : goal.returns-clause-made
 returns-clause-made g c s =
-    made_by g.S.Store set_group_active _ _ _ (λ db. Holds db s) (λ db. Holds db (edited (Directory (SetGroupActive c.args.group c.args.active)) s)) _ c.run.ensures.goes (λ clean inside. rw (c.params-to_sql.ensures, c.params-to_sql-2.ensures) at (c.run.ensures.ran clean inside)) (λ mid count h held. switches mid _ c.args.group c.args.active count h s held)
+    exchanged_in g.S.Store groups s set_group_active_is _ _ _ c.run.ensures.goes
+    (λ clean inside. rw (c.params-to_sql.ensures, c.params-to_sql-2.ensures) at (c.run.ensures.ran clean inside))
+    (λ (x : Group). x.number == c.args.group) (λ x. record x { active = c.args.active }) refl refl (λ l. refl)
+    (λ x. and-true _ ∙ equal_numbers x.number c.args.group)
+    (λ x. rw (cast_int x.number, cast_null, cast_int x.owner, cast_flag c.args.active) refl) (λ x h. h)

@@ -1,6 +1,6 @@
 use Rattle.std.proofs.Common.{◌≡◌, suc, length, false}
 use Rattle.hub_store.specs.inner.FeedsRows.{HasTaken}
-use Rattle.hub_store.proofs.Streaming.{IsFeeding}
+use Rattle.hub_store.proofs.LookUps.Streaming.{IsFeeding}
 use Rattle.hub_store.proofs.feed_rows.feed_rows.Given as goal
 
 abbrev pub invariant-rows : goal.invariant-rows

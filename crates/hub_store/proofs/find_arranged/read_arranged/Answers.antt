@@ -4,9 +4,9 @@ use Rattle.circle.specs.Reads.{arranged}
 use Rattle.hub_store.specs.inner.PairKinds.{pair_between, value_shown}
 use Rattle.hub_store.specs.inner.ShownPairs.{handling_shown}
 use Rattle.hub_store.specs.declared.pair_kind.PairKind.TheVariants as kind
-use Rattle.hub_store.proofs.DirectorySets.{arranged_rows}
-use Rattle.hub_store.proofs.Reading.{read_made}
-use Rattle.hub_store.proofs.PairRows.{reads_alone}
+use Rattle.hub_store.proofs.LookUps.DirectorySets.{arranged_rows}
+use Rattle.hub_store.proofs.LookUps.Reading.{read_made}
+use Rattle.hub_store.proofs.LookUps.PairRows.{reads_alone}
 use Rattle.hub_store.proofs.find_arranged.read_arranged.Goals as goal
 
 pub returns-clause-read : goal.returns-clause-read

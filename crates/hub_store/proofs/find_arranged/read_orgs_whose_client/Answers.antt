@@ -4,8 +4,8 @@ use Rattle.hub_store.specs.Pairs.{Pair}
 use Rattle.hub_store.specs.inner.PairKinds.{pairs_to}
 use Rattle.hub_store.specs.Rows.{client_pair}
 use Rattle.hub_store.specs.declared.pair_kind.PairKind.TheVariants as kind
-use Rattle.hub_store.proofs.Reading.{read_turned}
-use Rattle.hub_store.proofs.PairRows.{viewed_pairs}
+use Rattle.hub_store.proofs.LookUps.Reading.{read_turned}
+use Rattle.hub_store.proofs.LookUps.PairRows.{viewed_pairs}
 use Rattle.hub_store.proofs.find_arranged.read_orgs_whose_client.Goals as goal
 
 pub returns-clause-read : goal.returns-clause-read

@@ -3,13 +3,13 @@ use Rattle.sqlite_value.specs.declared.value.Value.TheVariants.{Int}
 use Rattle.sqlite.specs.Held.{state}
 use Rattle.circle.specs.Reads.{group_of}
 use Rattle.hub_store.specs.inner.ShownPairs.{group_shown}
-use Rattle.hub_store.proofs.Answering.{read_shown}
-use Rattle.hub_store.proofs.Finding.{reads_first}
-use Rattle.hub_store.proofs.GroupSets.{group_found}
-use Rattle.hub_store.proofs.Texts.{group_with_number, group_with_number_is, group_with_number_plain}
+use Rattle.hub_store.proofs.LookUps.Answering.{read_shown}
+use Rattle.hub_store.proofs.LookUps.Finding.{reads_first}
+use Rattle.hub_store.proofs.LookUps.GroupSets.{group_found}
+use Rattle.hub_store.proofs.Rows.Texts.{group_with_number_is}
 use Rattle.hub_store.proofs.find_groups.read_group.Goals as goal
 
 pub returns-clause-read : goal.returns-clause-read
 returns-clause-read g c =
-    read_shown g.S.Store group_with_number (Int (pos c.args.number) ∷ []) c.args.tx.now.conn.now c.ask.new.tx.conn.now c.in_ok-rows.rows.items _ _ _ c.first.result group_with_number_is group_with_number_plain c.ask.ensures.survives (λ clean. rw c.params-to_sql.ensures at (c.in_ok-rows.ensures.shown clean))
+    read_shown g.S.Store group_with_number_is (Int (pos c.args.number) ∷ []) c.args.tx.now.conn.now c.ask.new.tx.conn.now c.in_ok-rows.rows.items _ c.first.result c.ask.ensures.survives (λ clean. rw c.params-to_sql.ensures at (c.in_ok-rows.ensures.shown clean))
     (λ s holds sound answer. reads_first group_shown (group_of c.args.number s.directory) c.in_ok-rows.rows.items c.first.result (group_found (state g.S.Store c.args.tx.now.conn.now).now.trees s c.args.number c.in_ok-rows.rows.items sound holds.means answer) (rw c.deref.ensures.value at c.first.ensures))

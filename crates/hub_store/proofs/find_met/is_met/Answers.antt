@@ -1,4 +1,4 @@
-use Rattle.hub_store.proofs.Probing.{met_there}
+use Rattle.hub_store.proofs.LookUps.Probing.{met_there}
 use Rattle.hub_store.proofs.find_met.is_met.Goals as goal
 
 pub returns-in-Ok : goal.returns-in-Ok

@@ -2,8 +2,8 @@ use Rattle.std.proofs.Common.{◌≡◌, ◌==◌, is_some, ap, ◌∙◌}
 use Rattle.circle.specs.declared.directory.Account.{Account}
 use Rattle.circle.specs.Directory.{has_person}
 use Rattle.circle.specs.Reads.{person_in, person_of}
-use Rattle.hub_store.proofs.ByNumber.{some_passes}
-use Rattle.hub_store.proofs.Reading.{read_gives}
+use Rattle.hub_store.proofs.LookUps.ByNumber.{some_passes}
+use Rattle.hub_store.proofs.LookUps.Reading.{read_gives}
 use Rattle.hub_store.proofs.find_numbered.read_has_person.Goals as goal
 
 pub returns-clause-read : goal.returns-clause-read

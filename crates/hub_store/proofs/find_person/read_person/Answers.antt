@@ -3,13 +3,13 @@ use Rattle.sqlite_value.specs.declared.value.Value.TheVariants.{Blob}
 use Rattle.sqlite.specs.Held.{state}
 use Rattle.hub_state.specs.Reads.{person_by_key}
 use Rattle.hub_store.specs.inner.Shown.{person_shown}
-use Rattle.hub_store.proofs.Answering.{read_shown}
-use Rattle.hub_store.proofs.Finding.{reads_first}
-use Rattle.hub_store.proofs.Persons.{person_found}
-use Rattle.hub_store.proofs.Texts.{person_with_key, person_with_key_is, person_with_key_plain}
+use Rattle.hub_store.proofs.LookUps.Answering.{read_shown}
+use Rattle.hub_store.proofs.LookUps.Finding.{reads_first}
+use Rattle.hub_store.proofs.LookUps.Persons.{person_found}
+use Rattle.hub_store.proofs.Rows.Texts.{person_with_key_is}
 use Rattle.hub_store.proofs.find_person.read_person.Goals as goal
 
 pub returns-clause-read : goal.returns-clause-read
 returns-clause-read g c =
-    read_shown g.S.Store person_with_key (Blob c.args.key.now ∷ []) c.args.tx.now.conn.now c.ask.new.tx.conn.now c.in_ok-rows.rows.items _ _ _ c.first.result person_with_key_is person_with_key_plain c.ask.ensures.survives (λ clean. rw (c.params-to_sql.ensures, c.as_slice.ensures) at (c.in_ok-rows.ensures.shown clean))
+    read_shown g.S.Store person_with_key_is (Blob c.args.key.now ∷ []) c.args.tx.now.conn.now c.ask.new.tx.conn.now c.in_ok-rows.rows.items _ c.first.result c.ask.ensures.survives (λ clean. rw (c.params-to_sql.ensures, c.as_slice.ensures) at (c.in_ok-rows.ensures.shown clean))
     (λ s holds sound answer. reads_first person_shown (person_by_key c.args.key.now s) c.in_ok-rows.rows.items c.first.result (person_found (state g.S.Store c.args.tx.now.conn.now).now.trees s c.args.key.now _ sound holds.means answer) (rw c.deref.ensures.value at c.first.ensures))

@@ -5,7 +5,7 @@ use Rattle.hub_state.specs.Reads.{naming_of, its_recipients, shared_as, sharing_
 use Rattle.hub_state.specs.declared.request.Target.{Target}
 use Rattle.hub_state.specs.declared.look_ups.Shared.{Shared}
 use Rattle.hub_store.specs.inner.Queries.{IsReadInside}
-use Rattle.hub_store.proofs.Reading.{read_then, read_gives}
+use Rattle.hub_store.proofs.LookUps.Reading.{read_then, read_gives}
 use Rattle.hub_store.proofs.find_sharing.read_sharing.Goals as goal
 
 pub returns-in_ok-recipients-in-Some-clause-read : goal.returns-in_ok-recipients-in-Some-clause-read

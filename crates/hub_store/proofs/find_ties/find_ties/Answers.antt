@@ -4,7 +4,7 @@ use Rattle.hub_state.specs.State as core
 use Rattle.hub_state.specs.Reads.{ties_of}
 use Rattle.hub_state.specs.declared.look_ups.Ties.{Ties}
 use Rattle.hub_store.specs.inner.Queries.{IsReadOutside}
-use Rattle.hub_store.proofs.Answering.{rolled}
+use Rattle.hub_store.proofs.LookUps.Answering.{rolled}
 use Rattle.hub_store.proofs.find_ties.find_ties.Goals as goal
 
 pub returns-clause-answers : goal.returns-clause-answers

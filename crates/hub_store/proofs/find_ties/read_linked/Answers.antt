@@ -4,8 +4,8 @@ use Rattle.hub_store.specs.Pairs.{Pair}
 use Rattle.hub_store.specs.inner.PairKinds.{pairs_from, pairs_to}
 use Rattle.hub_store.specs.inner.ShownPairs.{AreRising, is_one_of, linked_with}
 use Rattle.hub_store.specs.declared.pair_kind.PairKind.TheVariants as kind
-use Rattle.hub_store.proofs.Reading.{read_then, read_gives}
-use Rattle.hub_store.proofs.Stepping.{found_above, found_below}
+use Rattle.hub_store.proofs.LookUps.Reading.{read_then, read_gives}
+use Rattle.hub_store.proofs.LookUps.Stepping.{found_above, found_below}
 use Rattle.hub_store.proofs.find_ties.read_linked.Goals as goal
 
 pub returns-then-have_common-clause-read : goal.returns-then-have_common-clause-read

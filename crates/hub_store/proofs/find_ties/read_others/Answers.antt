@@ -2,9 +2,9 @@ use Rattle.std.proofs.Common.{ℕ, get_or, Ok, true, false, rules, refl, sym, ap
 use Rattle.std.specs.List.{list_any}
 use Rattle.circle.specs.Reads.{communities_of}
 use Rattle.hub_store.specs.inner.ShownPairs.{AreRising, is_one_of, linked_with, are_linked}
-use Rattle.hub_store.proofs.DirectorySets.{communities_rise}
-use Rattle.hub_store.proofs.Reading.{read_then, read_gives}
-use Rattle.hub_store.proofs.Stepping.{passed_over, settled, none_left}
+use Rattle.hub_store.proofs.LookUps.DirectorySets.{communities_rise}
+use Rattle.hub_store.proofs.LookUps.Reading.{read_then, read_gives}
+use Rattle.hub_store.proofs.LookUps.Stepping.{passed_over, settled, none_left}
 use Rattle.hub_store.proofs.find_ties.read_others.Goals as goal
 
 pub loop-community-init : goal.loop-community-init

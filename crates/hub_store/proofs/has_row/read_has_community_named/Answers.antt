@@ -5,19 +5,19 @@ use Rattle.sqlite.specs.Held.{state}
 use Rattle.sqlite_sql.specs.Term.{col}
 use Rattle.circle.specs.declared.directory.Community.{Community}
 use Rattle.hub_store.specs.Rows.{community_row}
-use Rattle.hub_store.proofs.Answering.{read_shown}
-use Rattle.hub_store.proofs.Compare.{and_true, equal_texts}
-use Rattle.hub_store.proofs.Forms.{is_param}
-use Rattle.hub_store.proofs.Statements.{keeps}
-use Rattle.hub_store.proofs.Texts.{community_with_name, community_with_name_is, community_with_name_plain}
-use Rattle.hub_store.proofs.Whether.{set_shows}
+use Rattle.hub_store.proofs.LookUps.Answering.{read_shown}
+use Rattle.hub_store.proofs.Rows.Compare.{and-true, equal_texts}
+use Rattle.hub_store.proofs.Rows.Forms.{is_param}
+use Rattle.hub_store.proofs.Rows.Statements.{keeps}
+use Rattle.hub_store.proofs.Rows.Texts.{community_with_name_is}
+use Rattle.hub_store.proofs.LookUps.Whether.{set_shows}
 use Rattle.hub_store.proofs.has_row.read_has_community_named.Goals as goal
-use Rattle.hub_store.proofs.Places.{community_place, community_tree, held_of}
+use Rattle.hub_store.proofs.Rows.Places.{community_place, community_tree, held_of}
 
 pub returns-clause-read : goal.returns-clause-read
 returns-clause-read g c =
     let terms = is_param 2 0 ∷ [] in
     let params = Text c.args.name.now ∷ [] in
-    read_shown g.S.Store community_with_name params c.args.tx.now.conn.now c.ask.new.tx.conn.now c.in_ok-rows.rows.items _ _ _ (Ok c.is_any.result) community_with_name_is community_with_name_plain c.ask.ensures.survives (λ clean. rw c.params-to_sql.ensures at (c.in_ok-rows.ensures.shown clean))
+    read_shown g.S.Store community_with_name_is params c.args.tx.now.conn.now c.ask.new.tx.conn.now c.in_ok-rows.rows.items _ (Ok c.is_any.result) c.ask.ensures.survives (λ clean. rw c.params-to_sql.ensures at (c.in_ok-rows.ensures.shown clean))
     (λ s holds sound answer. rw c.deref.ensures.value at c.is_any.ensures
-    ∙ set_shows (state g.S.Store c.args.tx.now.conn.now).now.trees community_tree (λ r. r) community_row s.directory.communities (λ (o : Community). bytes_eq o.name c.args.name.now) terms (col 1 0 ∷ []) params (keeps terms params) c.in_ok-rows.rows.items (λ r. refl) (λ o. and_true _ ∙ equal_texts o.name c.args.name.now) (held_of s community_place _ refl holds.means) answer)
+    ∙ set_shows (state g.S.Store c.args.tx.now.conn.now).now.trees community_tree (λ r. r) community_row s.directory.communities (λ (o : Community). bytes_eq o.name c.args.name.now) terms (col 1 0 ∷ []) params (keeps terms params) c.in_ok-rows.rows.items (λ r. refl) (λ o. and-true _ ∙ equal_texts o.name c.args.name.now) (held_of s community_place _ refl holds.means) answer)

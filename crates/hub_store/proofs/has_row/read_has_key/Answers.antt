@@ -4,8 +4,8 @@ use Rattle.circle.specs.declared.directory.Account.{Account}
 use Rattle.circle.specs.Directory.{has_key}
 use Rattle.circle.specs.Reads.{person_in}
 use Rattle.hub_state.specs.Reads.{person_by_key}
-use Rattle.hub_store.proofs.ByNumber.{some_passes}
-use Rattle.hub_store.proofs.Reading.{read_gives}
+use Rattle.hub_store.proofs.LookUps.ByNumber.{some_passes}
+use Rattle.hub_store.proofs.LookUps.Reading.{read_gives}
 use Rattle.hub_store.proofs.has_row.read_has_key.Goals as goal
 
 pub returns-clause-read : goal.returns-clause-read

@@ -3,9 +3,9 @@ use Rattle.circle.specs.declared.directory.Account.{Account}
 use Rattle.circle.specs.declared.directory.Person.{Person}
 use Rattle.circle.specs.Directory.{account_number, has_nominated}
 use Rattle.circle.specs.Reads.{person_in, person_of}
-use Rattle.hub_store.proofs.Finding.{once_numbered}
-use Rattle.hub_store.proofs.Reading.{read_gives}
-use Rattle.hub_store.proofs.Whether.{one_passes}
+use Rattle.hub_store.proofs.LookUps.Finding.{once_numbered}
+use Rattle.hub_store.proofs.LookUps.Reading.{read_gives}
+use Rattle.hub_store.proofs.LookUps.Whether.{one_passes}
 use Rattle.hub_store.proofs.has_row.read_has_nominated.Goals as goal
 
 pub returns-clause-read : goal.returns-clause-read

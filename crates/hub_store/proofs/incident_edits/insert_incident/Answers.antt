@@ -6,8 +6,8 @@ use Rattle.hub_state.specs.Edits.{edited}
 use Rattle.hub_state.specs.declared.edit.Edit.TheVariants.{PutIncident}
 use Rattle.hub_store.specs.Rows.{named_row}
 use Rattle.hub_store.specs.Items.{item_row, items_of}
-use Rattle.hub_store.proofs.Changes.{put_by-same}
-use Rattle.hub_store.proofs.Between.{as_between, makes_from}
+use Rattle.hub_store.proofs.Rows.SetKinds.{put_by-same}
+use Rattle.hub_store.proofs.Edits.Between.{as_between, makes_from}
 use Rattle.hub_store.proofs.incident_edits.insert_incident.Goals as goal
 
 pub returns-clause-made : goal.returns-clause-made

@@ -7,10 +7,11 @@ use Rattle.hub_state.specs.declared.edit.Edit.TheVariants.{PutIncident}
 use Rattle.hub_store.specs.Items.{items_from, items_in, items_of, item_row}
 use Rattle.hub_store.specs.Rows.{named_row}
 use Rattle.hub_store.specs.Means.{HoldsBetween}
-use Rattle.hub_store.proofs.Between.{makes_to}
-use Rattle.hub_store.proofs.Changes.{put_by-same, with_incident}
-use Rattle.hub_store.proofs.Items.{items_put}
-use Rattle.hub_store.proofs.Steps.{kept_itself, survives_itself, makes_then}
+use Rattle.hub_store.proofs.Edits.Between.{makes_to}
+use Rattle.hub_store.proofs.Edits.Changes.{with_incident}
+use Rattle.hub_store.proofs.Rows.SetKinds.{put_by-same}
+use Rattle.hub_store.proofs.Rows.Items.{items_put}
+use Rattle.hub_store.proofs.Edits.Steps.{kept_itself, survives_itself, makes_then}
 use Rattle.hub_store.proofs.incident_edits.put_incident.Goals as goal
 
 pub returns-in_err-lines-clause-made : goal.returns-in_err-lines-clause-made

@@ -1,11 +1,16 @@
-use Rattle.hub_state.specs.Edits.{edited}
-use Rattle.hub_state.specs.declared.edit.Edit.TheVariants.{PutRecipient}
-use Rattle.hub_store.specs.Means.{Holds}
-use Rattle.hub_store.proofs.Changes.{puts_recipient}
-use Rattle.hub_store.proofs.Steps.{made_by}
-use Rattle.hub_store.proofs.Texts.{put_recipient}
+use Rattle.std.proofs.Common.{refl}
+use Rattle.hub_store.proofs.Rows.SetKinds.{put_into}
+use Rattle.hub_store.proofs.Rows.Sets.{recipients}
+use Rattle.hub_store.proofs.Rows.Texts.{put_recipient_is}
 use Rattle.hub_store.proofs.incident_edits.put_recipient.Goals as goal
 
 pub returns-clause-made : goal.returns-clause-made
 returns-clause-made g c s =
-    made_by g.S.Store put_recipient _ _ _ (λ db. Holds db s) (λ db. Holds db (edited (PutRecipient c.args.recipient.now) s)) _ c.run.ensures.goes (λ clean inside. rw (c.params-to_sql.ensures, c.params-to_sql-2.ensures, c.params-to_sql-3.ensures, c.target_key-kind.ensures) at (c.run.ensures.ran clean inside)) (λ mid count h held. puts_recipient mid _ c.args.recipient.now count h s held)
+    put_into g.S.Store recipients s put_recipient_is _ _ _ c.run.ensures.goes
+    (λ clean inside. rw (
+      c.params-to_sql.ensures,
+      c.params-to_sql-2.ensures,
+      c.params-to_sql-3.ensures,
+      c.target_key-kind.ensures,
+    ) at (c.run.ensures.ran clean inside))
+    c.args.recipient.now refl tt

@@ -1,11 +1,22 @@
-use Rattle.hub_state.specs.Edits.{edited}
-use Rattle.hub_state.specs.declared.edit.Edit.TheVariants.{TakeGate}
-use Rattle.hub_store.specs.Means.{Holds}
-use Rattle.hub_store.proofs.Changes.{takes_gate}
-use Rattle.hub_store.proofs.Steps.{made_by}
-use Rattle.hub_store.proofs.Texts.{take_gate}
+use Rattle.std.proofs.Common.{pos, [], ◌∷◌, not, ap}
+use Rattle.sqlite_value.specs.declared.value.Value.TheVariants.{Int, Text}
+use Rattle.iodef_tree.specs.Pointer.{pointer_text}
+use Rattle.hub_state.specs.State.{is_gate_at}
+use Rattle.hub_store.specs.Rows.{gate_row}
+use Rattle.hub_store.proofs.Edits.Changes.{gate_test}
+use Rattle.hub_store.proofs.Rows.Compare.{begins, past}
+use Rattle.hub_store.proofs.Rows.Found.{filter_rows}
+use Rattle.hub_store.proofs.Rows.SetKinds.{taken_from}
+use Rattle.hub_store.proofs.Rows.Sets.{gates}
+use Rattle.hub_store.proofs.Rows.Texts.{take_gate_is}
 use Rattle.hub_store.proofs.incident_edits.remove_gate.Goals as goal
 
 pub returns-clause-made : goal.returns-clause-made
 returns-clause-made g c is s =
-    made_by g.S.Store take_gate _ _ _ (λ db. Holds db s) (λ db. Holds db (edited (TakeGate c.args.key.now) s)) _ c.run.ensures.goes (λ clean inside. rw (c.params-to_sql.ensures, c.params-to_sql-2.ensures, is) at (c.run.ensures.ran clean inside)) (λ mid count h held. takes_gate mid _ c.args.key.now count h s held)
+    let key = c.args.key.now in
+    let params = Int (pos key.incident) ∷ Text (pointer_text key.path) ∷ [] in
+    taken_from g.S.Store gates s take_gate_is _ _ _ c.run.ensures.goes
+    (λ clean inside. rw (c.params-to_sql.ensures, c.params-to_sql-2.ensures, is) at (c.run.ensures.ran clean inside))
+    (begins 0 params) (is_gate_at key) (past 0 (0 ∷ 1 ∷ []) params)
+    (filter_rows gate_row (λ r. not (begins 0 params r)) (λ x. not ((is_gate_at key) x))
+    (λ x. ap not (gate_test key x)) s.gates)

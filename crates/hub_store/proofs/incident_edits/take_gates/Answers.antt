@@ -1,10 +1,19 @@
-use Rattle.hub_store.specs.Means.{Holds}
-use Rattle.hub_store.proofs.Changes.{takes_gates}
-use Rattle.hub_store.proofs.Steps.{made_by}
-use Rattle.hub_store.proofs.Texts.{take_gates}
-use Rattle.hub_store.specs.inner.Partly.{without_gates}
+use Rattle.std.proofs.Common.{pos, [], ◌∷◌, ◌==◌, not, ap, ◌∙◌}
+use Rattle.sqlite_value.specs.declared.value.Value.TheVariants.{Int}
+use Rattle.hub_store.specs.Rows.{gate_row}
+use Rattle.hub_store.proofs.Rows.Compare.{begins, and-true, equal_numbers, past}
+use Rattle.hub_store.proofs.Rows.Found.{filter_rows}
+use Rattle.hub_store.proofs.Rows.SetKinds.{taken_from}
+use Rattle.hub_store.proofs.Rows.Sets.{gates}
+use Rattle.hub_store.proofs.Rows.Texts.{take_gates_is}
 use Rattle.hub_store.proofs.incident_edits.take_gates.Goals as goal
 
 pub returns-clause-made : goal.returns-clause-made
 returns-clause-made g c s =
-    made_by g.S.Store take_gates _ _ _ (λ db. Holds db s) (λ db. Holds db (without_gates c.args.incident s)) _ c.run.ensures.goes (λ clean inside. rw (c.params-to_sql.ensures) at (c.run.ensures.ran clean inside)) (λ mid count h held. takes_gates mid _ c.args.incident count h s held)
+    let n = c.args.incident in
+    let params = Int (pos n) ∷ [] in
+    taken_from g.S.Store gates s take_gates_is _ _ _ c.run.ensures.goes
+    (λ clean inside. rw (c.params-to_sql.ensures) at (c.run.ensures.ran clean inside))
+    (begins 0 params) (λ x. x.incident == n) (past 0 (0 ∷ []) params)
+    (filter_rows gate_row (λ r. not (begins 0 params r)) (λ x. not (x.incident == n))
+    (λ x. ap not (and-true _ ∙ equal_numbers x.incident n)) s.gates)

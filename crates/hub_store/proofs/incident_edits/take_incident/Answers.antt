@@ -2,7 +2,7 @@ use Rattle.std.proofs.Common.{map, filter, not, ◌==◌, rules}
 use Rattle.hub_store.specs.Items.{Item, items_of, item_row}
 use Rattle.hub_store.specs.Rows.{named_row}
 use Rattle.hub_store.specs.Means.{HoldsBetween}
-use Rattle.hub_store.proofs.Steps.{makes_then}
+use Rattle.hub_store.proofs.Edits.Steps.{makes_then}
 use Rattle.hub_store.proofs.incident_edits.take_incident.Goals as goal
 
 pub returns-in_err-take_lines-clause-made : goal.returns-in_err-take_lines-clause-made

@@ -1,7 +1,7 @@
 use Rattle.std.proofs.Common.{◌≡◌, take, ap, ◌∙◌, arith}
 use Rattle.std.proofs.lemmas.Grind.{common_steps}
 use Rattle.hub_state.specs.Edits.{edited}
-use Rattle.hub_store.proofs.Adding.{put_none, put_more}
+use Rattle.hub_store.proofs.LookUps.Adding.{put_none, put_more}
 use Rattle.hub_store.proofs.into_edit.put_shown.Goals as goal
 
 pub loop-row-init : goal.loop-row-init

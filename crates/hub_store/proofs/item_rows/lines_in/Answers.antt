@@ -2,7 +2,7 @@ use Rattle.std.proofs.Common.{◌≡◌, ◌++◌, [], ◌∷◌, ◌∙◌, tak
 use Rattle.std.proofs.lemmas.List.{take_more}
 use Rattle.hub_store.specs.Items.{placed_from}
 use Rattle.hub_store.specs.inner.Shown.{ShowsAll, ShowsPlaced}
-use Rattle.hub_store.proofs.AtPlaces.{placed_more}
+use Rattle.hub_store.proofs.LookUps.AtPlaces.{placed_more}
 use Rattle.hub_store.proofs.item_rows.lines_in.Goals as goal
 
 pub loop-row-preserved : goal.loop-row-preserved

@@ -1,9 +1,8 @@
-use Rattle.std.proofs.Common.{◌≡◌, ◌≤◌, ◌<◌, Ok, arith, rules}
-use Rattle.sqlite.specs.Held.{state}
+use Rattle.std.proofs.Common.{◌≡◌, arith, rules}
 use Rattle.hub_store.specs.Layout.{newest}
 use Rattle.hub_store.specs.Means.{HoldsAs}
-use Rattle.hub_store.proofs.Inside.{goes_then}
-use Rattle.hub_store.proofs.Steps.{makes_start, makes_then, fails_then, fails_passed}
+use Rattle.hub_store.proofs.Edits.Inside.{goes_then}
+use Rattle.hub_store.proofs.Edits.Steps.{makes_then, fails_then, fails_passed, goes_passed, makes_passed}
 use Rattle.hub_store.proofs.migrate.go_on.Goals as goal
 
 pub loop-from-preserved : goal.loop-from-preserved
@@ -15,14 +14,10 @@ loop-from-preserved g c = record {
 }
 
 pub returns-in_err-go_next-clause-goes : goal.returns-in_err-go_next-clause-goes
-returns-in_err-go_next-clause-goes g c =
-    let whole = goes_then _ _ _ _ _ c.loop-from.invariant.goes c.in_err-go_next.ensures.goes in
-    record { kept = whole.kept; inside = λ _ _. search rules; survives = whole.survives }
+returns-in_err-go_next-clause-goes g c = goes_passed c.from_residual.ensures.1 (goes_then _ _ _ _ _ c.loop-from.invariant.goes c.in_err-go_next.ensures.goes)
 
 pub returns-in_err-go_next-clause-made : goal.returns-in_err-go_next-clause-made
-returns-in_err-go_next-clause-made g c low high s =
-    let whole = goes_then _ _ _ _ _ c.loop-from.invariant.goes c.in_err-go_next.ensures.goes in
-    record { goes = record { kept = whole.kept; inside = λ _ _. search rules; survives = whole.survives }; made = λ _ _ _. search rules }
+returns-in_err-go_next-clause-made g c low high s = makes_passed c.from_residual.ensures.1 (goes_then _ _ _ _ _ c.loop-from.invariant.goes c.in_err-go_next.ensures.goes)
 
 pub returns-in_err-go_next-clause-cause : goal.returns-in_err-go_next-clause-cause
 returns-in_err-go_next-clause-cause g c low high s sound taken =

@@ -1,19 +1,15 @@
-use Rattle.std.proofs.Common.{[], rules}
+use Rattle.std.proofs.Common.{[]}
 use Rattle.hub_state.specs.State.{empty}
 use Rattle.hub_store.specs.Parts.{HoldsParts}
 use Rattle.hub_store.specs.Layout.{tables_2}
-use Rattle.hub_store.proofs.Steps.{makes_then, fails_then, fails_passed}
+use Rattle.hub_store.proofs.Edits.Steps.{makes_then, fails_then, fails_passed, goes_passed, makes_passed}
 use Rattle.hub_store.proofs.migrate.move_incidents.Goals as goal
 
 pub returns-in_err-create_incident-clause-goes : goal.returns-in_err-create_incident-clause-goes
-returns-in_err-create_incident-clause-goes g c =
-    let one = c.in_err-create_incident.ensures.made empty [] in
-    record { kept = one.goes.kept; inside = λ _ inside. search rules; survives = one.goes.survives }
+returns-in_err-create_incident-clause-goes g c = goes_passed c.from_residual.ensures.1 (c.in_err-create_incident.ensures.made empty []).goes
 
 pub returns-in_err-create_incident-clause-made : goal.returns-in_err-create_incident-clause-made
-returns-in_err-create_incident-clause-made g c s items =
-    let one = c.in_err-create_incident.ensures.made s items in
-    record { goes = record { kept = one.goes.kept; inside = λ _ inside. search rules; survives = one.goes.survives }; made = λ _ _ before. search rules }
+returns-in_err-create_incident-clause-made g c s items = makes_passed c.from_residual.ensures.1 (c.in_err-create_incident.ensures.made s items).goes
 
 pub returns-clause-goes : goal.returns-clause-goes
 returns-clause-goes g c = (makes_then _ _ _ _ (HoldsParts (tables_2 1 [] [] empty)) _ _ _ (c.in_ok-create_incident.ensures.made empty []) (c.put_back.ensures.made empty [])).goes

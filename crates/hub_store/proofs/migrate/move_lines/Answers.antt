@@ -1,4 +1,4 @@
-use Rattle.std.proofs.Common.{[], map, Ok, rules}
+use Rattle.std.proofs.Common.{[], map, Ok}
 use Rattle.sqlite.specs.Held.{state}
 use Rattle.hub_state.specs.State.{empty}
 use Rattle.hub_store.specs.Items.{items_of, item_row}
@@ -6,25 +6,20 @@ use Rattle.hub_store.specs.inner.Beside.{HoldsBeside}
 use Rattle.hub_store.specs.Layout.{parts_1}
 use Rattle.hub_store.specs.inner.Makes.{Makes}
 use Rattle.hub_store.specs.Parts.{HoldsParts}
-use Rattle.hub_store.proofs.Inside.{goes_then}
-use Rattle.hub_store.proofs.Steps.{clean_before, fails_then, fails_passed}
+use Rattle.hub_store.proofs.Edits.Inside.{goes_then}
+use Rattle.hub_store.proofs.Edits.Steps.{clean_before, fails_then, fails_passed, goes_passed}
 use Rattle.hub_store.proofs.migrate.move_lines.Goals as goal
 
 pub returns-in_err-create_item-clause-goes : goal.returns-in_err-create_item-clause-goes
-returns-in_err-create_item-clause-goes g c =
-    let one = (c.in_err-create_item.ensures.made empty).goes in
-    record { kept = one.kept; inside = λ _ _. search rules; survives = one.survives }
+returns-in_err-create_item-clause-goes g c = goes_passed c.from_residual.ensures.1 (c.in_err-create_item.ensures.made empty).goes
 
 pub returns-in_err-kept-clause-goes : goal.returns-in_err-kept-clause-goes
-returns-in_err-kept-clause-goes g c =
-    let whole = goes_then _ _ _ _ _ (c.in_ok-create_item.ensures.made empty).goes c.in_err-kept.ensures.goes in
-    record { kept = whole.kept; inside = λ _ _. search rules; survives = whole.survives }
+returns-in_err-kept-clause-goes g c = goes_passed c.from_residual-in_err-kept.ensures.1 (goes_then _ _ _ _ _ (c.in_ok-create_item.ensures.made empty).goes c.in_err-kept.ensures.goes)
 
 pub returns-in_err-drop_incident-clause-goes : goal.returns-in_err-drop_incident-clause-goes
 returns-in_err-drop_incident-clause-goes g c =
     let first = goes_then _ _ _ _ _ (c.in_ok-create_item.ensures.made empty).goes c.in_ok-kept.ensures.goes in
-    let whole = goes_then _ _ _ _ _ first (c.in_err-drop_incident.ensures.made empty []).goes in
-    record { kept = whole.kept; inside = λ _ _. search rules; survives = whole.survives }
+    goes_passed c.from_residual-in_err-drop_incident.ensures.1 (goes_then _ _ _ _ _ first (c.in_err-drop_incident.ensures.made empty []).goes)
 
 pub returns-clause-goes : goal.returns-clause-goes
 returns-clause-goes g c =

@@ -4,18 +4,18 @@ use Rattle.hub_state.specs.Documents.{Lines}
 use Rattle.hub_store.specs.Items.{items_in, item_row}
 use Rattle.hub_store.specs.inner.Moving.{HoldsMoved, HoldsNext, incidents_up_to}
 use Rattle.hub_store.specs.inner.PutsLines.{PutsLines, HasMore}
-use Rattle.hub_store.proofs.Inside.{goes_then}
-use Rattle.hub_store.proofs.Movable.{lines_stand}
-use Rattle.hub_store.proofs.Moved.{next_more}
-use Rattle.hub_store.proofs.MovedOn.{one_moved, none_left}
-use Rattle.hub_store.proofs.Steps.{clean_before, fails_then, fails_passed}
+use Rattle.hub_store.proofs.Edits.Inside.{goes_then}
+use Rattle.hub_store.proofs.Versions.Movable.{lines_stand}
+use Rattle.hub_store.proofs.Versions.Moved.{next_more}
+use Rattle.hub_store.proofs.Versions.MovedOn.{one_moved, none_left}
+use Rattle.hub_store.proofs.Edits.Steps.{clean_before, fails_then, fails_passed, goes_passed}
 use Rattle.hub_store.proofs.migrate.move_next.Goals as goal
 
 pub returns-in_default-clause-moved : goal.returns-in_default-clause-moved
 returns-in_default-clause-moved g c clean inside s has before =
     let read = c.in_ok-incident.ensures in
     let none : c.in_ok-incident.field-0 ≡ None = search rules in
-    none_left _ c.args.number _ s (sym none ∙ read.read clean s _ has before.moved) (record { moved = (read.same s _).made clean inside before.moved; are_kept = before.are_kept })
+    none_left _ c.args.number _ s has.sound (sym none ∙ read.read clean s _ has before.moved) (record { moved = (read.same s _).made clean inside before.moved; are_kept = before.are_kept })
 
 pub returns-in_err-lines-clause-goes : goal.returns-in_err-lines-clause-goes
 returns-in_err-lines-clause-goes g c =
@@ -23,9 +23,7 @@ returns-in_err-lines-clause-goes g c =
     record { kept = one.kept; inside = λ _ _. search rules; survives = one.survives }
 
 pub returns-in_err-put_lines-clause-goes : goal.returns-in_err-put_lines-clause-goes
-returns-in_err-put_lines-clause-goes g c =
-    let whole = goes_then _ _ _ _ _ c.in_ok-incident.ensures.goes c.in_err-put_lines.ensures.puts.goes in
-    record { kept = whole.kept; inside = λ _ _. search rules; survives = whole.survives }
+returns-in_err-put_lines-clause-goes g c = goes_passed c.from_residual-in_err-put_lines.ensures.1 (goes_then _ _ _ _ _ c.in_ok-incident.ensures.goes c.in_err-put_lines.ensures.puts.goes)
 
 pub returns-in_err-push-clause-goes : goal.returns-in_err-push-clause-goes
 returns-in_err-push-clause-goes g c =

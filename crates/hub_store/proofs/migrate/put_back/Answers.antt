@@ -1,4 +1,5 @@
 use Rattle.std.proofs.Common.{◌≡◌, ◌+◌, ◌++◌, [], map, take, drop, take-append-drop, sym, ap, subst, ◌∙◌, arith, rules}
+use Rattle.hub_store.proofs.Edits.Inside.{goes_then}
 use Rattle.std.proofs.lemmas.List.{map-append}
 use Rattle.std.proofs.lemmas.Grind.{common_steps}
 use Rattle.hub_state.specs.State.{empty}
@@ -6,9 +7,9 @@ use Rattle.hub_store.specs.inner.Beside.{CanName}
 use Rattle.hub_store.specs.Parts.{HoldsParts}
 use Rattle.hub_store.specs.Rows.{naming_row_2}
 use Rattle.hub_store.specs.Layout.{tables_2}
-use Rattle.hub_store.proofs.Standing.{first_names}
-use Rattle.hub_store.proofs.Steps.{makes_then, fails_then, fails_passed}
-use Rattle.hub_store.proofs.Migrating.{one_more}
+use Rattle.hub_store.proofs.Versions.Standing.{first_names}
+use Rattle.hub_store.proofs.Edits.Steps.{makes_then, fails_then, fails_passed, goes_passed, makes_passed}
+use Rattle.hub_store.proofs.Versions.Migrating.{one_more}
 use Rattle.hub_store.proofs.migrate.put_back.Goals as goal
 
 pub loop-naming-preserved : goal.loop-naming-preserved
@@ -22,14 +23,12 @@ loop-naming-preserved g c = record {
 pub returns-in_err-put_naming_2-clause-goes : goal.returns-in_err-put_naming_2-clause-goes
 returns-in_err-put_naming_2-clause-goes g c =
     let same = one_more naming_row_2 c.args.kept.now c.loop-naming.naming-index c.naming-item.result c.loop-naming-test.true c.naming-item.is in
-    let whole = makes_then _ _ _ _ (HoldsParts (tables_2 1 [] (map naming_row_2 (take c.loop-naming.naming-index c.args.kept.now)) empty)) _ tt _ (c.loop-naming.invariant.made empty []) (c.in_err-put_naming_2.ensures.moved empty [] (map naming_row_2 (take c.loop-naming.naming-index c.args.kept.now)) (map naming_row_2 (take (c.loop-naming.naming-index + 1) c.args.kept.now)) same) in
-    record { kept = whole.goes.kept; inside = λ _ inside. search rules; survives = whole.goes.survives }
+    goes_passed c.from_residual.ensures.1 (goes_then _ _ _ _ _ (c.loop-naming.invariant.made empty []).goes (c.in_err-put_naming_2.ensures.moved empty [] _ _ same).goes)
 
 pub returns-in_err-put_naming_2-clause-made : goal.returns-in_err-put_naming_2-clause-made
 returns-in_err-put_naming_2-clause-made g c s items =
     let same = one_more naming_row_2 c.args.kept.now c.loop-naming.naming-index c.naming-item.result c.loop-naming-test.true c.naming-item.is in
-    let whole = makes_then _ _ _ _ (HoldsParts (tables_2 1 items (map naming_row_2 (take c.loop-naming.naming-index c.args.kept.now)) s)) _ tt _ (c.loop-naming.invariant.made s items) (c.in_err-put_naming_2.ensures.moved s items (map naming_row_2 (take c.loop-naming.naming-index c.args.kept.now)) (map naming_row_2 (take (c.loop-naming.naming-index + 1) c.args.kept.now)) same) in
-    record { goes = record { kept = whole.goes.kept; inside = λ _ inside. search rules; survives = whole.goes.survives }; made = λ _ _ before. search rules }
+    makes_passed c.from_residual.ensures.1 (goes_then _ _ _ _ _ (c.loop-naming.invariant.made s items).goes (c.in_err-put_naming_2.ensures.moved s items _ _ same).goes)
 
 pub returns-clause-goes : goal.returns-clause-goes
 returns-clause-goes g c = (c.loop-naming.invariant.made empty []).goes

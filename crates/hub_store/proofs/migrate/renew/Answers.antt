@@ -12,11 +12,11 @@ use Rattle.hub_state.specs.State.{State}
 use Rattle.hub_store.specs.Content.{HasAs, CommitsState}
 use Rattle.hub_store.specs.Means.{TreesHold, Holds}
 use Rattle.hub_store.specs.Failing.{HasReason}
-use Rattle.hub_store.proofs.Causes.{reason_after, commit_reason}
-use Rattle.hub_store.proofs.Renewing.{probe_fails}
-use Rattle.hub_store.proofs.Left.{trees_hold}
-use Rattle.hub_store.proofs.Runs.{committed_made, ready}
-use Rattle.hub_store.proofs.Steps.{on_ok, on_any, survives_on, err_passed}
+use Rattle.hub_store.proofs.Versions.Causes.{reason_after, commit_reason}
+use Rattle.hub_store.proofs.Versions.Renewing.{probe_fails}
+use Rattle.hub_store.proofs.Shelf.Left.{trees_hold}
+use Rattle.hub_store.proofs.Edits.Runs.{committed_made, ready}
+use Rattle.hub_store.proofs.Edits.Steps.{on_ok, on_any, survives_on, err_passed}
 use Rattle.hub_store.proofs.migrate.renew.Goals as goal
 
 pub returns-clause-made : goal.returns-clause-made

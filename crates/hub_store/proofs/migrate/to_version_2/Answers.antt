@@ -1,4 +1,4 @@
-use Rattle.std.proofs.Common.{List, [], map, drop, Ok, rules, refl, sym, subst, ◌∙◌}
+use Rattle.std.proofs.Common.{List, [], map, drop, Ok, refl, sym, subst, ◌∙◌}
 use Rattle.sqlite_value.specs.Order.{Row}
 use Rattle.sqlite.specs.Held.{state}
 use Rattle.hub_state.specs.State.{State}
@@ -9,10 +9,10 @@ use Rattle.hub_store.specs.inner.Makes.{Makes}
 use Rattle.hub_store.specs.Means.{HoldsAs}
 use Rattle.hub_store.specs.Rows.{named_row_2, naming_row_2}
 use Rattle.hub_store.specs.Parts.{Part, HoldsParts}
-use Rattle.hub_store.proofs.Inside.{goes_then}
-use Rattle.hub_store.proofs.Movable.{names_stand}
-use Rattle.hub_store.proofs.MovedOn.{tables_of_1, texts_of_1, held_as_2, rows_of_namings}
-use Rattle.hub_store.proofs.Steps.{on_ok, clean_before, fails_then, fails_passed}
+use Rattle.hub_store.proofs.Edits.Inside.{goes_then}
+use Rattle.hub_store.proofs.Versions.Movable.{names_stand}
+use Rattle.hub_store.proofs.Versions.MovedOn.{tables_of_1, texts_of_1, held_as_2, rows_of_namings}
+use Rattle.hub_store.proofs.Edits.Steps.{on_ok, clean_before, fails_then, fails_passed, goes_passed, makes_passed}
 use Rattle.hub_store.proofs.migrate.to_version_2.Goals as goal
 
 -- the tables of version 2 after that of the version
@@ -21,23 +21,19 @@ behind items s = drop 1 (tables_2 1 items (map named_row_2 s.incidents) s)
 
 pub returns-in_err-kept-clause-goes : goal.returns-in_err-kept-clause-goes
 returns-in_err-kept-clause-goes g c =
-    let one = c.in_err-kept.ensures.goes in
-    record { kept = one.kept; inside = λ _ _. search rules; survives = one.survives }
+    goes_passed c.from_residual.ensures.1 c.in_err-kept.ensures.goes
 
 pub returns-in_err-kept-clause-made : goal.returns-in_err-kept-clause-made
 returns-in_err-kept-clause-made g c s sound =
-    let one = c.in_err-kept.ensures.goes in
-    record { goes = record { kept = one.kept; inside = λ _ _. search rules; survives = one.survives }; made = λ _ _ _. search rules }
+    makes_passed c.from_residual.ensures.1 c.in_err-kept.ensures.goes
 
 pub returns-in_err-move_incidents-clause-goes : goal.returns-in_err-move_incidents-clause-goes
 returns-in_err-move_incidents-clause-goes g c =
-    let whole = goes_then _ _ _ _ _ c.in_ok-kept.ensures.goes c.in_err-move_incidents.ensures.goes in
-    record { kept = whole.kept; inside = λ _ _. search rules; survives = whole.survives }
+    goes_passed c.from_residual-in_err-move_incidents.ensures.1 (goes_then _ _ _ _ _ c.in_ok-kept.ensures.goes c.in_err-move_incidents.ensures.goes)
 
 pub returns-in_err-move_incidents-clause-made : goal.returns-in_err-move_incidents-clause-made
 returns-in_err-move_incidents-clause-made g c s sound =
-    let whole = goes_then _ _ _ _ _ c.in_ok-kept.ensures.goes c.in_err-move_incidents.ensures.goes in
-    record { goes = record { kept = whole.kept; inside = λ _ _. search rules; survives = whole.survives }; made = λ _ _ _. search rules }
+    makes_passed c.from_residual-in_err-move_incidents.ensures.1 (goes_then _ _ _ _ _ c.in_ok-kept.ensures.goes c.in_err-move_incidents.ensures.goes)
 
 pub returns-clause-goes : goal.returns-clause-goes
 returns-clause-goes g c = goes_then _ _ _ _ _ (goes_then _ _ _ _ _ c.in_ok-kept.ensures.goes c.in_ok-move_incidents.ensures.goes) (c.set_version.ensures.made 1 [] refl).goes
@@ -76,7 +72,7 @@ returns-in_err-move_incidents-clause-cause g c s sound taken =
       cause = λ clean inside before.
           let early = clean_before _ _ put.goes.survives clean in
           let moved = move.moved early inside s (texts_of_1 _ s sound before) (tables_of_1 _ s before) in
-          let can = subst (CanName naming_row_2) (sym (rows_of_namings _ s.incidents (c.deref.ensures.value ∙ moved.1))) (names_stand s sound taken) in
+          let can = subst (λ ks. CanName naming_row_2 (map naming_row_2 ks)) (sym (c.deref.ensures.value ∙ moved.1)) (names_stand s sound taken) in
           (fails_then one put.goes (put.cause s items can)).cause clean inside before;
     })
 

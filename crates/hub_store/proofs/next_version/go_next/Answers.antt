@@ -1,9 +1,9 @@
 use Rattle.std.proofs.Common.{◌≡◌, drop, arith}
 use Rattle.std.proofs.lemmas.Bool.Decides.{nat_tests}
 use Rattle.hub_store.specs.Layout.{permission_step, incident_step, parts_2, parts_3}
-use Rattle.hub_store.proofs.Steps.{on_ok}
-use Rattle.hub_store.proofs.ToVersion3 as three
-use Rattle.hub_store.proofs.ToVersion4 as four
+use Rattle.hub_store.proofs.Edits.Steps.{on_ok}
+use Rattle.hub_store.proofs.Versions.ToVersion3 as three
+use Rattle.hub_store.proofs.Versions.ToVersion4 as four
 use Rattle.hub_store.proofs.next_version.go_next.Goals as goal
 
 pub returns-then-from-eq2-clause-made : goal.returns-then-from-eq2-clause-made

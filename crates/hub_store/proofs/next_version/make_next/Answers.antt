@@ -2,9 +2,9 @@ use Rattle.std.proofs.Common.{◌≡◌, [], arith}
 use Rattle.std.proofs.lemmas.Bool.Decides.{nat_tests}
 use Rattle.hub_state.specs.State.{empty}
 use Rattle.hub_store.specs.Layout.{permission_step, incident_step, bare_by}
-use Rattle.hub_store.proofs.Remaking.{made_bare}
-use Rattle.hub_store.proofs.ToVersion3 as three
-use Rattle.hub_store.proofs.ToVersion4 as four
+use Rattle.hub_store.proofs.Versions.Remaking.{made_bare}
+use Rattle.hub_store.proofs.Versions.ToVersion3 as three
+use Rattle.hub_store.proofs.Versions.ToVersion4 as four
 use Rattle.hub_store.proofs.next_version.make_next.Goals as goal
 
 pub returns-then-from-eq2-clause-made : goal.returns-then-from-eq2-clause-made

@@ -4,9 +4,9 @@ use Rattle.sqlite.specs.Held.{state}
 use Rattle.redact.specs.Feeding.{Progress}
 use Rattle.hub_store.specs.inner.ProbesRows.{AreFirst}
 use Rattle.hub_store.specs.inner.Queries.{IsReadOutside}
-use Rattle.hub_store.proofs.AtPlaces.{next_place}
-use Rattle.hub_store.proofs.Streaming.{starts, goes_on, ends, stops, not_begun}
-use Rattle.hub_store.proofs.Probing.{probed_on, all_came, first_came}
+use Rattle.hub_store.proofs.LookUps.AtPlaces.{next_place}
+use Rattle.hub_store.proofs.LookUps.Streaming.{starts, goes_on, ends, stops, not_begun}
+use Rattle.hub_store.proofs.LookUps.Probing.{probed_on, all_came, first_came}
 use Rattle.hub_store.proofs.probe_rows.probe_rows.Goals as goal
 
 pub returns-in_err-rows-clause-answers : goal.returns-in_err-rows-clause-answers

@@ -2,10 +2,10 @@ use Rattle.std.proofs.Common.{w64}
 use Rattle.std.proofs.lemmas.Int.{to_z_pos}
 use Rattle.hub_store.specs.Means.{HoldsBetween}
 use Rattle.hub_store.specs.inner.Beside.{HoldsBeside}
-use Rattle.hub_store.proofs.Changes.{puts_line}
-use Rattle.hub_store.proofs.Migrating.{moves_line, line_fails}
-use Rattle.hub_store.proofs.Steps.{made_by, fails_by}
-use Rattle.hub_store.proofs.Texts.{put_line}
+use Rattle.hub_store.proofs.Edits.Changes.{puts_line}
+use Rattle.hub_store.proofs.Versions.Migrating.{moves_line, line_fails}
+use Rattle.hub_store.proofs.Edits.Steps.{made_by, fails_by}
+use Rattle.hub_store.proofs.Rows.Texts.{put_line}
 use Rattle.hub_store.proofs.put_lines.put_one.Goals as goal
 
 pub returns-clause-puts : goal.returns-clause-puts

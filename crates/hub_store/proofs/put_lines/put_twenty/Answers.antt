@@ -8,8 +8,8 @@ use Rattle.hub_store.specs.Items.{placed_lines}
 use Rattle.hub_store.specs.Keeps.{HasRun, HasFailed}
 use Rattle.hub_store.specs.Means.{HoldsBetween}
 use Rattle.hub_store.specs.inner.Beside.{HoldsBeside}
-use Rattle.hub_store.proofs.Steps.{made_by, fails_by}
-use Rattle.hub_store.proofs.TwentyLines.{put_twenty, puts_twenty, moves_twenty, twenty_fail}
+use Rattle.hub_store.proofs.Edits.Steps.{made_by, fails_by}
+use Rattle.hub_store.proofs.Versions.TwentyLines.{put_twenty, puts_twenty, moves_twenty, twenty_fail}
 use Rattle.hub_store.proofs.put_lines.put_twenty.Goals as goal
 
 pub returns-clause-puts : goal.returns-clause-puts

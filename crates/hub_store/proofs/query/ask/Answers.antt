@@ -1,11 +1,11 @@
 use Rattle.std.proofs.Common.{[], inl, refl, arith}
 use Rattle.sqlite.specs.State.{HasCleanDisk}
 use Rattle.sqlite.specs.Held.{state}
-use Rattle.hub_store.proofs.Outcomes.{unchanged_keeps, not_run_keeps, failed_query}
+use Rattle.hub_store.proofs.Rows.Outcomes.{unchanged_keeps, not_run_keeps, failed_query}
 use Rattle.sqlite.specs.Values.{bound}
 use Rattle.hub_store.specs.inner.Queries.{HasRefused}
-use Rattle.hub_store.proofs.QueryCauses.{not_run_asked}
-use Rattle.hub_store.proofs.Steps.{kept_then, on_err_any, survives_itself, err_passed}
+use Rattle.hub_store.proofs.Versions.QueryCauses.{not_run_asked}
+use Rattle.hub_store.proofs.Edits.Steps.{kept_then, on_err_any, survives_itself, err_passed}
 use Rattle.hub_store.proofs.query.ask.Goals as goal
 
 pub returns-in_err-statement-clause-failed : goal.returns-in_err-statement-clause-failed

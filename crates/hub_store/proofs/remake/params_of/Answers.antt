@@ -1,6 +1,6 @@
 use Rattle.std.proofs.Common.{◌≡◌, ◌++◌, [], ◌∷◌, take, arith, rules}
 use Rattle.std.proofs.lemmas.Grind.{common_steps}
-use Rattle.hub_store.proofs.Remaking.{bound_more}
+use Rattle.hub_store.proofs.Versions.Remaking.{bound_more}
 use Rattle.hub_store.proofs.remake.params_of.Goals as goal
 
 pub loop-at-preserved : goal.loop-at-preserved

@@ -1,11 +1,12 @@
-use Rattle.std.proofs.Common.{◌≡◌, ◌+◌, map, take, drop, ◌∷◌, rules, arith}
+use Rattle.std.proofs.Common.{◌≡◌, ◌+◌, map, take, drop, rules, arith}
+use Rattle.sqlite_rules.proofs.ListLemmas.{has_at}
 use Rattle.std.proofs.lemmas.Grind.{common_steps}
 use Rattle.sqlite.specs.Values.{bound_value}
 use Rattle.hub_store.specs.inner.Remakes.{HoldsAnew}
-use Rattle.hub_store.proofs.Inside.{goes_then}
-use Rattle.hub_store.proofs.Migrating.{one_more}
-use Rattle.hub_store.proofs.Remaking.{has_at, rest_at, keeps_row, fails_unless}
-use Rattle.hub_store.proofs.Steps.{makes_then, fails_then, fails_passed}
+use Rattle.hub_store.proofs.Edits.Inside.{goes_then}
+use Rattle.hub_store.proofs.Versions.Migrating.{one_more}
+use Rattle.hub_store.proofs.Versions.Remaking.{rest_at, keeps_row, fails_unless}
+use Rattle.hub_store.proofs.Edits.Steps.{makes_then, fails_then, fails_passed, goes_passed, makes_passed}
 use Rattle.hub_store.proofs.remake.put_rows.Goals as goal
 
 pub loop-row-preserved : goal.loop-row-preserved
@@ -22,14 +23,10 @@ loop-row-preserved g c = record {
 }
 
 pub returns-in_err-put_row-clause-goes : goal.returns-in_err-put_row-clause-goes
-returns-in_err-put_row-clause-goes g c =
-    let whole = goes_then _ _ _ _ _ c.loop-row.invariant.goes c.in_err-put_row.ensures.goes in
-    record { kept = whole.kept; inside = λ _ inside. search rules; survives = whole.survives }
+returns-in_err-put_row-clause-goes g c = goes_passed c.from_residual.ensures.1 (goes_then _ _ _ _ _ c.loop-row.invariant.goes c.in_err-put_row.ensures.goes)
 
 pub returns-in_err-put_row-clause-made : goal.returns-in_err-put_row-clause-made
-returns-in_err-put_row-clause-made g c step ps puts =
-    let whole = goes_then _ _ _ _ _ c.loop-row.invariant.goes c.in_err-put_row.ensures.goes in
-    record { goes = record { kept = whole.kept; inside = λ _ inside. search rules; survives = whole.survives }; made = λ _ _ before. search rules }
+returns-in_err-put_row-clause-made g c step ps puts = makes_passed c.from_residual.ensures.1 (goes_then _ _ _ _ _ c.loop-row.invariant.goes c.in_err-put_row.ensures.goes)
 
 pub returns-clause-goes : goal.returns-clause-goes
 returns-clause-goes g c = c.loop-row.invariant.goes

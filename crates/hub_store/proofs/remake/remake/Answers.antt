@@ -1,24 +1,21 @@
-use Rattle.std.proofs.Common.{◌≡◌, List, [], ◌∷◌, ◌++◌, map, Ok, rules, refl}
+use Rattle.std.proofs.Common.{List, [], ◌∷◌, ◌++◌, refl}
 use Rattle.std.specs.List.Sorted.{IsPermutation}
 use Rattle.std.proofs.lemmas.List.Sorted.{IsPermutation-sym, IsPermutation-trans, IsPermutation-map}
 use Rattle.sqlite_value.specs.Order.{Row}
 use Rattle.sqlite_rules.specs.Lists.{Has}
 use Rattle.hub_store.specs.Layout.{under}
 use Rattle.hub_store.specs.Parts.{HoldsParts}
-use Rattle.hub_store.proofs.Inside.{goes_then}
-use Rattle.hub_store.proofs.Lists.{has_permuted}
-use Rattle.hub_store.proofs.Remaking.{asked_goes, asked_makes, asked_fails, anew_permuted}
-use Rattle.hub_store.proofs.Steps.{on_ok, clean_before, makes_then, fails_then, fails_passed}
+use Rattle.hub_store.proofs.Edits.Inside.{goes_then}
+use Rattle.hub_store.proofs.Rows.Lists.{has_permuted}
+use Rattle.hub_store.proofs.Versions.Remaking.{asked_goes, asked_makes, asked_fails, anew_permuted}
+use Rattle.hub_store.proofs.Edits.Steps.{on_ok, clean_before, makes_then, fails_then, fails_passed, failed_goes, goes_passed, makes_passed}
 use Rattle.hub_store.proofs.remake.remake.Goals as goal
 
 pub returns-in_err-rows-clause-goes : goal.returns-in_err-rows-clause-goes
-returns-in_err-rows-clause-goes g c = record { kept = λ clean inside. c.in_err-rows.ensures.failed clean; inside = λ _ _. search rules; survives = c.in_err-rows.ensures.survives }
+returns-in_err-rows-clause-goes g c = goes_passed c.from_residual.ensures.1 (failed_goes c.in_err-rows.ensures.failed c.in_err-rows.ensures.survives)
 
 pub returns-in_err-rows-clause-made : goal.returns-in_err-rows-clause-made
-returns-in_err-rows-clause-made g c step before ps rows it = record {
-  goes = record { kept = λ clean inside. c.in_err-rows.ensures.failed clean; inside = λ _ _. search rules; survives = c.in_err-rows.ensures.survives };
-  made = λ _ _ _. search rules;
-}
+returns-in_err-rows-clause-made g c step before ps rows it = makes_passed c.from_residual.ensures.1 (failed_goes c.in_err-rows.ensures.failed c.in_err-rows.ensures.survives)
 
 pub returns-in_err-rows-clause-cause : goal.returns-in_err-rows-clause-cause
 returns-in_err-rows-clause-cause g c step before ps rows it takes =
@@ -27,14 +24,12 @@ returns-in_err-rows-clause-cause g c step before ps rows it takes =
 pub returns-in_err-set_version-clause-goes : goal.returns-in_err-set_version-clause-goes
 returns-in_err-set_version-clause-goes g c =
     let asked = asked_goes g.S.Store c.args.texts.now.read.now _ _ c.in_ok-rows.rows.items c.in_ok-rows.ensures.survives c.in_ok-rows.ensures.shown in
-    let whole = goes_then _ _ _ _ _ asked (c.in_err-set_version.ensures.made 0 [] refl).goes in
-    record { kept = whole.kept; inside = λ _ _. search rules; survives = whole.survives }
+    goes_passed c.from_residual-in_err-set_version.ensures.1 (goes_then _ _ _ _ _ asked (c.in_err-set_version.ensures.made 0 [] refl).goes)
 
 pub returns-in_err-set_version-clause-made : goal.returns-in_err-set_version-clause-made
 returns-in_err-set_version-clause-made g c step before ps rows it =
     let asked = asked_goes g.S.Store c.args.texts.now.read.now _ _ c.in_ok-rows.rows.items c.in_ok-rows.ensures.survives c.in_ok-rows.ensures.shown in
-    let whole = goes_then _ _ _ _ _ asked (c.in_err-set_version.ensures.made 0 [] refl).goes in
-    record { goes = record { kept = whole.kept; inside = λ _ _. search rules; survives = whole.survives }; made = λ _ _ _. search rules }
+    makes_passed c.from_residual-in_err-set_version.ensures.1 (goes_then _ _ _ _ _ asked (c.in_err-set_version.ensures.made 0 [] refl).goes)
 
 pub returns-in_err-set_version-clause-cause : goal.returns-in_err-set_version-clause-cause
 returns-in_err-set_version-clause-cause g c step before ps rows it takes =
@@ -45,14 +40,12 @@ returns-in_err-set_version-clause-cause g c step before ps rows it takes =
 pub returns-in_err-make_anew-clause-goes : goal.returns-in_err-make_anew-clause-goes
 returns-in_err-make_anew-clause-goes g c =
     let asked = asked_goes g.S.Store c.args.texts.now.read.now _ _ c.in_ok-rows.rows.items c.in_ok-rows.ensures.survives c.in_ok-rows.ensures.shown in
-    let whole = goes_then _ _ _ _ _ (goes_then _ _ _ _ _ asked (c.in_ok-set_version.ensures.made 0 [] refl).goes) c.in_err-make_anew.ensures.goes in
-    record { kept = whole.kept; inside = λ _ _. search rules; survives = whole.survives }
+    goes_passed c.from_residual-in_err-make_anew.ensures.1 (goes_then _ _ _ _ _ (goes_then _ _ _ _ _ asked (c.in_ok-set_version.ensures.made 0 [] refl).goes) c.in_err-make_anew.ensures.goes)
 
 pub returns-in_err-make_anew-clause-made : goal.returns-in_err-make_anew-clause-made
 returns-in_err-make_anew-clause-made g c step before ps rows it =
     let asked = asked_goes g.S.Store c.args.texts.now.read.now _ _ c.in_ok-rows.rows.items c.in_ok-rows.ensures.survives c.in_ok-rows.ensures.shown in
-    let whole = goes_then _ _ _ _ _ (goes_then _ _ _ _ _ asked (c.in_ok-set_version.ensures.made 0 [] refl).goes) c.in_err-make_anew.ensures.goes in
-    record { goes = record { kept = whole.kept; inside = λ _ _. search rules; survives = whole.survives }; made = λ _ _ _. search rules }
+    makes_passed c.from_residual-in_err-make_anew.ensures.1 (goes_then _ _ _ _ _ (goes_then _ _ _ _ _ asked (c.in_ok-set_version.ensures.made 0 [] refl).goes) c.in_err-make_anew.ensures.goes)
 
 pub returns-in_err-make_anew-clause-cause : goal.returns-in_err-make_anew-clause-cause
 returns-in_err-make_anew-clause-cause g c step before ps rows it takes =

@@ -1,13 +1,11 @@
-use Rattle.std.proofs.Common.{[], ◌∷◌, rules, refl}
+use Rattle.std.proofs.Common.{[], ◌∷◌, refl}
 use Rattle.hub_store.specs.Parts.{HoldsParts}
 use Rattle.hub_store.specs.Layout.{hub_part}
-use Rattle.hub_store.proofs.Steps.{makes_then, fails_then, fails_passed}
+use Rattle.hub_store.proofs.Edits.Steps.{makes_then, fails_then, fails_passed, makes_passed}
 use Rattle.hub_store.proofs.set_version.set_version.Goals as goal
 
 pub returns-in_err-take_version-clause-made : goal.returns-in_err-take_version-clause-made
-returns-in_err-take_version-clause-made g c before ps beside =
-    let one = c.in_err-take_version.ensures.made before ps beside in
-    record { goes = record { kept = one.goes.kept; inside = λ _ inside. search rules; survives = one.goes.survives }; made = λ _ _ before. search rules }
+returns-in_err-take_version-clause-made g c before ps beside = makes_passed c.from_residual.ensures.1 (c.in_err-take_version.ensures.made before ps beside).goes
 
 pub returns-clause-made : goal.returns-clause-made
 returns-clause-made g c before ps beside =

@@ -1,4 +1,4 @@
-use Rattle.hub_store.proofs.Steps.{creates_then, creates_not}
+use Rattle.hub_store.proofs.Edits.Steps.{creates_then, creates_not}
 use Rattle.hub_store.proofs.tables.make_directory.Goals as goal
 
 pub returns-in_err-make_hub-clause-made : goal.returns-in_err-make_hub-clause-made

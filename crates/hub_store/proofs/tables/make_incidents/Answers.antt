@@ -1,4 +1,4 @@
-use Rattle.hub_store.proofs.Steps.{creates_then, creates_not}
+use Rattle.hub_store.proofs.Edits.Steps.{creates_then, creates_not}
 use Rattle.hub_store.proofs.tables.make_incidents.Goals as goal
 
 pub returns-in_err-make_pair-clause-made : goal.returns-in_err-make_pair-clause-made

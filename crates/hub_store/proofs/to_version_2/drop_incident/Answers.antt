@@ -3,9 +3,9 @@ use Rattle.hub_store.specs.Tables.{beside_item, incident_table}
 use Rattle.hub_store.specs.Parts.{HoldsParts}
 use Rattle.hub_store.specs.Layout.{without_incidents}
 use Rattle.hub_store.specs.inner.Beside.{HoldsBeside}
-use Rattle.hub_store.proofs.DropCauses.{drop_fails, drops_empty}
-use Rattle.hub_store.proofs.Steps.{made_by, fails_by}
-use Rattle.hub_store.proofs.Migrating.{drop_incident, drops_incident, incident_dropping}
+use Rattle.hub_store.proofs.Versions.DropCauses.{drop_fails, drops_empty}
+use Rattle.hub_store.proofs.Edits.Steps.{made_by, fails_by}
+use Rattle.hub_store.proofs.Versions.Migrating.{drop_incident, drops_incident, incident_dropping}
 use Rattle.hub_store.proofs.to_version_2.drop_incident.Goals as goal
 
 pub returns-clause-empty : goal.returns-clause-empty

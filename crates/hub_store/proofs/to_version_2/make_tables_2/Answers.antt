@@ -1,4 +1,4 @@
-use Rattle.hub_store.proofs.Steps.{creates_then, creates_not}
+use Rattle.hub_store.proofs.Edits.Steps.{creates_then, creates_not}
 use Rattle.hub_store.proofs.to_version_2.make_tables_2.Goals as goal
 
 pub returns-in_err-create_item-clause-made : goal.returns-in_err-create_item-clause-made

@@ -5,7 +5,7 @@ use Rattle.sqlite.specs.State.{HasCleanDisk}
 use Rattle.sqlite.specs.Held.{state}
 use Rattle.hub_store.specs.Versions.{version_column}
 use Rattle.hub_store.specs.Failing.{HasReason}
-use Rattle.hub_store.proofs.AnyVersion.{later_reason}
+use Rattle.hub_store.proofs.Versions.AnyVersion.{later_reason}
 use Rattle.hub_store.proofs.version.ask_version.Goals as goal
 
 pub returns-clause-cause : goal.returns-clause-cause

@@ -6,9 +6,9 @@ use Rattle.hub_state.specs.State.{State, empty}
 use Rattle.hub_store.specs.Content.{Has, MayLeave}
 use Rattle.hub_store.specs.Means.{TreesHold}
 use Rattle.hub_store.specs.Tables.{no_schema}
-use Rattle.hub_store.proofs.Empty.{has_empty, sound_empty}
-use Rattle.hub_store.proofs.Left.{left_by_commit}
-use Rattle.hub_store.proofs.Runs.{kept_has}
+use Rattle.hub_store.proofs.Rows.Empty.{has_empty, sound_empty}
+use Rattle.hub_store.proofs.Shelf.Left.{left_by_commit}
+use Rattle.hub_store.proofs.Edits.Runs.{kept_has}
 use Rattle.hub_store.proofs.sql_shelf.SqlShelf.create.Goals as goal
 
 pub returns-in-Ok-clause-made : goal.returns-in-Ok-clause-made

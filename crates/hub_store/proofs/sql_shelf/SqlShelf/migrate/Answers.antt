@@ -5,7 +5,7 @@ use Rattle.sqlite.specs.Held.{state}
 use Rattle.hub_store.specs.declared.sql_shelf.OpenFault.TheVariants.{WrongVersion}
 use Rattle.hub_store.specs.Opening.{newest, IsMigrated}
 use Rattle.hub_store.specs.Versions.{version_of}
-use Rattle.hub_store.proofs.Renewed.{at_newest, not_begun, is_brought, is_not_brought}
+use Rattle.hub_store.proofs.Versions.Renewed.{at_newest, not_begun, is_brought, is_not_brought}
 use Rattle.hub_store.proofs.sql_shelf.SqlShelf.migrate.Goals as goal
 
 pub returns-in-Ok-Some-eq4-clause-opened : goal.returns-in-Ok-Some-eq4-clause-opened

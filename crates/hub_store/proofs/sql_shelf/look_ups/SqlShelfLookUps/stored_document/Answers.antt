@@ -1,4 +1,4 @@
-use Rattle.hub_store.proofs.Telling.{reads}
+use Rattle.hub_store.proofs.Shelf.Telling.{reads}
 use Rattle.hub_store.proofs.sql_shelf.look_ups.SqlShelfLookUps.stored_document.Goals as goal
 
 pub returns : goal.returns

@@ -1,4 +1,4 @@
-use Rattle.hub_store.proofs.Telling.{reads}
+use Rattle.hub_store.proofs.Shelf.Telling.{reads}
 use Rattle.hub_store.proofs.sql_shelf.shelf.SqlShelfShelf.person_by_key.Goals as goal
 
 pub returns : goal.returns

@@ -1,0 +1,4 @@
+-- What the shelf promises.
+pub mod Left
+pub mod Telling
+pub mod Opened
