@@ -12,15 +12,18 @@ pub mod Served
 pub mod Failures
 pub mod Runs
 pub mod Stopped
+pub mod Leaving
 pub mod OneMore
 pub mod ToldSame
 pub mod OtherUnseen
 pub mod OtherDocument
 pub mod OtherLines
+pub mod EqualBut
 pub mod OtherRows
 pub mod Shared
 pub mod SharedSteps
 pub mod OtherEnded
 pub mod AnsweredAlike
 pub mod NewKeys
+mod StopExample
 mod Worlds

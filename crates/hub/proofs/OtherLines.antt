@@ -23,7 +23,8 @@ use Rattle.hub_state.specs.declared.state.Gate.{Gate}
 use Rattle.hub_state.specs.declared.state.Permission.{Permission}
 use Rattle.hub.specs.Told.{standing_at, is_served, is_found, is_addressed, view_with}
 use Rattle.redact.specs.Alike.{IsMarked, is_hidden_from}
-use Rattle.hub.specs.Alike.{with_document, report_of, HasOtherPlainLines, HasOtherHiddenClass}
+use Rattle.hub.specs.Alike.{with_document, report_of, HasOtherPlainLines}
+use Rattle.hub.specs.inner.Exchanged.{HasExchangedClass}
 use Rattle.redact.proofs.Filtered.{filter-both, filter-within, filter-map}
 use Rattle.redact.proofs.ToldAlike.{alike-told}
 use Rattle.hub_state.proofs.Keeping.{not_both, turned, found_each}
@@ -43,7 +44,7 @@ marked-document s i sound at =
     let accepted : IsAccepted i.document = found_each (λ (x : Incident). IsAccepted x.document) (λ (x : Incident). x.naming.number == i.naming.number) s.incidents i at sound.incidents.documents in
     record { document = read-document i.document accepted; marked = accepted.marked }
 
-some-same : {X : Type 0} (x y : X) → Some x ≡ Some y → x ≡ y
+pub some-same : {X : Type 0} (x y : X) → Some x ≡ Some y → x ≡ y
 some-same x y h = cc
 
 -- with the same standing and case, the person learns the same of an incident
@@ -142,11 +143,11 @@ of-others {X} number within n m xs ys k h =
     let no : (x : X) → not (number x == n && within x) ≡ false → (number x == m) ≡ false = λ x gone. not_both (number x) n m (turned m n k) (of_gone (number x == n) (within x) gone) in
     filter-within (λ x. number x == m) (λ x. not (number x == n && within x)) xs no ∙ ap (filter (λ x. number x == m)) h ∙ sym (filter-within (λ x. number x == m) (λ x. not (number x == n && within x)) ys no)
 
-pub hidden-step : (now : ℤ) (a : Account) (s t : State) → IsSound s → IsSound t → Contains s.directory.accounts a → HasOtherHiddenClass now a s t → TellsSame now a s t × Contains t.directory.accounts a
+pub hidden-step : (now : ℤ) (a : Account) (s t : State) → IsSound s → IsSound t → Contains s.directory.accounts a → HasExchangedClass now a s t → TellsSame now a s t × Contains t.directory.accounts a
 hidden-step now a s t ss st there h =
     subst (λ w. TellsSame now a s w × Contains w.directory.accounts a) (sym h.after) (hidden-told now a s t ss st there h, there)
   where
-    hidden-told : (now : ℤ) (a : Account) (s t : State) → IsSound s → IsSound t → Contains s.directory.accounts a → (h : HasOtherHiddenClass now a s t) →
+    hidden-told : (now : ℤ) (a : Account) (s t : State) → IsSound s → IsSound t → Contains s.directory.accounts a → (h : HasExchangedClass now a s t) →
         TellsSame now a s (record s { incidents = with_document h.incident.naming.number h.document s.incidents; gates = t.gates; permissions = t.permissions })
     hidden-told now a s t ss st there h =
         let i = h.incident in
@@ -167,14 +168,16 @@ hidden-step now a s t ss st there h =
             below_root = h.below_root;
             first = h.first;
             second = ap (λ x. is_hidden_from x p (report_of t i h.document)) (sym stands) ∙ h.second;
-            others = h.others;
-            source = refl;
-            gates = filter-map (λ (g : CaseGate). not (is_prefix p g.path)) (λ (g : Gate). g.gate) (filter (λ (g : Gate). g.incident == n) s.gates)
-                ∙ ap (map (λ (g : Gate). g.gate)) (within-of (λ (g : Gate). g.incident == n) (λ (g : Gate). is_prefix p g.gate.path) s.gates t.gates h.gates)
-                ∙ sym (filter-map (λ (g : CaseGate). not (is_prefix p g.path)) (λ (g : Gate). g.gate) (filter (λ (g : Gate). g.incident == n) t.gates));
-            permissions = filter-map (λ (x : CasePermission). not (is_prefix p x.path)) (λ (x : Permission). x.permission) (filter (λ (x : Permission). x.incident == n) s.permissions)
-                ∙ ap (map (λ (x : Permission). x.permission)) (within-of (λ (x : Permission). x.incident == n) (λ (x : Permission). is_prefix p x.permission.path) s.permissions t.permissions h.permissions)
-                ∙ sym (filter-map (λ (x : CasePermission). not (is_prefix p x.path)) (λ (x : Permission). x.permission) (filter (λ (x : Permission). x.incident == n) t.permissions));
+            others = record {
+              lines = h.others;
+              source = refl;
+              gates = filter-map (λ (g : CaseGate). not (is_prefix p g.path)) (λ (g : Gate). g.gate) (filter (λ (g : Gate). g.incident == n) s.gates)
+                  ∙ ap (map (λ (g : Gate). g.gate)) (within-of (λ (g : Gate). g.incident == n) (λ (g : Gate). is_prefix p g.gate.path) s.gates t.gates h.gates)
+                  ∙ sym (filter-map (λ (g : CaseGate). not (is_prefix p g.path)) (λ (g : Gate). g.gate) (filter (λ (g : Gate). g.incident == n) t.gates));
+              permissions = filter-map (λ (x : CasePermission). not (is_prefix p x.path)) (λ (x : Permission). x.permission) (filter (λ (x : Permission). x.incident == n) s.permissions)
+                  ∙ ap (map (λ (x : Permission). x.permission)) (within-of (λ (x : Permission). x.incident == n) (λ (x : Permission). is_prefix p x.permission.path) s.permissions t.permissions h.permissions)
+                  ∙ sym (filter-map (λ (x : CasePermission). not (is_prefix p x.path)) (λ (x : Permission). x.permission) (filter (λ (x : Permission). x.incident == n) t.permissions));
+            };
             withheld = h.withheld ∙ ap (withheld_of h.document (case_for t i)) (same-at now a s t h);
           },
         )))))
@@ -183,5 +186,5 @@ hidden-step now a s t ss st there h =
         ∙ ap (λ xs. record { source = x.naming.source; community = x.naming.community; gates = its_gates x.naming.number s.gates; permissions = map (λ (y : Permission). y.permission) xs })
         (sym (of-others (λ (y : Permission). y.incident) (λ (y : Permission). is_prefix p y.permission.path) n x.naming.number s.permissions t.permissions k h.permissions)))
       where
-        same-at : (now : ℤ) (a : Account) (s t : State) (h : HasOtherHiddenClass now a s t) → standing_at t now a.person (record h.incident { document = h.document }) ≡ standing_at s now a.person h.incident
+        same-at : (now : ℤ) (a : Account) (s t : State) (h : HasExchangedClass now a s t) → standing_at t now a.person (record h.incident { document = h.document }) ≡ standing_at s now a.person h.incident
         same-at now a s t h = standing_at-is t now a.person (record h.incident { document = h.document }) ∙ ap (λ x. standing_for x now a.person h.incident) h.after ∙ sym (standing_at-is s now a.person h.incident)

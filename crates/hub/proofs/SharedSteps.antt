@@ -17,7 +17,8 @@ use Rattle.hub_state.specs.declared.request.Request.TheVariants as ask
 use Rattle.hub_state.proofs.Keeping.{not_both, turned, find_left}
 use Rattle.redact.proofs.Filtered.{filter-within}
 use Rattle.hub.specs.Alike.{with_document, is_own, is_org_or_person, includes_person, staying_recipients, staying_permissions, live_or_own_permissions}
-use Rattle.hub.specs.Alike.{HasOtherPlainLines, HasOtherHiddenClass, HasOtherUnseenIncident, HasOtherRows}
+use Rattle.hub.specs.Alike.{HasOtherPlainLines, HasOtherUnseenIncident, HasOtherRows}
+use Rattle.hub.specs.inner.Exchanged.{HasExchangedClass}
 use Rattle.hub.specs.Serving.{due_to}
 use Rattle.hub.proofs.ToldSame.{TellsShared}
 use Rattle.hub.proofs.Shared.{rows-shared, foreign-shared, own-shared}
@@ -90,7 +91,7 @@ pub plain-shared : (now : ℤ) (a : Account) (s t : State) → HasOtherPlainLine
 plain-shared now a s t h = subst (λ w. TellsShared now a s w) (sym h.after)
     (exchanged-shared now a s h.incident h.document h.there h.foreign s.gates s.permissions (λ q k. (refl, refl)))
 
-pub hidden-shared : (now : ℤ) (a : Account) (s t : State) → HasOtherHiddenClass now a s t → TellsShared now a s t
+pub hidden-shared : (now : ℤ) (a : Account) (s t : State) → HasExchangedClass now a s t → TellsShared now a s t
 hidden-shared now a s t h = subst (λ w. TellsShared now a s w) (sym h.after)
     (exchanged-shared now a s h.incident h.document h.there h.foreign t.gates t.permissions others)
   where

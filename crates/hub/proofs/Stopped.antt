@@ -7,7 +7,8 @@ use Rattle.hub_core.specs.State.{State}
 use Rattle.hub_state.specs.declared.reply.Reply.{Reply}
 use Rattle.hub.specs.Machine.{Asked, IsGivenUp, IsStep, IsRun, state_left}
 use Rattle.hub.specs.Serving.{is_made}
-use Rattle.hub.specs.Stops.{IsDueChange, MayBeLeft, MayBeLeftBy, content_after, is_change_due}
+use Rattle.hub.specs.Stops.{IsDueChange, content_after, is_change_due}
+use Rattle.hub.specs.inner.InTurn.{MayBeLeftBy, MayBeLeftInTurn}
 use Rattle.hub.proofs.Served.{left_unmade}
 
 given_up_unmade : (reply : Reply) → IsGivenUp reply → is_made reply ≡ false
@@ -15,7 +16,7 @@ given_up_unmade reply (inl is) = ap is_made is
 given_up_unmade reply (inr is) = ap is_made is
 
 -- the state after a step is the content after it
-step_content : (s left : State) (asked : Asked) (reply : Reply) → IsStep s asked reply left → left ≡ content_after s asked reply
+pub step_content : (s left : State) (asked : Asked) (reply : Reply) → IsStep s asked reply left → left ≡ content_after s asked reply
 step_content s left asked reply step = by_case (is_made reply) refl step
   where
     by_case : (b : Bool) → is_made reply ≡ b → IsStep s asked reply left → left ≡ content_after s asked reply
@@ -24,13 +25,13 @@ step_content s left asked reply step = by_case (is_made reply) refl step
     by_case true is (inr up) = absurd (true≢false (sym is ∙ given_up_unmade reply up.0))
 
 -- if the reply says that a change was made, one was due
-made_due : (s left : State) (asked : Asked) (reply : Reply) → IsStep s asked reply left → is_made reply ≡ true → is_change_due s asked ≡ true
+pub made_due : (s left : State) (asked : Asked) (reply : Reply) → IsStep s asked reply left → is_made reply ≡ true → is_change_due s asked ≡ true
 made_due s left asked reply (inl answered) made = sym (ap is_made answered.due) ∙ made
 made_due s left asked reply (inr up) made = absurd (true≢false (sym made ∙ given_up_unmade reply up.0))
 
 -- one request more
 left_on : (Before : Option State → Type 0) (s mid : State) (all : List Asked) (replies : List Reply) (asked : Asked) (reply : Reply) (left : Option State) → IsRun s all replies mid
-    → MayBeLeftBy (MayBeLeft Before s all replies) mid asked reply left → MayBeLeft Before s (all ++ asked ∷ []) (replies ++ reply ∷ []) left
+    → MayBeLeftBy (MayBeLeftInTurn Before s all replies) mid asked reply left → MayBeLeftInTurn Before s (all ++ asked ∷ []) (replies ++ reply ∷ []) left
 left_on Before s mid [] [] asked reply left run may = subst (λ u. MayBeLeftBy Before u asked reply left) run may
 left_on Before s mid [] (r ∷ replies) asked reply left run may = absurd run
 left_on Before s mid (q ∷ others) [] asked reply left run may = absurd run
@@ -52,20 +53,20 @@ left_behind_one Before After s end asked reply step durable crash left may = by_
 pub stops_on : {D : Type 0} (may_remain : D → Option State → Type 0) (old before after : D) (s mid end : State) (all : List Asked) (i : ℕ) (asked : Asked) (replies : List Reply) (reply : Reply) → asked ≡ get_or all i asked → i < length all
     → IsRun s (take i all) replies mid
     → IsStep mid asked reply end
-    → ((left : Option State) → may_remain before left → MayBeLeft (may_remain old) s (take i all) replies left)
+    → ((left : Option State) → may_remain before left → MayBeLeftInTurn (may_remain old) s (take i all) replies left)
     → (IsTrue (is_made reply) → (left : Option State) → may_remain after left ↔ (left ≡ Some (state_left mid asked.1 asked.2)))
     → ((left : Option State) → may_remain after left → may_remain before left ⊎ IsDueChange mid asked left)
-    → (left : Option State) → may_remain after left → MayBeLeft (may_remain old) s (take (i + 1) all) (replies ++ reply ∷ []) left
+    → (left : Option State) → may_remain after left → MayBeLeftInTurn (may_remain old) s (take (i + 1) all) (replies ++ reply ∷ []) left
 stops_on may_remain old before after s mid end all i asked replies reply is low run step earlier durable crash left may =
-    subst (λ q. MayBeLeft (may_remain old) s q (replies ++ reply ∷ []) left) (sym (take_more all i asked low))
-    (subst (λ q. MayBeLeft (may_remain old) s (take i all ++ q ∷ []) (replies ++ reply ∷ []) left) is (left_on (may_remain old) s mid (take i all) replies asked reply left run
-    (left_behind_one (MayBeLeft (may_remain old) s (take i all) replies) (may_remain after) mid end asked reply step durable (λ l there. elim (crash l there) [ inl kept ↦ inl (earlier l kept) | inr due ↦ inr due ]) left may)))
+    subst (λ q. MayBeLeftInTurn (may_remain old) s q (replies ++ reply ∷ []) left) (sym (take_more all i asked low))
+    (subst (λ q. MayBeLeftInTurn (may_remain old) s (take i all ++ q ∷ []) (replies ++ reply ∷ []) left) is (left_on (may_remain old) s mid (take i all) replies asked reply left run
+    (left_behind_one (MayBeLeftInTurn (may_remain old) s (take i all) replies) (may_remain after) mid end asked reply step durable (λ l there. elim (crash l there) [ inl kept ↦ inl (earlier l kept) | inr due ↦ inr due ]) left may)))
 
 -- ---- a list after a list
 
 -- if more could have been left before, more may be left after
 pub left_more : (Before More : Option State → Type 0) (s : State) (all : List Asked) (replies : List Reply) → ((left : Option State) → Before left → More left)
-    → (left : Option State) → MayBeLeft Before s all replies left → MayBeLeft More s all replies left
+    → (left : Option State) → MayBeLeftInTurn Before s all replies left → MayBeLeftInTurn More s all replies left
 left_more Before More s [] [] on left may = on left may
 left_more Before More s [] (r ∷ replies) on left may = absurd may
 left_more Before More s (q ∷ others) [] on left may = absurd may
@@ -74,9 +75,9 @@ left_more Before More s (q ∷ others) (r ∷ replies) on left may =
 
 -- what may be left after both lists is what may be left after the second, by what may be left after the first
 pub left_joined : (Before : Option State → Type 0) (s mid : State) (first second : List Asked) (told more : List Reply) (left : Option State) → IsRun s first told mid
-    → MayBeLeft (MayBeLeft Before s first told) mid second more left → MayBeLeft Before s (first ++ second) (told ++ more) left
+    → MayBeLeftInTurn (MayBeLeftInTurn Before s first told) mid second more left → MayBeLeftInTurn Before s (first ++ second) (told ++ more) left
 left_joined Before s mid [] second [] more left run may =
-    subst (λ u. MayBeLeft Before u second more left) run (left_more (MayBeLeft Before s [] []) Before mid second more (λ l there. there) left may)
+    subst (λ u. MayBeLeftInTurn Before u second more left) run (left_more (MayBeLeftInTurn Before s [] []) Before mid second more (λ l there. there) left may)
 left_joined Before s mid [] second (r ∷ told) more left run may = absurd run
 left_joined Before s mid (q ∷ first) second [] more left run may = absurd run
 left_joined Before s mid (q ∷ first) second (r ∷ told) more left run may =

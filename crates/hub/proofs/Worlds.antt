@@ -220,19 +220,14 @@ steps_join = record {
     after = refl;
   };
   hidden_class = record {
-    incident = bank_report rewritten;
+    number = 1;
     path = event_at (codes "2");
-    document = one_red;
-    there = refl;
-    foreign = refl;
     below_root = refl;
+    foreign = refl;
     first = refl;
     second = refl;
-    others = refl;
     withheld = refl;
-    gates = refl;
-    permissions = refl;
-    after = refl;
+    others = record { directory = refl; incidents = refl; gates = refl; recipients = refl; permissions = refl };
   };
   unseen_incident = record {
     number = 2;

@@ -2,12 +2,14 @@
 use Rattle.std.specs.Prelude.{◌≡◌, ◌⊎◌, ℕ, ℤ, Bool, true, false, not, ◌&&◌, ◌||◌, ◌==◌, List, [], ◌∷◌, map, filter, Some, Contains, if◌then◌else◌}
 use Rattle.std.specs.Option.{option_map_or}
 use Rattle.iodef_tree.specs.Text.{Tokens, is_root, is_prefix}
+use Rattle.iodef_tree.specs.Paths.{LocatedLine}
 use Rattle.policy.specs.Permissions.{includes, is_before}
 use Rattle.policy.specs.Standing.{stranger}
 use Rattle.policy.specs.declared.permission.Grantee.{Grantee}
 use Rattle.redact.specs.Alike as report
 use Rattle.redact.specs.Alike.{Report, is_within, lines_but, is_hidden_from}
 use Rattle.redact.specs.Told.{withheld_of}
+use Rattle.redact.specs.Withheld.{Withheld}
 use Rattle.circle.specs.Directory.{Directory}
 use Rattle.circle.specs.Reads.{groups_joined, active_groups_joined, communities_of}
 use Rattle.circle.specs.declared.directory.Account.{Account}
@@ -44,6 +46,23 @@ gates_but_at n p gates = filter (λ (g : Gate). not (g.incident == n && is_prefi
 abbrev pub permissions_but_at : ℕ → Tokens → List Permission → List Permission
 permissions_but_at n p permissions =
     filter (λ (x : Permission). not (x.incident == n && is_prefix p x.permission.path)) permissions
+
+-- What stays of an incident whose lines at the class at p and below it are left out: all but its ident and its lines,
+-- and the other lines, each under the path of its class. The ident follows the lines.
+abbrev pub parts_but : Tokens → Incident → Incident × List LocatedLine
+parts_but p i = (record i { naming = record i.naming { ident = [] }; document = [] }, lines_but (is_within p) i.document)
+
+-- that of the incident of this number, and any other incident whole
+abbrev pub incident_but : ℕ → Tokens → Incident → Incident × List LocatedLine
+incident_but n p i = if i.naming.number == n then parts_but p i else (i, [])
+
+-- The states are equal but for the rows of an incident at the class at p and below it: lines, gates and permissions.
+pub record IsEqualBut (n : ℕ) (p : Tokens) (s t : State) : Type 0 where
+  pub directory : s.directory ≡ t.directory
+  pub incidents : map (incident_but n p) s.incidents ≡ map (incident_but n p) t.incidents
+  pub gates : gates_but_at n p s.gates ≡ gates_but_at n p t.gates
+  pub recipients : s.recipients ≡ t.recipients
+  pub permissions : permissions_but_at n p s.permissions ≡ permissions_but_at n p t.permissions
 
 -- an incident with this document, as redaction sees it: the lines and the case
 abbrev pub report_of : State → Incident → Lines → Report
@@ -84,24 +103,27 @@ module _ (now : ℤ) (a : Account) where
     pub lines : report.HasOtherPlainLines (standing_at s now a.person incident) path (report_of s incident incident.document) (report_of s incident document)
     pub after : t ≡ record s { incidents = with_document incident.naming.number document s.incidents }
 
-  -- One incident has other lines in a wholly hidden class and below it: they are put, taken or exchanged, with the
-  -- gates and permissions there. The paths of all other classes stay, and what is withheld is the same on both sides.
+  -- the incident of this number is there, and no class of it at p or below is visible to the person
+  abbrev pub is_hidden_in : State → ℕ → Tokens → Bool
+  is_hidden_in s n p = option_map_or
+      (λ (i : Incident). is_hidden_from (standing_at s now a.person i) p (report_of s i i.document)) (incident_of n s) false
+
+  -- what is withheld from the person of the incident of this number; nothing if it isn't there
+  abbrev pub withheld_in : State → ℕ → List Withheld
+  withheld_in s n = option_map_or
+      (λ (i : Incident). withheld_of i.document (case_for s i) (standing_at s now a.person i)) (incident_of n s) []
+
+  -- The states are equal but for the rows of one incident at a class and below it, of which nothing is visible to the
+  -- person in either state. What is withheld of the incident is the same.
   pub record HasOtherHiddenClass (s t : State) : Type 0 where
-    pub incident : Incident
+    pub number : ℕ
     pub path : Tokens
-    pub document : Lines
-    pub there : incident_of incident.naming.number s ≡ Some incident
-    pub foreign : is_own s incident.naming.number ≡ false
     pub below_root : is_root path ≡ false
-    pub first : is_hidden_from (standing_at s now a.person incident) path (report_of s incident incident.document) ≡ true
-    pub second : is_hidden_from (standing_at t now a.person incident) path (report_of t incident document) ≡ true
-    pub others : lines_but (is_within path) incident.document ≡ lines_but (is_within path) document
-    pub withheld : withheld_of incident.document (case_for s incident) (standing_at s now a.person incident)
-        ≡ withheld_of document (case_for t incident) (standing_at t now a.person (record incident { document = document }))
-    pub gates : gates_but_at incident.naming.number path s.gates ≡ gates_but_at incident.naming.number path t.gates
-    pub permissions : permissions_but_at incident.naming.number path s.permissions
-        ≡ permissions_but_at incident.naming.number path t.permissions
-    pub after : t ≡ record s { incidents = with_document incident.naming.number document s.incidents; gates = t.gates; permissions = t.permissions }
+    pub foreign : is_own s number ≡ false
+    pub first : is_hidden_in s number path ≡ true
+    pub second : is_hidden_in t number path ≡ true
+    pub withheld : withheld_in s number ≡ withheld_in t number
+    pub others : IsEqualBut number path s t
 
   -- Anything may differ in an incident of which the person sees nothing in either state, also the community that it
   -- names. It may be missing in one of them.

@@ -1,6 +1,6 @@
--- Worlds written by hand that are alike for a reader, who is served something in each: the definitions alone compute
--- them.
-use Rattle.std.specs.Prelude.{◌≡◌, ℕ, true, false, List, [], ◌∷◌, ◌++◌, map, None, codes}
+-- Worlds written by hand that are alike for a reader, who is served something in each, and what a stop leaves: the
+-- definitions alone compute them.
+use Rattle.std.specs.Prelude.{◌≡◌, ℕ, true, false, List, [], ◌∷◌, ◌++◌, map, Option, Some, None, codes}
 use Rattle.iodef_tree.specs.Text.{Bytes}
 use Rattle.iodef_tree.specs.declared.line.Line.{Line}
 use Rattle.marking.specs.Examples.{class_line, text_line, value_line}
@@ -8,19 +8,24 @@ use Rattle.marking.specs.Marks.{incident_path}
 use Rattle.policy.specs.declared.permission.Grantee.TheVariants as grantee
 use Rattle.policy.specs.declared.rule.Rule.TheVariants.{HRed}
 use Rattle.circle.specs.Directory.{Directory}
+use Rattle.circle.specs.Outcomes.{bare}
+use Rattle.circle.specs.declared.command.CircleCommand.TheVariants.{NewKey}
+use Rattle.circle.specs.declared.refusal.Code.TheVariants.{F2}
 use Rattle.circle.specs.declared.directory.Person.{Person}
 use Rattle.circle.specs.declared.directory.Account.{Account}
 use Rattle.hub_core.specs.Documents.{Lines}
 use Rattle.hub_core.specs.Examples.{banker, clerk, professor, circle, incident, gate, june}
 use Rattle.hub_core.specs.State.{State}
 use Rattle.hub_state.specs.declared.reply.Reply.{Reply}
-use Rattle.hub_state.specs.declared.reply.Reply.TheVariants.{View}
+use Rattle.hub_state.specs.declared.reply.Reply.TheVariants.{Caller, Done, Refused, View}
 use Rattle.hub_state.specs.declared.request.Request.TheVariants as ask
 use Rattle.hub_state.specs.declared.request.Target.TheVariants as target
 use Rattle.hub_state.specs.declared.state.Incident.{Incident}
 use Rattle.hub_state.specs.declared.state.Permission.{Permission}
 use Rattle.hub.specs.Alike.{HasOtherPlainLines, HasOtherHiddenClass, HasOtherUnseenIncident, HasOtherRows, IsAlike}
+use Rattle.hub.specs.Machine.{Asked}
 use Rattle.hub.specs.Replies.{reply_of}
+use Rattle.hub.specs.Stops.{MayBeLeft}
 use Rattle.hub.specs.declared.key.Key.TheVariants.{Digest}
 
 -- ---- the circle
@@ -155,3 +160,36 @@ pub record StepsJoin : Type 0 where
 -- All of them are alike: a chain of sound worlds joins the first and the last.
 abbrev pub EndsAreAlike : Type 0
 EndsAreAlike = IsAlike june reader first with_other_rows
+
+-- ---- a stop
+
+-- The bank withdraws the university's permission. Then the reader asks for a new key, and who it is.
+abbrev pub three_asked : List Asked
+three_asked =
+    (june, Digest (1 ∷ []), ask.Withdraw (record { incident = 1; path = codes "/Incident/0/EventData/2"; grantee = grantee.Org 3 }))
+    ∷ (june, Digest reader.key, ask.Circle (NewKey (4 ∷ [])))
+    ∷ (june, Digest reader.key, ask.WhoAmI)
+    ∷ []
+
+-- the permission is withdrawn, the new key is given up for want of memory, and the reader is told who it is
+abbrev pub three_replies : List Reply
+three_replies = Done ∷ Refused (bare F2) ∷ Caller clerk ∷ []
+
+-- the state without the permission
+abbrev pub withdrawn : State
+withdrawn = record first { permissions = [] }
+
+-- that with the reader's new key
+abbrev pub withdrawn_with_key : State
+withdrawn_with_key = record withdrawn { directory = record keyed_circle { accounts = account 1 banker ∷ account 4 clerk ∷ account 3 professor ∷ [] } }
+
+-- what a stop may leave after these three, if it could have left the first state before
+abbrev pub MayBeLeftThen : Option State → Type 0
+MayBeLeftThen left = MayBeLeft (λ before. before ≡ Some first) first three_asked three_replies left
+
+-- A stop may leave the state without the permission, or that with the new key, which was due and given up. The state
+-- before the change that was made isn't left.
+pub record StopsAreComputed : Type 0 where
+  pub made : MayBeLeftThen (Some withdrawn)
+  pub given_up : MayBeLeftThen (Some withdrawn_with_key)
+  pub before : MayBeLeftThen (Some first) → ⊥

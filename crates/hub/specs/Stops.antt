@@ -1,5 +1,6 @@
 -- What a stop may leave after a request, and after a list of requests.
-use Rattle.std.specs.Prelude.{◌≡◌, ◌⊎◌, Bool, false, List, [], ◌∷◌, Option, Some, IsTrue, if◌then◌else◌}
+use Rattle.std.specs.Prelude.{◌≡◌, ◌⊎◌, Bool, true, false, List, [], ◌∷◌, ◌++◌, Option, Some, IsTrue, Contains, if◌then◌else◌}
+use Rattle.std.specs.List.{list_any, zip}
 use Rattle.hub_core.specs.State.{State}
 use Rattle.hub_state.specs.declared.reply.Reply.{Reply}
 use Rattle.hub.specs.Machine.{Asked, state_left}
@@ -14,20 +15,47 @@ is_change_due s asked = is_made (reply_of s asked.0 asked.1 asked.2)
 abbrev pub IsDueChange : State → Asked → Option State → Type 0
 IsDueChange s asked left = IsTrue (is_change_due s asked) × (left ≡ Some (state_left s asked.1 asked.2))
 
--- What a stop may leave after a request, if it could have left `Before` before. It may leave the same, unless the reply
--- says that a change was made. If a change is due, it may leave what the request leaves.
-abbrev pub MayBeLeftBy : (Option State → Type 0) → State → Asked → Reply → Option State → Type 0
-MayBeLeftBy Before s asked reply left = (Before left × (is_made reply ≡ false)) ⊎ IsDueChange s asked left
+-- ---- after a list of requests
+
+-- a request with its reply
+abbrev pub Replied : Type 0
+Replied = Asked × Reply
 
 -- the content after a request: what the request leaves if the reply says that a change was made, and otherwise the same
 abbrev pub content_after : State → Asked → Reply → State
 content_after s asked reply = if is_made reply then state_left s asked.1 asked.2 else s
 
--- The same after a list of requests: the content after all changes whose replies say so, with or without one that was
--- given up since. What could have been left before may be left only if no reply says that a change was made.
+-- the content after requests, one after another
+abbrev pub content_behind : State → List Replied → State
+content_behind s [] = s
+content_behind s (x ∷ xs) = content_behind (content_after s x.0 x.1) xs
+
+-- one of the replies says that a change was made
+abbrev pub is_any_made : List Replied → Bool
+is_any_made xs = list_any (λ x. is_made x.1) xs
+
+-- the content after one of these requests by which a change is due
+abbrev pub HasOneDue : State → List Replied → Option State → Type 0
+HasOneDue s xs left = (x : Replied) × Contains xs x × IsDueChange s x.0 left
+
+-- Change k is the last that was made. Left is the content after it, or that with one due, given-up change behind it.
+pub record IsLeftByLast (s : State) (xs : List Replied) (left : Option State) : Type 0 where
+  pub before : List Replied
+  pub k : Replied
+  pub behind : List Replied
+  pub all : xs ≡ before ++ k ∷ behind
+  pub made : is_made k.1 ≡ true
+  pub last : is_any_made behind ≡ false
+  pub content : (left ≡ Some (content_behind s (before ++ k ∷ [])))
+      ⊎ HasOneDue (content_behind s (before ++ k ∷ [])) behind left
+
+-- No change was made. Left is what could be left before, or the content with one due, given-up change.
+pub record IsLeftFromBefore (Before : Option State → Type 0) (s : State) (xs : List Replied) (left : Option State) : Type 0 where
+  pub none : is_any_made xs ≡ false
+  pub content : Before left ⊎ HasOneDue s xs left
+
+-- What a stop may leave after requests with their replies, if it could have left `Before` before: the content after the
+-- last change that was made, or, if none was made, what could be left before; or one due, given-up change more.
 abbrev pub MayBeLeft : (Option State → Type 0) → State → List Asked → List Reply → Option State → Type 0
-MayBeLeft Before s [] [] left = Before left
-MayBeLeft Before s (asked ∷ others) (reply ∷ replies) left =
-    MayBeLeft (MayBeLeftBy Before s asked reply) (content_after s asked reply) others replies left
-MayBeLeft Before s [] (reply ∷ replies) left = ⊥
-MayBeLeft Before s (asked ∷ others) [] left = ⊥
+MayBeLeft Before s asked replies left =
+    IsLeftByLast s (zip asked replies) left ⊎ IsLeftFromBefore Before s (zip asked replies) left

@@ -23,9 +23,11 @@
 //!   line is read;
 //! - `change`: a change is judged, its reply is made, and only then the shelf makes it;
 //! - `asker`: the reads of the shelf that several of these need; `fault`: why a request is given up;
-//! - [`laws`]: a run keeps a state sound; [`examples`], worlds written by hand that are alike for a reader.
+//! - [`laws`]: a run keeps a state sound; `agreements`: two definitions of one thing; [`examples`], worlds written by
+//!   hand that are alike for a reader, and what a stop leaves.
 #![tactic(auto)]
 
+mod agreements;
 mod answers;
 mod asker;
 mod change;

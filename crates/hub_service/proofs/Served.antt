@@ -6,9 +6,10 @@ use Rattle.hub_state.specs.declared.reply.Reply.{Reply}
 use Rattle.hub_state.specs.declared.request.Request.{Request}
 use Rattle.hub.specs.Machine.{Asked, IsRun}
 use Rattle.hub.specs.declared.key.Key.{Key}
+use Rattle.hub.proofs.Leaving.{in_turn_left, left_in_turn}
 use Rattle.hub.proofs.Runs.{runs_sound}
 use Rattle.hub.proofs.Stopped.{left_behind_one, left_joined, left_more}
-use Rattle.hub.specs.Stops.{MayBeLeft}
+use Rattle.hub.specs.inner.InTurn.{MayBeLeftInTurn}
 use Rattle.hub_http.specs.Serving.{Steps, Serves, MayHaveAnswered}
 use Rattle.hub_http.specs.declared.serve.Served.{Served}
 use Rattle.hub_http.specs.declared.serve.Served.TheVariants.{Answered, WireRefused}
@@ -18,14 +19,14 @@ use Rattle.hub_service.specs.Serving.{HasRun}
 
 -- nothing was asked
 pub none_asked : {D : Type 0} (has : D → State → Type 0) (may_remain : D → Option State → Type 0) (old new : D) (most : ℕ) → new ≡ old → HasRun has may_remain old new most
-none_asked has may_remain old new most same = λ s here sound. ([], [], s, omega arith, refl, subst (λ d. has d s) (sym same) here, λ left there. subst (λ d. may_remain d left) same there)
+none_asked has may_remain old new most same = λ s here sound. ([], [], s, omega arith, refl, subst (λ d. has d s) (sym same) here, λ left there. left_in_turn (may_remain old) s [] [] left (subst (λ d. may_remain d left) same there))
 
 one_asked : {D : Type 0} (has : D → State → Type 0) (doubts failed : D → ℕ) (may_remain : D → Option State → Type 0) (old new : D) (now : ℤ) (asked : Key × Request) (reply : Reply)
     → Steps has doubts failed may_remain old now asked reply new → doubts new ≡ 0 → HasRun has may_remain old new 1
 one_asked has doubts failed may_remain old new now asked reply steps clean = λ s here sound.
     let step = steps.step clean s here sound in
     let one : Asked = (now, asked.0, asked.1) in
-    (one ∷ [], reply ∷ [], step.0, omega arith, (step.0, step.1, refl), step.2, left_behind_one (may_remain old) (may_remain new) s step.0 one reply step.1 (steps.durable clean s here sound) (steps.crash clean s here sound))
+    (one ∷ [], reply ∷ [], step.0, omega arith, (step.0, step.1, refl), step.2, λ left there. left_in_turn (may_remain old) s (one ∷ []) (reply ∷ []) left (left_behind_one (may_remain old) (may_remain new) s step.0 one reply step.1 (steps.durable clean s here sound) (steps.crash clean s here sound) left there))
 
 -- one connection makes at most one request
 pub serves_run : {D : Type 0} (has : D → State → Type 0) (doubts failed : D → ℕ) (may_remain : D → Option State → Type 0) (old new : D) (now : ℤ)
@@ -65,5 +66,8 @@ runs_on has may_remain old mid new m n first second = λ s here sound.
       joined s one.2 two.2 one.0 two.0 one.1 two.1 one.4 two.4,
       two.5,
       λ left there.
-          left_joined (may_remain old) s one.2 one.0 two.0 one.1 two.1 left one.4 (left_more (may_remain mid) (MayBeLeft (may_remain old) s one.0 one.1) one.2 two.0 two.1 one.6 left (two.6 left there)),
+          let first : (l : Option State) → may_remain mid l → MayBeLeftInTurn (may_remain old) s one.0 one.1 l = λ l k. in_turn_left (may_remain old) s one.2 one.0 one.1 l one.4 (one.6 l k) in
+          let second = in_turn_left (may_remain mid) one.2 two.2 two.0 two.1 left two.4 (two.6 left there) in
+          left_in_turn (may_remain old) s (one.0 ++ two.0) (one.1 ++ two.1) left
+          (left_joined (may_remain old) s one.2 one.0 two.0 one.1 two.1 left one.4 (left_more (may_remain mid) (MayBeLeftInTurn (may_remain old) s one.0 one.1) one.2 two.0 two.1 first left second)),
     )

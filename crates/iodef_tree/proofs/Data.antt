@@ -15,7 +15,8 @@ use Rattle.iodef_tree.specs.Sound.{SiblingPlace, may_stand, IsOrderedBehind, IsO
 use Rattle.json_pointer.specs.Text.{Bytes, bytes_lt}
 use Rattle.iodef_tree.specs.Tree.{Forest, end, leaf, branch, Body, Bodies, one, many, in_front, elements, member_front}
 use Rattle.iodef_tree.specs.View.{forest, forest_of_members, bodies, named, members_forest}
-use Rattle.iodef_tree.specs.inner.Written.{content_data, placed_member, placed_item, members_of, items_of, body_data, bodies_data, put_all}
+use Rattle.iodef_tree.specs.Json.{content_data}
+use Rattle.iodef_tree.specs.inner.Written.{placed_member, placed_item, members_of, items_of, body_data, bodies_data, put_all}
 use Rattle.json_pointer.specs.declared.text.Text.{Text}
 use Rattle.iodef_tree.specs.declared.object.Member.{Member}
 use Rattle.iodef_tree.specs.declared.object.Object.{Object}

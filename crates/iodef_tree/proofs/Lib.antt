@@ -14,6 +14,8 @@ mod Proven
 mod Computed
 mod Steps
 pub mod NoFloat
+mod TreeBack
+mod JsonOf
 pub mod Meaning
 pub mod Order
 pub mod Apart

@@ -12,12 +12,15 @@ use Rattle.iodef_tree.specs.Texts.{may_be_value, may_be_text, HasTexts}
 use Rattle.iodef_tree.specs.Tree.{Content, Forest, end, leaf, branch, kind_of, text_of, leaf_line, class_line, lines}
 use Rattle.iodef_tree.specs.Sound.{SiblingPlace, may_stand, IsOrderedBehind, IsSound}
 use Rattle.iodef_tree.specs.Outline.{sibling}
-use Rattle.iodef_tree.specs.Json.{continues, datum, members_from, items_from, data_of}
-use Rattle.iodef_tree.specs.inner.Written.{content_text, front_text, is_later_place, goes_on, close_text, written, content_data, placed_member, placed_item, members_of, items_of}
+use Rattle.iodef_tree.specs.Json.{content_data, json_of, data_of}
+use Rattle.iodef_tree.specs.inner.FlatJson.{continues, datum, members_from, items_from, flat_data}
+use Rattle.iodef_tree.specs.inner.Written.{content_text, front_text, is_later_place, goes_on, close_text, written, placed_member, placed_item, members_of, items_of}
 use Rattle.iodef_tree.specs.declared.line.Line.{Line}
 use Rattle.iodef_tree.specs.declared.shape.Sibling.{Sibling}
 use Rattle.iodef_tree.proofs.Order.{bytes_lt-ne}
+use Rattle.iodef_tree.proofs.JsonOf.{json-ordered, starts, alone-behind}
 use Rattle.iodef_tree.proofs.Sounds.{as_sibling}
+use Rattle.iodef_tree.proofs.TreeBack.{skip, Stops, stops-below, tree-ordered}
 use Rattle.iodef_tree.proofs.Writing.{named-front}
 use Rattle.iodef_tree.proofs.Outlines.{above-line, at-line, past-line}
 
@@ -28,14 +31,6 @@ value-text a s o h = grind (arith, and_parts, bytes_eq-Decides)
 
 content-means : (a : Bool) (c : Content) → may_be_text (kind_of c) a (text_of c) ≡ true → content_text c ≡ compact_text (content_data c)
 content-means a c h = grind (arith, value-text)
-
-abbrev is_element : Option SiblingPlace → Bool
-is_element None = false
-is_element (Some s) = is_some s.1
-
--- no array goes on at the beginning, or behind a line that is no element
-starts : (o : Option SiblingPlace) (f : Forest) → is_element o ≡ false → IsOrderedBehind o f → goes_on f ≡ false
-starts o f e h = grind arith
 
 -- The text of a tree is that of its members, or goes on with the elements of an array.
 record Means (w : Bool → Bytes) (goes : Bool) (close : Bytes) (ds : json.Items) (ms : json.Members) : Type 0 where
@@ -77,9 +72,6 @@ in_front-means n (Some (suc j)) t d rest is alone k = record {
       ∙ ap (λ x. 44 ∷ x) (sym (append_assoc (compact_text d) (items_text true (items_of rest)) (members_text true (members_of rest))));
 }
 
-alone-behind : (n : Bytes) (p : Option ℕ) (rest : Forest) → IsOrderedBehind (Some (n, p)) rest → p ≡ None → goes_on rest ≡ false
-alone-behind n p rest h e = grind arith
-
 means : (f : Forest) (o : Option SiblingPlace) → IsOrderedBehind o f → HasTexts f → Means (λ later. written later f) (goes_on f) (closing (goes_on f)) (items_of f) (members_of f)
 means end o h k = record { members = λ later e. refl; items = refl }
 means (leaf i rest) o h k =
@@ -98,40 +90,17 @@ continues-is o l p a h = grind (arith, and_parts, and_right, bytes_lt-ne)
 
 -- ---- deeper lines change nothing
 
--- a function that skips a deeper line skips all lines of a class
-skip : {A : Type 0} (F : List Line → A) (d : ℕ) → ((l : Line) (ls : List Line) → d < l.depth → F (l ∷ ls) ≡ F ls) → (f : Forest) (n : ℕ) (X : List Line) → d < n → F (lines n f ++ X) ≡ F X
-skip F d passes end n X h = refl
-skip F d passes (leaf i rest) n X h = passes (leaf_line n i) (lines n rest ++ X) h ∙ skip F d passes rest n X h
-skip F d passes (branch m p kids rest) n X h =
-    passes (class_line n m p) ((lines (suc n) kids ++ lines n rest) ++ X) h
-    ∙ ap F (append_assoc (lines (suc n) kids) (lines n rest) X)
-    ∙ skip F d passes kids (suc n) (lines n rest ++ X) (omega (arith, h))
-    ∙ skip F d passes rest n X h
-
 skip-members : (f : Forest) (n d : ℕ) (o : Option Sibling) (X : List Line) → d < n → members_from d o (lines n f ++ X) ≡ members_from d o X
 skip-members f n d o X h = skip (members_from d o) d (λ l ls k. past-line l.depth d _ _ _ k) f n X h
 
 skip-items : (f : Forest) (n d : ℕ) (o : Option Sibling) (X : List Line) → d < n → items_from d o (lines n f ++ X) ≡ items_from d o X
 skip-items f n d o X h = skip (items_from d o) d (λ l ls k. past-line l.depth d _ _ _ k) f n X h
 
--- the list begins less deep
-abbrev Stops : ℕ → List Line → Type 0
-Stops d [] = Unit {0}
-Stops d (l ∷ ls) = l.depth < d
-
 stops-members : (X : List Line) (d : ℕ) (o : Option Sibling) → Stops d X → members_from d o X ≡ json.no_members
 stops-members X d o h = grind (arith, above-line)
 
 stops-items : (X : List Line) (d : ℕ) (o : Option Sibling) → Stops d X → items_from d o X ≡ json.no_items
 stops-items X d o h = grind (arith, above-line)
-
-stops-more : (X : List Line) (d : ℕ) → Stops d X → Stops (suc d) X
-stops-more X d h = grind arith
-
-stops-below : (f : Forest) (d : ℕ) (X : List Line) → Stops d X → Stops (suc d) (lines d f ++ X)
-stops-below end d X h = stops-more X d h
-stops-below (leaf i rest) d X h = omega arith
-stops-below (branch n p kids rest) d X h = omega arith
 
 -- ---- line by line
 
@@ -172,8 +141,14 @@ tells (branch n p kids rest) d o X h k =
     (ap (members_from d (Some (sibling l))) joined ∙ skip-members kids (suc d) d (Some (sibling l)) Y (omega arith) ∙ r.members)
     (ap (items_from d (Some (sibling l))) joined ∙ skip-items kids (suc d) d (Some (sibling l)) Y (omega arith) ∙ r.items)
 
+flat-ordered : (f : Forest) → IsOrderedBehind None f → flat_data (lines 1 f) ≡ members_of f
+flat-ordered f h = ap (members_from 1 None) (sym (append-nil (lines 1 f))) ∙ (tells f 1 None [] h tt).members
+
 pub data-ordered : (f : Forest) → IsOrderedBehind None f → data_of (lines 1 f) ≡ members_of f
-data-ordered f h = ap (members_from 1 None) (sym (append-nil (lines 1 f))) ∙ (tells f 1 None [] h tt).members
+data-ordered f h = ap json_of (tree-ordered f h) ∙ json-ordered f h
+
+pub json-flat : (f : Forest) → IsSound f → data_of (lines 1 f) ≡ flat_data (lines 1 f)
+json-flat f h = data-ordered f h.ordered ∙ sym (flat-ordered f h.ordered)
 
 pub data-is : (f : Forest) → IsSound f → data_of (lines 1 f) ≡ members_of f
 data-is f h = data-ordered f h.ordered

@@ -12,7 +12,8 @@ use Rattle.iodef_tree.specs.inner.SoundParts.{IsBodyKept, AreKept}
 use Rattle.json_pointer.specs.Text.{Bytes}
 use Rattle.iodef_tree.specs.Texts.{may_be_value, may_be_text, HasTexts, is_plain, are_plain, is_empty}
 use Rattle.iodef_tree.specs.Tree.{Content, text, value, Forest, end, leaf, branch, Body, holds, says, Bodies, one, many, kind_of, text_of}
-use Rattle.iodef_tree.specs.inner.Written.{content_data, placed_member, placed_item, members_of, items_of, body_data, bodies_data}
+use Rattle.iodef_tree.specs.Json.{content_data}
+use Rattle.iodef_tree.specs.inner.Written.{placed_member, placed_item, members_of, items_of, body_data, bodies_data}
 use Rattle.serde_json.specs.Find.{is_float}
 use Rattle.iodef_tree.specs.declared.TheConstants.{DEPTH_LIMIT}
 

@@ -1,10 +1,15 @@
--- Three small bodies by their JSON values, and the lines of the one document of each. The definitions compute them.
-use Rattle.std.specs.Prelude.{◌≡◌, ℕ, [], ◌∷◌, Bool, true, false, codes}
+-- Three small bodies by their JSON values, and the lines of the one document of each; and the lines of a document, with
+-- its JSON object and its paths. The definitions compute them.
+use Rattle.std.specs.Prelude.{◌≡◌, ℕ, List, [], ◌∷◌, map, Bool, true, false, codes}
 use Rattle.serde_json.specs.Data as json
 use Rattle.serde_json.specs.Data.{Data, string, number, unsigned, array, object, no_items, no_members}
+use Rattle.json_pointer.specs.Pointer.{pointer_text}
 use Rattle.json_pointer.specs.Text.{Bytes}
+use Rattle.iodef_tree.specs.Json.{data_of}
+use Rattle.iodef_tree.specs.Paths.{located}
 use Rattle.iodef_tree.specs.Tree.{lines}
 use Rattle.iodef_tree.specs.Values.{forest_of_data}
+use Rattle.iodef_tree.specs.Walk.{walked}
 use Rattle.iodef_tree.specs.declared.line.Line.{Line}
 use Rattle.iodef_tree.specs.declared.line.Kind.{Kind}
 use Rattle.iodef_tree.specs.declared.line.Kind.TheVariants as kind
@@ -104,3 +109,48 @@ ElementsFollowOneAnother =
     ∷ line 2 (codes "restriction") false kind.Text (codes "public")
     ∷ line 1 (codes "version") false kind.Text (codes "2.0")
     ∷ []
+
+-- a document with two Contacts in one array, of which the second is empty, and an array of a text and a number
+abbrev pub two_contacts : List Line
+two_contacts =
+    line 1 (codes "Incident") true kind.Class []
+    ∷ line 2 (codes "Contact") true kind.Class []
+    ∷ line 3 (codes "role") false kind.Text (codes "creator")
+    ∷ line 2 (codes "Contact") true kind.Class []
+    ∷ line 2 (codes "IncidentID") false kind.Class []
+    ∷ line 3 (codes "id") false kind.Text (codes "1")
+    ∷ line 2 (codes "Note") true kind.Text (codes "p")
+    ∷ line 2 (codes "Note") true kind.Value (codes "7")
+    ∷ line 1 (codes "version") false kind.Text (codes "2.0")
+    ∷ []
+
+-- The lines of an array are its elements again, and those one deeper are the members of a class.
+abbrev pub ElementsJoinTheirArray : Type 0
+ElementsJoinTheirArray =
+    data_of two_contacts
+    ≡ member (codes "Incident") (array (item (object (
+    member (codes "Contact") (array (
+    item (object (member (codes "role") (string (codes "creator")) no_members)) (
+    item (object no_members) no_items))) (
+    member (codes "IncidentID") (object (member (codes "id") (string (codes "1")) no_members)) (
+    member (codes "Note") (array (item (string (codes "p")) (item (number (unsigned 7)) no_items))) no_members)))) no_items)) (
+    member (codes "version") (string (codes "2.0")) no_members)
+
+-- the paths of these lines
+abbrev pub paths_of_two_contacts : List Bytes
+paths_of_two_contacts =
+    codes "/Incident/0"
+    ∷ codes "/Incident/0/Contact/0"
+    ∷ codes "/Incident/0/Contact/0/role"
+    ∷ codes "/Incident/0/Contact/1"
+    ∷ codes "/Incident/0/IncidentID"
+    ∷ codes "/Incident/0/IncidentID/id"
+    ∷ codes "/Incident/0/Note/0"
+    ∷ codes "/Incident/0/Note/1"
+    ∷ codes "/version"
+    ∷ []
+
+-- A walk down the tree of a document and a look back from each line find the same paths.
+pub record PathsAreFound : Type 0 where
+  pub by_walk : map (λ e. pointer_text e.path) (walked two_contacts) ≡ paths_of_two_contacts
+  pub by_lines : map (λ e. pointer_text e.path) (located two_contacts) ≡ paths_of_two_contacts

@@ -1,5 +1,5 @@
--- The JSON object that a document is (RFC 8727 section 2), from the flat list of its lines.
-use Rattle.std.specs.Prelude.{ℕ, suc, List, [], ◌∷◌, Bool, false, ◌&&◌, nat_lt, ◌==◌, if◌then◌else◌, Option, Some, None, unwrap_or, option_map, option_and_then, codes}
+-- The JSON object that a document is (RFC 8727 section 2): a fold over its tree.
+use Rattle.std.specs.Prelude.{ℕ, List, if◌then◌else◌, Option, Some, None, unwrap_or, option_map, option_and_then, codes}
 use Rattle.std.specs.Str.{bytes_eq}
 use Rattle.serde_json.specs.Data as json
 use Rattle.serde_json.specs.Data.{Data}
@@ -7,54 +7,36 @@ use Rattle.serde_json.specs.Find.{get, get_member, get_item}
 use Rattle.serde_json.specs.Read.{read}
 use Rattle.serde_json.specs.Written.{compact_text}
 use Rattle.json_pointer.specs.Text.{Bytes}
-use Rattle.iodef_tree.specs.Outline.{sibling}
+use Rattle.iodef_tree.specs.Tree.{Content, text, value, Forest, end, leaf, branch}
+use Rattle.iodef_tree.specs.TreeOf.{tree_of}
 use Rattle.iodef_tree.specs.declared.line.Line.{Line}
-use Rattle.iodef_tree.specs.declared.line.Kind.{Kind}
-use Rattle.iodef_tree.specs.declared.line.Kind.TheVariants as kind
-use Rattle.iodef_tree.specs.declared.shape.Sibling.{Sibling}
 
--- whether a line is one more element of the array in which the newest sibling is
-abbrev pub continues : Option Sibling → Line → Bool
-continues None l = false
-continues (Some x) l = bytes_eq x.name l.name && (x.in_array && l.in_array)
+-- the JSON value of a plain content; a text of a value that can't be read counts as null
+abbrev pub content_data : Content → Data
+content_data (text s) = json.string s
+content_data (value s) = unwrap_or (read s) json.null
 
--- the JSON value that a line means, given the members of the class if it is one; a value's text that can't be read
--- counts as null
-abbrev pub datum : Kind → Bytes → json.Members → Data
-datum kind.Class s ms = json.object ms
-datum kind.Text s ms = json.string s
-datum kind.Value s ms = unwrap_or (read s) json.null
+-- an element in front of members: it joins the array of its name if that is the first of them, else it begins one
+abbrev pub element_front : Bytes → Data → json.Members → json.Members
+element_front name d (json.member n (json.array ds) ms) =
+    if bytes_eq name n then json.member n (json.array (json.item d ds)) ms
+    else json.member name (json.array (json.item d json.no_items)) (json.member n (json.array ds) ms)
+element_front name d ms = json.member name (json.array (json.item d json.no_items)) ms
 
--- a choice by the depth of a line: the first if it is less deep, the second if it is as deep, the third if it is
--- deeper
-abbrev pub by_depth : {A : Type 0} → Line → ℕ → A → A → A → A
-by_depth l depth ended own passed = if nat_lt l.depth depth then ended else (if l.depth == depth then own else passed)
+-- a value in front of members: a member of its own, or an element if it has a place in an array
+abbrev pub json_front : Bytes → Option ℕ → Data → json.Members → json.Members
+json_front name None d ms = json.member name d ms
+json_front name (Some k) d ms = element_front name d ms
 
--- the member that a line begins: if the line is in an array, all its elements, of which the line is the first
-abbrev pub member_begun : Line → Data → json.Items → json.Members → json.Members
-member_begun l d others rest = if l.in_array then json.member l.name (json.array (json.item d others)) rest else json.member l.name d rest
-
--- Both read the lines before the first that is less deep: `members_from` returns the members at this depth that follow
--- a sibling, and `items_from` the elements with which the array of the sibling goes on.
-abbrev mutual
-  pub members_from : ℕ → Option Sibling → List Line → json.Members
-  members_from depth before [] = json.no_members
-  members_from depth before (l ∷ ls) = by_depth l depth
-      json.no_members
-      (if continues before l then members_from depth (Some (sibling l)) ls
-      else member_begun l (datum l.kind l.text (members_from (suc depth) None ls)) (items_from depth (Some (sibling l)) ls) (members_from depth (Some (sibling l)) ls))
-      (members_from depth before ls)
-
-  pub items_from : ℕ → Option Sibling → List Line → json.Items
-  items_from depth before [] = json.no_items
-  items_from depth before (l ∷ ls) = by_depth l depth
-      json.no_items
-      (if continues before l then json.item (datum l.kind l.text (members_from (suc depth) None ls)) (items_from depth (Some (sibling l)) ls) else json.no_items)
-      (items_from depth before ls)
+-- the members of the JSON object that a tree is
+abbrev pub json_of : Forest → json.Members
+json_of end = json.no_members
+json_of (leaf i rest) = json_front i.name i.place (content_data i.content) (json_of rest)
+json_of (branch name place kids rest) = json_front name place (json.object (json_of kids)) (json_of rest)
 
 -- the members of the JSON object that a document is (RFC 8727 section 2)
 abbrev pub data_of : List Line → json.Members
-data_of ls = members_from 1 None ls
+data_of ls = json_of (tree_of ls)
 
 -- the element at place 0 of an array, or the member `0` of an object
 abbrev pub zeroth : Data → Option Data

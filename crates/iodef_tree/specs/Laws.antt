@@ -12,7 +12,8 @@ use Rattle.iodef_tree.specs.Tree.{Forest, end, leaf, branch, steps, lines}
 use Rattle.iodef_tree.specs.Paths.{LocatedLine, located, classes_of, has_class}
 use Rattle.iodef_tree.specs.Outline.{is_outline}
 use Rattle.iodef_tree.specs.Sound.{IsSound}
-use Rattle.iodef_tree.specs.Walk.{walk, IsBlock, AreBlocks}
+use Rattle.iodef_tree.specs.TreeOf.{tree_of}
+use Rattle.iodef_tree.specs.Walk.{walk, walked, IsBlock, AreBlocks}
 
 -- a property holds of each sibling, by its name and its place
 abbrev pub AllSiblings : (Bytes → Option ℕ → Type 0) → Forest → Type 0
@@ -40,6 +41,10 @@ pub record StandsAt (es : List LocatedLine) (p : Tokens) (f : Forest) : Type 0 w
 -- The law that the located lines of a sound tree are those that a walk down the tree meets.
 abbrev pub EntriesAreTheWalk : Type 0
 EntriesAreTheWalk = (f : Forest) → IsSound f → located (lines 1 f) ≡ walk 1 [] f
+
+-- The law that the tree of a sound tree's lines is that tree.
+abbrev pub TreesComeBack : Type 0
+TreesComeBack = (f : Forest) → IsSound f → tree_of (lines 1 f) ≡ f
 
 -- The law that siblings of a sound tree are apart.
 abbrev pub SiblingsStandApart : Type 0
@@ -90,3 +95,7 @@ IsDocument ls = (f : Forest) × IsSound f × (ls ≡ lines 1 f)
 -- The law that the lines of each document of a body are those of a sound tree.
 abbrev pub ReadingsAreDocuments : Type 0
 ReadingsAreDocuments = (bytes : Bytes) (ds : List (List Line)) → reading bytes ≡ Ok ds → AllByRecursion IsDocument ds
+
+-- The law that the located lines of a document are those that a walk down its tree meets.
+abbrev pub PathsAreWalked : Type 0
+PathsAreWalked = (ls : List Line) → IsDocument ls → located ls ≡ walked ls

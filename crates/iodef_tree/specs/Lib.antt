@@ -7,6 +7,7 @@ pub mod Sound
 pub mod Outline
 pub mod Shown
 pub mod Built
+pub mod TreeOf
 pub mod Json
 pub mod View
 pub mod Walk

@@ -45,7 +45,8 @@ abbrev pub located_after : List LocatedLine → List Line → List LocatedLine
 located_after before [] = []
 located_after before (l ∷ ls) = let e = placed before l in e ∷ located_after (e ∷ before) ls
 
--- the lines of an outline, each with its path and the path of its parent
+-- The lines of an outline, each with its path and the path of its parent. Of a document they are those that a walk down
+-- its tree meets: the law `PathsAreWalked`.
 abbrev pub located : List Line → List LocatedLine
 located ls = located_after [] ls
 

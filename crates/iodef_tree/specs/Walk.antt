@@ -2,6 +2,8 @@
 use Rattle.std.specs.Prelude.{◌≡◌, ℕ, suc, List, [], ◌∷◌, ◌++◌, Option}
 use Rattle.json_pointer.specs.Text.{Bytes, Tokens}
 use Rattle.iodef_tree.specs.Tree.{Leaf, Forest, end, leaf, branch, steps, leaf_line, class_line}
+use Rattle.iodef_tree.specs.TreeOf.{tree_of}
+use Rattle.iodef_tree.specs.declared.line.Line.{Line}
 use Rattle.iodef_tree.specs.Paths.{LocatedLine, entry_at, below}
 
 -- the located line of a plain member of the class at p
@@ -17,6 +19,10 @@ abbrev pub walk : ℕ → Tokens → Forest → List LocatedLine
 walk d p end = []
 walk d p (leaf i rest) = leaf_entry d p i ∷ walk d p rest
 walk d p (branch name place kids rest) = class_entry d p name place ∷ (walk (suc d) (p ++ steps name place) kids ++ walk d p rest)
+
+-- the located lines of a document: those that a walk down its tree meets
+abbrev pub walked : List Line → List LocatedLine
+walked ls = walk 1 [] (tree_of ls)
 
 -- the lines below p are those of these members
 abbrev pub IsBlock : Tokens → List LocatedLine → Forest → Type 0

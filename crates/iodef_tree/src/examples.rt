@@ -1,4 +1,4 @@
-//! The definitions computed on three small bodies (`specs/Examples.antt`). A wrong definition would show here, with no
+//! The definitions computed on small bodies (`specs/Examples.antt`). A wrong definition would show here, with no
 //! program between. Each example is the contract of a function that does nothing.
 #![tactic(auto, unfolding(crate::proofs::Computed::computed))]
 
@@ -6,6 +6,8 @@ ghost use Rattle.iodef_tree.specs.Examples.{
   ArraysAreSpread,
   ClassesStandInFrontOfTheirMembers,
   ElementsFollowOneAnother,
+  ElementsJoinTheirArray,
+  PathsAreFound,
 };
 
 /// The lines of a document with arrays of classes, texts and values; one of the arrays is empty.
@@ -21,4 +23,14 @@ pub fn classes_stand_in_front()
 /// The elements of an array follow one another, each with its own members behind it.
 pub fn elements_follow_one_another()
     ensures { ElementsFollowOneAnother }
+{}
+
+/// The lines of an array are its elements again, and those one deeper are the members of a class.
+pub fn elements_join_their_array()
+    ensures { ElementsJoinTheirArray }
+{}
+
+/// A walk down the tree of a document and a look back from each line find the same paths.
+pub fn paths_are_found()
+    ensures { PathsAreFound }
 {}

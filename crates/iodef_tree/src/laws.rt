@@ -6,6 +6,8 @@ ghost use Rattle.std.specs.Prelude.{◌≡◌};
 ghost use Rattle.iodef_tree.specs.declared.TheConstants.{DEPTH_LIMIT, LINE_LIMIT, REPORT_INCIDENT_LIMIT};
 ghost use Rattle.iodef_tree.specs.Laws.{
   EntriesAreTheWalk,
+  TreesComeBack,
+  PathsAreWalked,
   SiblingsStandApart,
   ClassesAreBlocks,
   PathsAreDistinct,
@@ -20,6 +22,16 @@ ghost use Rattle.iodef_tree.specs.Laws.{
 /// The lines of an outline, each with its path and its parent's path, are those that a walk down the tree meets.
 pub fn entries_are_the_walk()
     ensures { EntriesAreTheWalk }
+{}
+
+/// The tree of the lines of a document is the tree that has these lines.
+pub fn trees_come_back()
+    ensures { TreesComeBack }
+{}
+
+/// The lines of a document, each with its path and its parent's path, are those that a walk down its tree meets.
+pub fn paths_are_walked()
+    ensures { PathsAreWalked }
 {}
 
 /// Of two siblings, no path at or below one is at or below the other.

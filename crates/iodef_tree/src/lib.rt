@@ -1,7 +1,7 @@
 //! IODEF v2 documents in JSON (RFC 7970, RFC 8727): trees in memory, and flat lists of lines in contracts.
 //!
-//! Read first, in `specs/`: `Tree`, a document as a tree, and its lines; `Paths`, the path of each line; `Reading`,
-//! what a body gives.
+//! Read first, in `specs/`: `Tree`, a document as a tree, and its lines; `TreeOf`, the tree of such lines; `Walk`, the
+//! path of each; `Json`, the JSON object; `Reading`, what a body gives.
 //!
 //! The modules, in the order of the data:
 //!
@@ -14,11 +14,12 @@
 //! - `shape`: [`Shape`], whether lines that come one at a time are an outline; `value_text`: the texts of values;
 //!   `builder`: [`Builder`], the document of such lines;
 //! - `value`, `writer`: back to JSON, as a value and as a text, in which `string` quotes;
-//! - [`laws`]: what holds of every document; [`examples`]: the lines of three small bodies.
+//! - [`laws`]: what holds of every document; `agreements`: two definitions of one thing; [`examples`]: small bodies.
 //!
 //! [`Path`], [`PathFault`], [`Text`] and [`push_token`] are re-exported from `json_pointer`.
 #![tactic(auto)]
 
+mod agreements;
 mod builder;
 mod classes;
 mod convert;

@@ -16,7 +16,8 @@
 //!   clauses only; `outline_document`, the document of the kept lines;
 //! - `probe`: [`Probe`], a search by such lines: `open_classes`, what is sure of the classes that may still get lines,
 //!   also by the `class_permissions`;
-//! - [`laws`]: what excerpts and searches promise; [`examples`], the definitions computed on small reports.
+//! - [`laws`]: what excerpts and searches promise; `agreements`: two definitions of one thing; [`examples`], the
+//!   definitions computed on small reports.
 #![tactic(auto)]
 
 mod agreements;

@@ -8,7 +8,8 @@ use Rattle.serde_json.specs.Data as json
 use Rattle.serde_json.specs.Data.{Data, put, depth, items_depth, members_depth}
 use Rattle.serde_json.specs.Find.{get_member}
 use Rattle.iodef_tree.specs.inner.FitValues.{is_refused}
-use Rattle.iodef_tree.specs.inner.Written.{content_data, placed_member, placed_item, members_of, items_of}
+use Rattle.iodef_tree.specs.Json.{content_data}
+use Rattle.iodef_tree.specs.inner.Written.{placed_member, placed_item, members_of, items_of}
 use Rattle.iodef_tree.specs.Sound.{SiblingPlace, may_stand, IsOrderedBehind}
 use Rattle.iodef_tree.specs.Text.{Bytes, bytes_lt}
 use Rattle.iodef_tree.specs.Texts.{HasTexts}

@@ -8,7 +8,7 @@ use Rattle.serde_json.specs.Find.{as_array, as_number, as_object, is_float}
 use Rattle.serde_json.specs.Read.{read}
 use Rattle.serde_json.specs.Written.{compact_text}
 use Rattle.iodef_tree.specs.inner.FitValues.{is_refused}
-use Rattle.iodef_tree.specs.inner.Written.{content_data}
+use Rattle.iodef_tree.specs.Json.{content_data}
 use Rattle.iodef_tree.specs.Reading.{lacking}
 use Rattle.iodef_tree.specs.Text.{Bytes}
 use Rattle.iodef_tree.specs.Texts.{is_plain, are_plain, is_empty, may_be_value, may_be_text}

@@ -16,7 +16,8 @@ use Rattle.serde_json.specs.Events.{items_len}
 use Rattle.serde_json.specs.Find.{get_member, as_array, as_object}
 use Rattle.serde_json.specs.Read.{read}
 use Rattle.serde_json.specs.Written.{compact_text}
-use Rattle.iodef_tree.specs.inner.Written.{content_data, placed_member, placed_item, members_of, items_of}
+use Rattle.iodef_tree.specs.Json.{content_data}
+use Rattle.iodef_tree.specs.inner.Written.{placed_member, placed_item, members_of, items_of}
 use Rattle.iodef_tree.specs.Reading.{◌>>=◌, or_fault, unless, parsed, all_objects, are_incidents, if_incidents, incidents_of, lacking, all_complete, all_fit, incident_at, document_of, if_short, documents, reading}
 use Rattle.iodef_tree.specs.Sound.{SiblingPlace, may_stand, IsOrderedBehind, IsSound}
 use Rattle.iodef_tree.specs.Text.{Bytes}

@@ -12,7 +12,8 @@ use Rattle.iodef_tree.specs.Texts.{HasTexts}
 use Rattle.iodef_tree.specs.Tree.{Content, Forest, end, leaf, branch, Body, holds, says, Bodies, one, many, in_front, elements, member_front, lines, height}
 use Rattle.iodef_tree.specs.View.{forest_of_members}
 use Rattle.iodef_tree.specs.inner.FitValues.{line_count}
-use Rattle.iodef_tree.specs.inner.Written.{content_data, placed_member, placed_item, members_of, items_of, goes_on, is_later_place}
+use Rattle.iodef_tree.specs.Json.{content_data}
+use Rattle.iodef_tree.specs.inner.Written.{placed_member, placed_item, members_of, items_of, goes_on, is_later_place}
 use Rattle.iodef_tree.specs.declared.TheConstants.{DEPTH_LIMIT, LINE_LIMIT}
 use Rattle.iodef_tree.specs.declared.fault.Required.TheVariants as required
 use Rattle.iodef_tree.specs.declared.line.Line.{Line}

@@ -1,12 +1,12 @@
 -- A tree as JSON text, as the program writes it down the tree.
-use Rattle.std.specs.Prelude.{ℕ, zero, suc, List, [], ◌∷◌, ◌++◌, map, Bool, true, false, if◌then◌else◌, ◌||◌, ◌==◌, nat_lt, Option, Some, None, unwrap_or}
+use Rattle.std.specs.Prelude.{ℕ, zero, suc, List, [], ◌∷◌, ◌++◌, map, Bool, true, false, if◌then◌else◌, ◌||◌, ◌==◌, nat_lt, Option, Some, None}
 use Rattle.json.specs.Print.{quoted}
 use Rattle.serde_json.specs.Data as json
 use Rattle.serde_json.specs.Data.{Data}
-use Rattle.serde_json.specs.Read.{read}
 use Rattle.serde_json.specs.View.{items_of as listed}
 use Rattle.serde_json.specs.Written.{comma_if}
 use Rattle.json_pointer.specs.Text.{Bytes}
+use Rattle.iodef_tree.specs.Json.{content_data}
 use Rattle.iodef_tree.specs.Tree.{Content, text, value, Forest, end, leaf, branch, Body, holds, says, Bodies, one, many}
 
 -- ---- as text
@@ -74,11 +74,6 @@ abbrev pub member_text : Bool → Bytes → Bodies → Bytes
 member_text later name m = comma_if later ++ (quoted name ++ 58 ∷ bodies_text m)
 
 -- ---- as data
-
--- the JSON value of a plain content; a text of a value that can't be read counts as null
-abbrev pub content_data : Content → Data
-content_data (text s) = json.string s
-content_data (value s) = unwrap_or (read s) json.null
 
 -- a member in front of others: the first element of an array begins the member, and the later ones belong to it
 abbrev pub placed_member : Bytes → Option ℕ → Data → json.Items → json.Members → json.Members

@@ -1,5 +1,7 @@
-use Rattle.std.proofs.Common.{◌≡◌, ◌++◌, [], ◌∷◌, arith, rules}
+use Rattle.std.proofs.Common.{◌≡◌, ◌++◌, [], ◌∷◌, take, subst, arith, rules}
+use Rattle.hub.specs.inner.InTurn.{MayBeLeftInTurn}
 use Rattle.hub.proofs.Failures.{counted_on, failure_alone}
+use Rattle.hub.proofs.Leaving.{left_in_turn}
 use Rattle.hub.proofs.OneMore.{answers_on}
 use Rattle.hub.proofs.Runs.{goes_on, runs_sound}
 use Rattle.hub.proofs.Stopped.{stops_on}
@@ -39,3 +41,12 @@ loop-one-preserved g c =
           rw items (stops_on shelf.may_remain c.args.self.now c.loop-one.self c.step-reply.new.self s mid.0 step.0 c.args.asked.now c.loop-one.one-index c.one-item.result earlier reply c.one-item.is c.loop-one-test.true
           mid.1 step.1 (c.loop-one.invariant.crash before s has sound) (one.durable clean mid.0 mid.2 whole) (one.crash clean mid.0 mid.2 whole));
     }
+
+pub returns-clause-crash : goal.returns-clause-crash
+returns-clause-crash g c =
+    let before = g.Sh.Shelf.may_remain c.args.self.now in
+    let asked = c.args.asked.now in
+    let replies = c.loop-one.replies.items in
+    let whole : take c.loop-one.one-index asked ≡ asked = search rules in
+    λ clean s has sound left there.
+    left_in_turn before s asked replies left (subst (λ q. MayBeLeftInTurn before s q replies left) whole (c.loop-one.invariant.crash clean s has sound left there))

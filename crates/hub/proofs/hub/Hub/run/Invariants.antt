@@ -5,7 +5,7 @@ use Rattle.hub_core.specs.Sound.{IsSound}
 use Rattle.hub.specs.Faults.{AreCounted, failures_told}
 use Rattle.hub.specs.Machine.{IsRun}
 use Rattle.hub.specs.OneByOne.{AreAnswers}
-use Rattle.hub.specs.Stops.{MayBeLeft}
+use Rattle.hub.specs.inner.InTurn.{MayBeLeftInTurn}
 use Rattle.hub.proofs.hub.Hub.run.Given as goal
 
 abbrev pub invariant-loop-one : goal.invariant-loop-one
@@ -20,5 +20,5 @@ invariant-loop-one g l =
       told : shelf.doubts l.self ≡ 0 → (s : State) → shelf.has l.fn.self s → IsSound s
           → (mid : State) × IsRun s (take l.one-index l.asked) l.replies.items mid × shelf.has l.self mid;
       cause : shelf.doubts l.self ≡ 0 → (s : State) → shelf.has l.fn.self s → IsSound s → AreCounted (failures_told l.replies.items) (shelf.failed l.fn.self) (shelf.failed l.self);
-      crash : shelf.doubts l.self ≡ 0 → (s : State) → shelf.has l.fn.self s → IsSound s → (left : Option State) → shelf.may_remain l.self left → MayBeLeft (shelf.may_remain l.fn.self) s (take l.one-index l.asked) l.replies.items left;
+      crash : shelf.doubts l.self ≡ 0 → (s : State) → shelf.has l.fn.self s → IsSound s → (left : Option State) → shelf.may_remain l.self left → MayBeLeftInTurn (shelf.may_remain l.fn.self) s (take l.one-index l.asked) l.replies.items left;
     }
