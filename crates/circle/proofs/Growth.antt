@@ -1,23 +1,12 @@
 -- No organisation, person, community or group goes away.
-use Rattle.std.proofs.Common.{ℕ, ◌==◌, false, if◌then◌else◌, map, IsTrue, Option, Some, None, refl}
-use Rattle.std.specs.List.{list_any}
-use Rattle.circle.specs.declared.directory.Org.{Org}
-use Rattle.circle.specs.declared.directory.Account.{Account}
-use Rattle.circle.specs.declared.directory.Community.{Community}
-use Rattle.circle.specs.declared.directory.Group.{Group}
-use Rattle.circle.specs.declared.command.Edit.{Edit}
-use Rattle.circle.specs.declared.command.Edit.TheVariants.{Row, Found}
-use Rattle.circle.specs.declared.command.RowEdit.{RowEdit}
-use Rattle.circle.specs.declared.command.RowEdit.TheVariants.{PutOrg, PutAccount, Suspend, PutClient, TakeClient, PutCommunity, PutMembership, TakeMembership, PutConnection, TakeConnection, PutGroup, PutGroupMember, TakeGroupMember, SetGroupActive, PutArrangement, TakeArrangement, SetNominated, SetKey}
-use Rattle.circle.specs.declared.refusal.Refusal.{Refusal}
-use Rattle.circle.specs.Directory.{Directory, org_number, account_number, community_number, group_number, has_person}
-use Rattle.circle.specs.Ordered.{by_number}
-use Rattle.circle.specs.Refusals.{refusal_of}
-use Rattle.circle.specs.Aftermath.{edited_row, edited, edit_of, next_in, changed, unless_refused, founder}
-use Rattle.circle.specs.Growth.{Grows}
-use Rattle.circle.specs.Laws.{NothingVanishes}
-use Rattle.circle.proofs.Keeping.{any_put, names_map}
-use Rattle.circle.proofs.Kept.{same_when}
+use Rattle.{std.{proofs.Common.{ℕ, ◌==◌, false, if◌then◌else◌, map, IsTrue, Option, Some, None, refl}, specs.List.list_any}, circle.proofs.Keeping.any_put}
+use Rattle.circle.{proofs.{Keeping.names_map, Kept.same_when}, specs.Aftermath.{edited_row, edited, edit_of, next_in, changed, unless_refused, founder}}
+use Rattle.circle.specs.{Directory.{Directory, org_number, account_number, community_number, group_number, has_person}, Growth.Grows, Laws.NothingVanishes}
+use Rattle.circle.specs.{Ordered.by_number, Refusals.refusal_of, declared.command.{Edit.{Edit, TheVariants.{Row, Found}}, RowEdit.RowEdit}}
+use Rattle.circle.specs.declared.command.RowEdit.TheVariants.{PutOrg, PutAccount, Suspend, PutClient, TakeClient, PutCommunity, PutMembership, TakeMembership}
+use Rattle.circle.specs.declared.command.RowEdit.TheVariants.{PutConnection, TakeConnection, PutGroup, PutGroupMember, TakeGroupMember, SetGroupActive}
+use Rattle.circle.specs.declared.{command.RowEdit.TheVariants.{PutArrangement, TakeArrangement, SetNominated, SetKey}, directory.Account.Account}
+use Rattle.circle.specs.declared.{directory.{Community.Community, Group.Group, Org.Org}, refusal.Refusal.Refusal}
 
 grows_row : (edit : RowEdit) (d : Directory) → Grows d (edited_row edit d)
 grows_row (PutOrg x) d = record { orgs = λ n h. any_put (λ (o : Org). o.number == n) (by_number org_number) x d.orgs h; persons = λ n h. h; communities = λ n h. h; groups = λ n h. h }

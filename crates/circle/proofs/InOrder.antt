@@ -1,7 +1,7 @@
 -- The grounds of each command are in the order of the codes.
-use Rattle.std.proofs.Common.{refl}
-use Rattle.circle.specs.declared.command.CircleCommand.TheVariants.{AddOrg, AddPerson, SuspendPerson, AddClient, RemoveClient, AddCommunity, Join, Leave, Link, Unlink, NewGroup, GroupAdd, GroupRemove, GroupActive, Arrange, CancelArrange, Nominate, Unnominate, NewKey}
-use Rattle.circle.specs.Order.{GroundsAscend}
+use Rattle.{std.proofs.Common.refl, circle.specs.{Order.GroundsAscend, declared.command.CircleCommand.TheVariants.{AddOrg, AddPerson, SuspendPerson}}}
+use Rattle.circle.specs.declared.command.CircleCommand.TheVariants.{AddClient, RemoveClient, AddCommunity, Join, Leave, Link, Unlink, NewGroup, GroupAdd}
+use Rattle.circle.specs.declared.command.CircleCommand.TheVariants.{GroupRemove, GroupActive, Arrange, CancelArrange, Nominate, Unnominate, NewKey}
 
 pub in_order : GroundsAscend
 in_order d a (AddOrg name) = refl

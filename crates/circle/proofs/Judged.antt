@@ -1,21 +1,14 @@
 -- The facts of a directory give its refusals, and if it is sound the next number.
-use Rattle.std.proofs.Common.{◌≡◌, ℕ, ◌+◌, List, [], ◌∷◌, map, length, max, Option, Some, None, Result, Ok, Err, IfOk, OnOk, Bool, true, false, if◌then◌else◌, refl, sym, ap, ◌∙◌, arith, not, ◌&&◌, ◌<◌}
-use Rattle.std.specs.Prelude.{nat_le}
-use Rattle.std.proofs.lemmas.Bool.Decides.{nat_tests}
-use Rattle.circle.specs.declared.TheConstants.{ORG_LIMIT, PERSON_LIMIT, COMMUNITY_LIMIT, GROUP_LIMIT}
-use Rattle.circle.specs.declared.directory.Person.{Person}
-use Rattle.circle.specs.declared.command.CircleFacts.{CircleFacts}
-use Rattle.circle.specs.declared.command.CircleCommand.{CircleCommand}
-use Rattle.circle.specs.declared.command.CircleCommand.TheVariants.{AddOrg, AddPerson, SuspendPerson, AddClient, RemoveClient, AddCommunity, Join, Leave, Link, Unlink, NewGroup, GroupAdd, GroupRemove, GroupActive, Arrange, CancelArrange, Nominate, Unnominate, NewKey}
-use Rattle.circle.specs.declared.command.Edit.{Edit}
-use Rattle.circle.specs.declared.refusal.Code.TheVariants.{B1}
-use Rattle.circle.specs.declared.refusal.Refusal.{Refusal}
-use Rattle.circle.specs.Directory.{Directory, org_number, account_number, community_number, group_number}
-use Rattle.circle.specs.Facts.{facts_of, count_in}
-use Rattle.circle.specs.Refusals.{Ground, first_answer, refusal_of}
-use Rattle.circle.specs.Judgement.{refusal_by, objection_of, lacks_right, is_strange, is_removal, limit_of, with_field, field_if}
-use Rattle.circle.specs.Aftermath.{greatest, next_in, edit_of, edited, changed, state_after, unless_refused}
-use Rattle.circle.specs.Sound.{IsSound, IsNumbered, CountsFrom, Each}
+use Rattle.std.proofs.Common.{◌≡◌, ℕ, ◌+◌, List, [], ◌∷◌, map, length, max, Option, Some, None, Result, Ok, Err, IfOk, OnOk, Bool, true, false, if◌then◌else◌}
+use Rattle.std.{proofs.{Common.{refl, sym, ap, ◌∙◌, arith, not, ◌&&◌, ◌<◌}, lemmas.Bool.Decides.nat_tests}, specs.Prelude.nat_le}
+use Rattle.circle.specs.{Aftermath.{greatest, next_in, edit_of, edited, changed, state_after, unless_refused}, Directory.{Directory, org_number}}
+use Rattle.circle.specs.{Directory.{account_number, community_number, group_number}, Facts.{facts_of, count_in}, Judgement.{refusal_by, objection_of}}
+use Rattle.circle.specs.{Judgement.{lacks_right, is_strange, is_removal, limit_of, with_field, field_if}, Refusals.{Ground, first_answer, refusal_of}}
+use Rattle.circle.specs.{Sound.{IsSound, IsNumbered, CountsFrom, Each}, declared.TheConstants.{ORG_LIMIT, PERSON_LIMIT, COMMUNITY_LIMIT, GROUP_LIMIT}}
+use Rattle.circle.specs.declared.command.CircleCommand.{CircleCommand, TheVariants.{AddOrg, AddPerson, SuspendPerson, AddClient, RemoveClient, AddCommunity}}
+use Rattle.circle.specs.declared.command.CircleCommand.TheVariants.{Join, Leave, Link, Unlink, NewGroup, GroupAdd, GroupRemove, GroupActive, Arrange}
+use Rattle.circle.specs.declared.command.{CircleCommand.TheVariants.{CancelArrange, Nominate, Unnominate, NewKey}, CircleFacts.CircleFacts, Edit.Edit}
+use Rattle.circle.specs.declared.{directory.Person.Person, refusal.{Code.TheVariants.B1, Refusal.Refusal}}
 
 with_field_if : (b : Bool) (field : List ℕ) (other : Option (List ℕ)) (rest : Option Refusal) → with_field (field_if b field other) rest ≡ (if b then Some (record { code = B1; detail = field }) else with_field other rest)
 with_field_if true field other rest = refl

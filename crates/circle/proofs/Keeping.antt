@@ -1,19 +1,9 @@
 -- What stays true of rows when one is put in or taken out.
-use Rattle.std.proofs.Common.{◌≡◌, ◌≢◌, ℕ, ◌+◌, ◌≤◌, ◌<◌, ◌==◌, ◌&&◌, ◌||◌, Bool, true, false, List, [], ◌∷◌, map, filter, length, max, min, IsTrue, if◌then◌else◌, refl, sym, ap, ◌∙◌, subst, arith}
-use Rattle.std.specs.declared.cmp.Ordering.{Ordering}
-use Rattle.std.specs.declared.cmp.Ordering.TheVariants.{Less, Equal, Greater}
-use Rattle.std.specs.Ordering.{is_lt, nat_cmp}
-use Rattle.std.specs.List.{list_any}
-use Rattle.std.proofs.lemmas.Grind.{common_steps}
-use Rattle.std.proofs.lemmas.Bool.Decides.{nat_tests}
-use Rattle.std.specs.Prelude.{nat_le}
-use Rattle.std.specs.Cmp.{IsTotalOrder}
-use Rattle.std.specs.Ordering.{ordering_reverse}
-use Rattle.std.specs.Str.{bytes_eq}
-use Rattle.std.proofs.lemmas.Slice.Eq.{bytes_eq-Decides}
-use Rattle.std.proofs.lemmas.Cmp.{nat_cmp_total, on_total, then_total}
-use Rattle.circle.specs.Ordered.{put_by, pair_cmp, by_number, by_pair}
-use Rattle.circle.specs.Sound.{Pairwise, Each, CountsFrom, IsNumbered, Differ, Rise, Names}
+use Rattle.std.proofs.Common.{◌≡◌, ◌≢◌, ℕ, ◌+◌, ◌≤◌, ◌<◌, ◌==◌, ◌&&◌, ◌||◌, Bool, true, false, List, [], ◌∷◌, map, filter, length, max, min, IsTrue}
+use Rattle.std.proofs.{Common.{if◌then◌else◌, refl, sym, ap, ◌∙◌, subst, arith}, lemmas.{Bool.Decides.nat_tests, Cmp.{nat_cmp_total, on_total, then_total}}}
+use Rattle.std.{proofs.lemmas.{Grind.common_steps, Slice.Eq.bytes_eq-Decides}, specs.{Cmp.IsTotalOrder, List.list_any, Ordering.{is_lt, nat_cmp}}}
+use Rattle.std.specs.{Ordering.ordering_reverse, Prelude.nat_le, Str.bytes_eq, declared.cmp.Ordering.{Ordering, TheVariants.{Less, Equal, Greater}}}
+use Rattle.circle.specs.{Ordered.{put_by, pair_cmp, by_number, by_pair}, Sound.{Pairwise, Each, CountsFrom, IsNumbered, Differ, Rise, Names}}
 
 -- ---- each row
 

@@ -1,31 +1,20 @@
 -- A command that nothing refuses leaves a sound directory.
-use Rattle.std.proofs.Common.{◌≡◌, ◌≢◌, ℕ, ◌+◌, ◌≤◌, ◌<◌, ◌==◌, ◌&&◌, Bool, true, false, not, List, [], ◌∷◌, filter, length, max, min, IsTrue, Option, Some, None, if◌then◌else◌, refl, sym, ap, ◌∙◌, subst, arith}
-use Rattle.std.specs.Prelude.{nat_le}
-use Rattle.std.specs.List.{list_any}
-use Rattle.std.specs.Str.{bytes_eq}
-use Rattle.std.proofs.lemmas.Grind.{common_steps}
-use Rattle.std.proofs.lemmas.Bool.Decides.{nat_tests}
-use Rattle.circle.specs.declared.TheConstants.{ORG_LIMIT, PERSON_LIMIT, COMMUNITY_LIMIT, GROUP_LIMIT}
-use Rattle.circle.specs.declared.directory.Org.{Org}
-use Rattle.circle.specs.declared.directory.Person.{Person}
-use Rattle.circle.specs.declared.directory.Account.{Account}
-use Rattle.circle.specs.declared.directory.Client.{Client}
-use Rattle.circle.specs.declared.directory.Community.{Community}
-use Rattle.circle.specs.declared.directory.Membership.{Membership}
-use Rattle.circle.specs.declared.directory.Connection.{Connection}
-use Rattle.circle.specs.declared.directory.Group.{Group}
-use Rattle.circle.specs.declared.directory.GroupMember.{GroupMember}
-use Rattle.circle.specs.declared.directory.Arrangement.{Arrangement}
-use Rattle.circle.specs.declared.command.CircleCommand.{CircleCommand}
-use Rattle.circle.specs.declared.command.CircleCommand.TheVariants.{AddOrg, AddPerson, SuspendPerson, AddClient, RemoveClient, AddCommunity, Join, Leave, Link, Unlink, NewGroup, GroupAdd, GroupRemove, GroupActive, Arrange, CancelArrange, Nominate, Unnominate, NewKey}
-use Rattle.circle.specs.declared.refusal.Refusal.{Refusal}
-use Rattle.circle.specs.Directory.{Directory, org_number, account_number, community_number, group_number, client_key, membership_key, connection_key, group_member_key, arrangement_key, has_org, has_org_named, has_key, has_client, has_community, has_community_named, has_group_named, has_group_member}
-use Rattle.circle.specs.Ordered.{put_by, by_number, by_pair}
-use Rattle.circle.specs.Refusals.{grounds, refusal_of}
-use Rattle.circle.specs.Aftermath.{next_in, changed, state_after, unless_refused, exchange_account, exchange_key, exchange_group}
-use Rattle.circle.specs.Sound.{IsSound, Each, SoundAccounts, SoundClients, SoundMemberships, SoundConnections, SoundGroups, SoundGroupMembers, SoundArrangements, IsOrg, IsCommunity, IsGroup}
-use Rattle.circle.proofs.Judged.{next_number, passed}
-use Rattle.circle.proofs.Keeping.{each_put, each_left, each_weaker, each_map, pairs_left, pairs_put, numbered_put, rise_put, differ_put, any_put, none_of, none_any, found_then, names_within, pair_apart, ends_of, low_high, differ_map, differ_set, text_apart, numbered_map, names_map}
+use Rattle.std.proofs.Common.{◌≡◌, ◌≢◌, ℕ, ◌+◌, ◌≤◌, ◌<◌, ◌==◌, ◌&&◌, Bool, true, false, not, List, [], ◌∷◌, filter, length, max, min, IsTrue, Option, Some}
+use Rattle.std.proofs.{Common.{None, if◌then◌else◌, refl, sym, ap, ◌∙◌, subst, arith}, lemmas.{Bool.Decides.nat_tests, Grind.common_steps}}
+use Rattle.{std.specs.{List.list_any, Prelude.nat_le, Str.bytes_eq}, circle.proofs.{Judged.{next_number, passed}, Keeping.{each_put, each_left, each_weaker}}}
+use Rattle.circle.proofs.Keeping.{each_map, pairs_left, pairs_put, numbered_put, rise_put, differ_put, any_put, none_of, none_any, found_then, names_within}
+use Rattle.circle.{proofs.Keeping.{pair_apart, ends_of, low_high, differ_map, differ_set, text_apart, numbered_map, names_map}, specs.Aftermath.next_in}
+use Rattle.circle.specs.{Aftermath.{changed, state_after, unless_refused, exchange_account, exchange_key, exchange_group}, Directory.{Directory, org_number}}
+use Rattle.circle.specs.Directory.{account_number, community_number, group_number, client_key, membership_key, connection_key, group_member_key}
+use Rattle.circle.specs.Directory.{arrangement_key, has_org, has_org_named, has_key, has_client, has_community, has_community_named, has_group_named}
+use Rattle.circle.specs.{Directory.has_group_member, Ordered.{put_by, by_number, by_pair}, Refusals.{grounds, refusal_of}, Sound.{IsSound, Each, SoundAccounts}}
+use Rattle.circle.specs.Sound.{SoundClients, SoundMemberships, SoundConnections, SoundGroups, SoundGroupMembers, SoundArrangements, IsOrg, IsCommunity, IsGroup}
+use Rattle.circle.specs.declared.{TheConstants.{ORG_LIMIT, PERSON_LIMIT, COMMUNITY_LIMIT, GROUP_LIMIT}, command.CircleCommand.CircleCommand}
+use Rattle.circle.specs.declared.command.CircleCommand.TheVariants.{AddOrg, AddPerson, SuspendPerson, AddClient, RemoveClient, AddCommunity, Join, Leave, Link}
+use Rattle.circle.specs.declared.command.CircleCommand.TheVariants.{Unlink, NewGroup, GroupAdd, GroupRemove, GroupActive, Arrange, CancelArrange, Nominate}
+use Rattle.circle.specs.declared.{command.CircleCommand.TheVariants.{Unnominate, NewKey}, directory.{Account.Account, Arrangement.Arrangement, Client.Client}}
+use Rattle.circle.specs.declared.directory.{Community.Community, Connection.Connection, Group.Group, GroupMember.GroupMember, Membership.Membership, Org.Org}
+use Rattle.circle.specs.declared.{directory.Person.Person, refusal.Refusal.Refusal}
 
 both : (a b : Bool) → not (a && b) ≡ false → IsTrue a × IsTrue b
 both true true h = (refl, refl)

@@ -1,15 +1,8 @@
 -- Looking rows up: the rows with a key, by halving.
-use Rattle.std.proofs.Common.{◌≡◌, ℕ, zero, suc, ◌+◌, ◌-◌, ◌≤◌, ◌<◌, ◌==◌, ◌&&◌, ◌||◌, not, Bool, true, false, List, [], ◌∷◌, filter, length, take, drop, get_or, Some, if◌then◌else◌, refl, sym, ap, ◌∙◌, subst, arith}
-use Rattle.std.specs.Prelude.{find, slice_get}
-use Rattle.std.specs.List.{list_any, AllWithin, insert}
-use Rattle.std.specs.List.Sorted.{IsPartitionedBy}
-use Rattle.std.specs.Ordering.{is_lt}
-use Rattle.std.specs.declared.cmp.Ordering.{Ordering}
-use Rattle.std.proofs.lemmas.List.{get_or-drop, length-drop}
-use Rattle.std.proofs.lemmas.Bool.Decides.{nat_tests}
-use Rattle.circle.specs.Ordered.{pair_cmp, put_by, by_pair}
-use Rattle.circle.specs.Sound.{Each}
-use Rattle.circle.specs.Stretches.{same_pair, Ascend, having}
+use Rattle.std.proofs.Common.{◌≡◌, ℕ, zero, suc, ◌+◌, ◌-◌, ◌≤◌, ◌<◌, ◌==◌, ◌&&◌, ◌||◌, not, Bool, true, false, List, [], ◌∷◌, filter, length, take, drop}
+use Rattle.std.proofs.{Common.{get_or, Some, if◌then◌else◌, refl, sym, ap, ◌∙◌, subst, arith}, lemmas.{Bool.Decides.nat_tests, List.{get_or-drop, length-drop}}}
+use Rattle.std.specs.{List.{list_any, AllWithin, insert, Sorted.IsPartitionedBy}, Ordering.is_lt, Prelude.{find, slice_get}, declared.cmp.Ordering.Ordering}
+use Rattle.circle.specs.{Ordered.{pair_cmp, put_by, by_pair}, Sound.Each, Stretches.{same_pair, Ascend, having}}
 
 -- ---- pairs
 

@@ -1,15 +1,8 @@
 -- A new key changes nothing but the key of the actor.
 use Rattle.std.proofs.Common.{◌≡◌, ◌⊎◌, inl, inr, ℕ, ◌==◌, Bool, true, false, not, List, [], ◌∷◌, map, Option, Some, None, if◌then◌else◌, refl, ap, ◌∙◌}
-use Rattle.circle.specs.declared.directory.Account.{Account}
-use Rattle.circle.specs.declared.command.CircleCommand.TheVariants.{NewKey}
-use Rattle.circle.specs.declared.refusal.Refusal.{Refusal}
-use Rattle.circle.specs.Directory.{Directory}
-use Rattle.circle.specs.Refusals.{refusal_of}
-use Rattle.circle.specs.Aftermath.{changed, unless_refused}
-use Rattle.circle.specs.NewKeys.{ChangesKeyOf}
-use Rattle.circle.specs.Laws.{NewKeysChangeOne}
-use Rattle.circle.proofs.Kept.{same_when}
-use Rattle.circle.proofs.Others.{each_of, kept_exchanged}
+use Rattle.circle.{proofs.{Kept.same_when, Others.{each_of, kept_exchanged}}, specs.{Aftermath.{changed, unless_refused}, Directory.Directory}}
+use Rattle.circle.specs.{Laws.NewKeysChangeOne, NewKeys.ChangesKeyOf, Refusals.refusal_of, declared.command.CircleCommand.TheVariants.NewKey}
+use Rattle.circle.specs.declared.{directory.Account.Account, refusal.Refusal.Refusal}
 
 -- what each row shows stays
 shows_map : {X Y : Type 0} (show : X → Y) (f : X → X) (xs : List X) → ((x : X) → show (f x) ≡ show x) → map show (map f xs) ≡ map show xs

@@ -1,31 +1,16 @@
 -- The rows of another organisation stay.
-use Rattle.std.proofs.Common.{◌≡◌, ◌≢◌, ◌⊎◌, inl, inr, ℕ, ◌+◌, ◌<◌, ◌≤◌, ◌==◌, ◌&&◌, ◌||◌, Bool, true, false, not, List, [], ◌∷◌, map, filter, length, IsTrue, Option, Some, None, if◌then◌else◌, refl, sym, ap, ◌∙◌, subst, arith}
-use Rattle.std.specs.declared.cmp.Ordering.{Ordering}
-use Rattle.std.specs.declared.cmp.Ordering.TheVariants.{Less, Equal, Greater}
-use Rattle.std.specs.Ordering.{is_lt}
-use Rattle.std.specs.Cmp.{IsTotalOrder}
-use Rattle.std.specs.List.{list_any}
-use Rattle.std.proofs.lemmas.Bool.Decides.{nat_tests}
-use Rattle.circle.specs.declared.TheConstants.{GROUP_LIMIT}
-use Rattle.circle.specs.declared.directory.Account.{Account}
-use Rattle.circle.specs.declared.directory.Person.{Person}
-use Rattle.circle.specs.declared.command.CircleCommand.{CircleCommand}
-use Rattle.circle.specs.declared.command.CircleCommand.TheVariants.{AddOrg, AddPerson, SuspendPerson, AddClient, RemoveClient, AddCommunity, Join, Leave, Link, Unlink, NewGroup, GroupAdd, GroupRemove, GroupActive, Arrange, CancelArrange, Nominate, Unnominate, NewKey}
-use Rattle.circle.specs.declared.refusal.Refusal.{Refusal}
-use Rattle.circle.specs.declared.directory.Group.{Group}
-use Rattle.circle.specs.declared.directory.GroupMember.{GroupMember}
-use Rattle.circle.specs.declared.directory.Arrangement.{Arrangement}
-use Rattle.circle.specs.Directory.{Directory, account_number, group_number, group_member_key, arrangement_key, has_person_of, has_group_of, has_extender}
-use Rattle.circle.specs.Ordered.{put_by, by_number, by_pair}
-use Rattle.circle.specs.Refusals.{grounds, refusal_of}
-use Rattle.circle.specs.Aftermath.{changed, unless_refused, exchange_account, exchange_key, exchange_group, next_in}
-use Rattle.circle.specs.Sound.{IsSound, CountsFrom, Each, Pairwise}
-use Rattle.circle.specs.Others.{nominated_of, groups_owned, members_in, ExtendsBy, LeavesTheirs}
-use Rattle.circle.specs.Laws.{OrganisationsKeepApart}
-use Rattle.circle.proofs.Judged.{passed, next_number}
-use Rattle.std.proofs.lemmas.Cmp.{on_total}
-use Rattle.circle.proofs.Keeping.{past, each_weaker, each_left, found_then, pair_total}
-use Rattle.circle.proofs.Kept.{yes, same_when}
+use Rattle.std.proofs.Common.{◌≡◌, ◌≢◌, ◌⊎◌, inl, inr, ℕ, ◌+◌, ◌<◌, ◌≤◌, ◌==◌, ◌&&◌, ◌||◌, Bool, true, false, not, List, [], ◌∷◌, map, filter, length, IsTrue}
+use Rattle.std.proofs.{Common.{Option, Some, None, if◌then◌else◌, refl, sym, ap, ◌∙◌, subst, arith}, lemmas.{Bool.Decides.nat_tests, Cmp.on_total}}
+use Rattle.std.specs.{Cmp.IsTotalOrder, List.list_any, Ordering.is_lt, declared.cmp.Ordering.{Ordering, TheVariants.{Less, Equal, Greater}}}
+use Rattle.circle.proofs.{Judged.{passed, next_number}, Keeping.{past, each_weaker, each_left, found_then, pair_total}, Kept.{yes, same_when}}
+use Rattle.circle.specs.{Aftermath.{changed, unless_refused, exchange_account, exchange_key, exchange_group, next_in}, Directory.{Directory, account_number}}
+use Rattle.circle.specs.{Directory.{group_number, group_member_key, arrangement_key, has_person_of, has_group_of, has_extender}, Laws.OrganisationsKeepApart}
+use Rattle.circle.specs.{Ordered.{put_by, by_number, by_pair}, Others.{nominated_of, groups_owned, members_in, ExtendsBy, LeavesTheirs}, Refusals.grounds}
+use Rattle.circle.specs.{Refusals.refusal_of, Sound.{IsSound, CountsFrom, Each, Pairwise}, declared.TheConstants.GROUP_LIMIT}
+use Rattle.circle.specs.declared.command.CircleCommand.{CircleCommand, TheVariants.{AddOrg, AddPerson, SuspendPerson, AddClient, RemoveClient, AddCommunity}}
+use Rattle.circle.specs.declared.command.CircleCommand.TheVariants.{Join, Leave, Link, Unlink, NewGroup, GroupAdd, GroupRemove, GroupActive, Arrange}
+use Rattle.circle.specs.declared.{command.CircleCommand.TheVariants.{CancelArrange, Nominate, Unnominate, NewKey}, directory.Account.Account}
+use Rattle.circle.specs.declared.{directory.{Arrangement.Arrangement, Group.Group, GroupMember.GroupMember, Person.Person}, refusal.Refusal.Refusal}
 
 -- ---- rows that are looked for, and rows put in, taken out or exchanged
 

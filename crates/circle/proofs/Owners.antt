@@ -1,24 +1,13 @@
 -- The owners of groups stay members that may extend them.
-use Rattle.std.proofs.Common.{◌≡◌, ℕ, ◌==◌, ◌&&◌, ◌||◌, Bool, true, false, not, List, [], ◌∷◌, filter, IsTrue, Option, Some, None, if◌then◌else◌, refl, sym, ap, ◌∙◌, arith}
-use Rattle.std.specs.declared.cmp.Ordering.{Ordering}
-use Rattle.std.specs.Ordering.{is_lt}
-use Rattle.std.specs.List.{list_any}
-use Rattle.std.proofs.lemmas.Bool.Decides.{nat_tests}
-use Rattle.circle.specs.declared.directory.Person.{Person}
-use Rattle.circle.specs.declared.directory.Group.{Group}
-use Rattle.circle.specs.declared.directory.GroupMember.{GroupMember}
-use Rattle.circle.specs.declared.command.CircleCommand.{CircleCommand}
-use Rattle.circle.specs.declared.command.CircleCommand.TheVariants.{AddOrg, AddPerson, SuspendPerson, AddClient, RemoveClient, AddCommunity, Join, Leave, Link, Unlink, NewGroup, GroupAdd, GroupRemove, GroupActive, Arrange, CancelArrange, Nominate, Unnominate, NewKey}
-use Rattle.circle.specs.declared.refusal.Refusal.{Refusal}
-use Rattle.circle.specs.Directory.{Directory, group_number, group_member_key, has_extender, has_group_of}
-use Rattle.circle.specs.Ordered.{put_by, by_number, by_pair}
-use Rattle.circle.specs.Refusals.{grounds, refusal_of}
-use Rattle.circle.specs.Aftermath.{changed, unless_refused, next_in}
-use Rattle.circle.specs.Sound.{Each, OwnersExtend}
-use Rattle.circle.specs.Laws.{OwnersStay, EmptyIsSound}
-use Rattle.circle.proofs.Judged.{passed}
-use Rattle.circle.proofs.Keeping.{each_put, each_weaker, each_map, any_put, none_of}
-use Rattle.circle.proofs.Kept.{same_when}
+use Rattle.std.proofs.Common.{◌≡◌, ℕ, ◌==◌, ◌&&◌, ◌||◌, Bool, true, false, not, List, [], ◌∷◌, filter, IsTrue, Option, Some, None, if◌then◌else◌, refl, sym, ap}
+use Rattle.std.{proofs.{Common.{◌∙◌, arith}, lemmas.Bool.Decides.nat_tests}, specs.{List.list_any, Ordering.is_lt, declared.cmp.Ordering.Ordering}}
+use Rattle.circle.{proofs.{Judged.passed, Keeping.{each_put, each_weaker, each_map, any_put, none_of}, Kept.same_when}, specs.Aftermath.changed}
+use Rattle.circle.specs.{Aftermath.{unless_refused, next_in}, Directory.{Directory, group_number, group_member_key, has_extender, has_group_of}}
+use Rattle.circle.specs.{Laws.{OwnersStay, EmptyIsSound}, Ordered.{put_by, by_number, by_pair}, Refusals.{grounds, refusal_of}, Sound.{Each, OwnersExtend}}
+use Rattle.circle.specs.declared.command.CircleCommand.{CircleCommand, TheVariants.{AddOrg, AddPerson, SuspendPerson, AddClient, RemoveClient, AddCommunity}}
+use Rattle.circle.specs.declared.command.CircleCommand.TheVariants.{Join, Leave, Link, Unlink, NewGroup, GroupAdd, GroupRemove, GroupActive, Arrange}
+use Rattle.circle.specs.declared.{command.CircleCommand.TheVariants.{CancelArrange, Nominate, Unnominate, NewKey}, directory.Group.Group}
+use Rattle.circle.specs.declared.{directory.{GroupMember.GroupMember, Person.Person}, refusal.Refusal.Refusal}
 
 abbrev extends_it : Group → GroupMember → Bool
 extends_it g m = m.group == g.number && m.org == g.owner && m.extend

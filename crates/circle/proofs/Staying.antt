@@ -1,17 +1,11 @@
 -- A refused command changes nothing, and a suspended person stays suspended.
-use Rattle.std.proofs.Common.{◌≡◌, ℕ, ◌==◌, ◌&&◌, ◌||◌, Bool, true, false, not, List, [], ◌∷◌, map, IsTrue, Option, Some, None, if◌then◌else◌, refl, sym, ap, ◌∙◌}
-use Rattle.std.specs.List.{list_any}
-use Rattle.circle.specs.declared.directory.Account.{Account}
-use Rattle.circle.specs.declared.directory.Person.{Person}
-use Rattle.circle.specs.declared.command.CircleCommand.{CircleCommand}
-use Rattle.circle.specs.declared.command.CircleCommand.TheVariants.{AddOrg, AddPerson, SuspendPerson, AddClient, RemoveClient, AddCommunity, Join, Leave, Link, Unlink, NewGroup, GroupAdd, GroupRemove, GroupActive, Arrange, CancelArrange, Nominate, Unnominate, NewKey}
-use Rattle.circle.specs.declared.refusal.Refusal.{Refusal}
-use Rattle.circle.specs.Directory.{Directory, account_number, has_suspended}
-use Rattle.circle.specs.Ordered.{by_number}
-use Rattle.circle.specs.Refusals.{refusal_of}
-use Rattle.circle.specs.Aftermath.{changed, unless_refused, exchange_account, exchange_key}
-use Rattle.circle.specs.Laws.{RefusalsLeaveAll, SuspendedStays}
-use Rattle.circle.proofs.Keeping.{any_put}
+use Rattle.std.proofs.Common.{◌≡◌, ℕ, ◌==◌, ◌&&◌, ◌||◌, Bool, true, false, not, List, [], ◌∷◌, map, IsTrue, Option, Some, None, if◌then◌else◌, refl, sym, ap}
+use Rattle.{std.{proofs.Common.◌∙◌, specs.List.list_any}, circle.{proofs.Keeping.any_put, specs.Aftermath.{changed, unless_refused, exchange_account}}}
+use Rattle.circle.specs.{Aftermath.exchange_key, Directory.{Directory, account_number, has_suspended}, Laws.{RefusalsLeaveAll, SuspendedStays}}
+use Rattle.circle.specs.{Ordered.by_number, Refusals.refusal_of, declared.command.CircleCommand.{CircleCommand, TheVariants.{AddOrg, AddPerson, SuspendPerson}}}
+use Rattle.circle.specs.declared.command.CircleCommand.TheVariants.{AddClient, RemoveClient, AddCommunity, Join, Leave, Link, Unlink, NewGroup, GroupAdd}
+use Rattle.circle.specs.declared.command.CircleCommand.TheVariants.{GroupRemove, GroupActive, Arrange, CancelArrange, Nominate, Unnominate, NewKey}
+use Rattle.circle.specs.declared.{directory.{Account.Account, Person.Person}, refusal.Refusal.Refusal}
 
 pub leaves_all : RefusalsLeaveAll
 leaves_all d a c why is = ap (λ (r : Option Refusal). unless_refused r d (changed d a c)) is

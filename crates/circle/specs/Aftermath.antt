@@ -9,14 +9,19 @@ use Rattle.circle.specs.declared.directory.Group.{Group}
 use Rattle.circle.specs.declared.directory.GroupMember.{GroupMember}
 use Rattle.circle.specs.declared.directory.Arrangement.{Arrangement}
 use Rattle.circle.specs.declared.command.CircleCommand.{CircleCommand}
-use Rattle.circle.specs.declared.command.CircleCommand.TheVariants.{AddOrg, AddPerson, SuspendPerson, AddClient, RemoveClient, AddCommunity, Join, Leave, Link, Unlink, NewGroup, GroupAdd, GroupRemove, GroupActive, Arrange, CancelArrange, Nominate, Unnominate, NewKey}
+use Rattle.circle.specs.declared.command.CircleCommand.TheVariants.{AddOrg, AddPerson, SuspendPerson, AddClient, RemoveClient, AddCommunity, Join, Leave, Link}
+use Rattle.circle.specs.declared.command.CircleCommand.TheVariants.{Unlink, NewGroup, GroupAdd, GroupRemove, GroupActive, Arrange, CancelArrange, Nominate}
+use Rattle.circle.specs.declared.command.CircleCommand.TheVariants.{Unnominate, NewKey}
 use Rattle.circle.specs.declared.command.Edit.{Edit}
 use Rattle.circle.specs.declared.command.Edit.TheVariants.{Row, Found}
 use Rattle.circle.specs.declared.command.RowEdit.{RowEdit}
-use Rattle.circle.specs.declared.command.RowEdit.TheVariants.{PutOrg, PutAccount, Suspend, PutClient, TakeClient, PutCommunity, PutMembership, TakeMembership, PutConnection, TakeConnection, PutGroup, PutGroupMember, TakeGroupMember, SetGroupActive, PutArrangement, TakeArrangement, SetNominated, SetKey}
+use Rattle.circle.specs.declared.command.RowEdit.TheVariants.{PutOrg, PutAccount, Suspend, PutClient, TakeClient, PutCommunity, PutMembership, TakeMembership}
+use Rattle.circle.specs.declared.command.RowEdit.TheVariants.{PutConnection, TakeConnection, PutGroup, PutGroupMember, TakeGroupMember, SetGroupActive}
+use Rattle.circle.specs.declared.command.RowEdit.TheVariants.{PutArrangement, TakeArrangement, SetNominated, SetKey}
 use Rattle.circle.specs.declared.refusal.Refusal.{Refusal}
 use Rattle.circle.specs.Ordered.{put_by, by_number, by_pair}
-use Rattle.circle.specs.Directory.{Directory, org_number, account_number, community_number, group_number, client_key, membership_key, connection_key, group_member_key, arrangement_key}
+use Rattle.circle.specs.Directory.{Directory, org_number, account_number, community_number, group_number, client_key, membership_key, connection_key}
+use Rattle.circle.specs.Directory.{group_member_key, arrangement_key}
 use Rattle.circle.specs.Refusals.{refusal_of}
 
 -- ---- edits

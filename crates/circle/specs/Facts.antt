@@ -3,9 +3,13 @@
 use Rattle.std.specs.Prelude.{ℕ, Bool, true, false, ◌&&◌, length, min, max}
 use Rattle.circle.specs.declared.directory.Person.{Person}
 use Rattle.circle.specs.declared.command.CircleCommand.{CircleCommand}
-use Rattle.circle.specs.declared.command.CircleCommand.TheVariants.{AddOrg, AddPerson, SuspendPerson, AddClient, RemoveClient, AddCommunity, Join, Leave, Link, Unlink, NewGroup, GroupAdd, GroupRemove, GroupActive, Arrange, CancelArrange, Nominate, Unnominate, NewKey}
+use Rattle.circle.specs.declared.command.CircleCommand.TheVariants.{AddOrg, AddPerson, SuspendPerson, AddClient, RemoveClient, AddCommunity, Join, Leave, Link}
+use Rattle.circle.specs.declared.command.CircleCommand.TheVariants.{Unlink, NewGroup, GroupAdd, GroupRemove, GroupActive, Arrange, CancelArrange, Nominate}
+use Rattle.circle.specs.declared.command.CircleCommand.TheVariants.{Unnominate, NewKey}
 use Rattle.circle.specs.declared.command.CircleFacts.{CircleFacts}
-use Rattle.circle.specs.Directory.{Directory, has_org, has_org_named, has_person, has_key, has_suspended, has_nominated, has_person_of, has_client, has_community, has_community_named, has_membership, has_connection, has_group_named, has_group_of, has_group_being, has_group_member, has_extender, has_arrangement}
+use Rattle.circle.specs.Directory.{Directory, has_org, has_org_named, has_person, has_key, has_suspended, has_nominated, has_person_of, has_client}
+use Rattle.circle.specs.Directory.{has_community, has_community_named, has_membership, has_connection, has_group_named, has_group_of, has_group_being}
+use Rattle.circle.specs.Directory.{has_group_member, has_extender, has_arrangement}
 
 -- All that the command names is there; a group is there only for its members. It is false exactly if the ground `N2`
 -- holds.

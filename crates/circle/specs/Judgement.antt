@@ -4,7 +4,9 @@ use Rattle.circle.specs.declared.TheConstants.{ORG_LIMIT, PERSON_LIMIT, COMMUNIT
 use Rattle.circle.specs.declared.directory.Role.{Role}
 use Rattle.circle.specs.declared.directory.Person.{Person}
 use Rattle.circle.specs.declared.command.CircleCommand.{CircleCommand}
-use Rattle.circle.specs.declared.command.CircleCommand.TheVariants.{AddOrg, AddPerson, SuspendPerson, AddClient, RemoveClient, AddCommunity, Join, Leave, Link, Unlink, NewGroup, GroupAdd, GroupRemove, GroupActive, Arrange, CancelArrange, Nominate, Unnominate, NewKey}
+use Rattle.circle.specs.declared.command.CircleCommand.TheVariants.{AddOrg, AddPerson, SuspendPerson, AddClient, RemoveClient, AddCommunity, Join, Leave, Link}
+use Rattle.circle.specs.declared.command.CircleCommand.TheVariants.{Unlink, NewGroup, GroupAdd, GroupRemove, GroupActive, Arrange, CancelArrange, Nominate}
+use Rattle.circle.specs.declared.command.CircleCommand.TheVariants.{Unnominate, NewKey}
 use Rattle.circle.specs.declared.command.CircleFacts.{CircleFacts}
 use Rattle.circle.specs.declared.refusal.Code.TheVariants.{W1, B1, N2, W2, W3, S1, S2, L1}
 use Rattle.circle.specs.declared.refusal.Refusal.{Refusal}

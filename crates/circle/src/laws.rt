@@ -1,5 +1,6 @@
 //! Laws of the definitions. Each law is the contract of a function that does nothing.
-ghost use Rattle.circle.specs.Laws.{EditsAreRows, EmptyIsSound, NewKeysChangeOne, NothingVanishes, OrganisationsKeepApart, OwnersStay, RefusalsLeaveAll, StaysSound, SuspendedStays};
+ghost use Rattle.circle.specs.Laws.{EditsAreRows, EmptyIsSound, NewKeysChangeOne, NothingVanishes, OrganisationsKeepApart, OwnersStay, RefusalsLeaveAll};
+ghost use Rattle.circle.specs.Laws.{StaysSound, SuspendedStays};
 ghost use Rattle.circle.specs.Order.{GroundsAscend};
 ghost use Rattle.circle.specs.declared.TheConstants.{ORG_LIMIT, PERSON_LIMIT, COMMUNITY_LIMIT, GROUP_LIMIT, NAME_LIMIT, RELEASABILITY_LIMIT};
 ghost use Rattle.std.specs.Prelude.{◌≡◌};

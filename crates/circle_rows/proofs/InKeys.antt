@@ -1,19 +1,12 @@
 -- Each edit leaves each set in the order of its key.
 use Rattle.std.proofs.Common.{◌≡◌, ℕ, ◌==◌, Bool, true, false, List, [], ◌∷◌, filter, map, if◌then◌else◌, refl, sym, ap, ◌∙◌, subst, arith}
-use Rattle.std.specs.Ordering.{is_lt}
-use Rattle.std.proofs.lemmas.Bool.Decides.{nat_tests}
-use Rattle.circle.specs.declared.directory.Account.{Account}
-use Rattle.circle.specs.declared.directory.Group.{Group}
-use Rattle.circle.specs.declared.command.RowEdit.{RowEdit}
-use Rattle.circle.specs.declared.command.RowEdit.TheVariants.{PutOrg, PutAccount, Suspend, PutClient, TakeClient, PutCommunity, PutMembership, TakeMembership, PutConnection, TakeConnection, PutGroup, PutGroupMember, TakeGroupMember, SetGroupActive, PutArrangement, TakeArrangement, SetNominated, SetKey}
-use Rattle.circle.specs.Ordered.{put_by, pair_cmp, by_pair}
-use Rattle.circle.specs.Directory.{Directory, org_number, account_number, community_number, group_number, client_key, membership_key, connection_key, group_member_key, arrangement_key}
-use Rattle.circle.specs.Aftermath.{edited_row}
-use Rattle.circle.specs.Sound.{Each}
-use Rattle.circle.specs.Stretches.{Ascend, numbered}
-use Rattle.circle.proofs.Keeping.{each_put, each_weaker, pairs_left}
-use Rattle.circle.proofs.Kept.{same_when}
-use Rattle.circle_rows.specs.Rows.{IsAscending}
+use Rattle.{std.{proofs.lemmas.Bool.Decides.nat_tests, specs.Ordering.is_lt}, circle.proofs.{Keeping.{each_put, each_weaker, pairs_left}, Kept.same_when}}
+use Rattle.circle.specs.{Aftermath.edited_row, Directory.{Directory, org_number, account_number, community_number, group_number, client_key, membership_key}}
+use Rattle.circle.specs.{Directory.{connection_key, group_member_key, arrangement_key}, Ordered.{put_by, pair_cmp, by_pair}, Sound.Each, Stretches.Ascend}
+use Rattle.circle.specs.{Stretches.numbered, declared.command.RowEdit.{RowEdit, TheVariants.{PutOrg, PutAccount, Suspend, PutClient, TakeClient, PutCommunity}}}
+use Rattle.circle.specs.declared.command.RowEdit.TheVariants.{PutMembership, TakeMembership, PutConnection, TakeConnection, PutGroup, PutGroupMember}
+use Rattle.circle.specs.declared.command.RowEdit.TheVariants.{TakeGroupMember, SetGroupActive, PutArrangement, TakeArrangement, SetNominated, SetKey}
+use Rattle.{circle.specs.declared.directory.{Account.Account, Group.Group}, circle_rows.specs.Rows.IsAscending}
 
 -- if x is below y and z isn't, z isn't below x
 above_new : (x y z : ℕ × ℕ) → is_lt (pair_cmp x y) ≡ true → is_lt (pair_cmp z y) ≡ false → is_lt (pair_cmp z x) ≡ false

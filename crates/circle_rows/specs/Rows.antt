@@ -1,7 +1,8 @@
 -- The directory that rows in memory make.
 use Rattle.std.specs.Prelude.{ℕ, ◌+◌, ◌≤◌, List}
 use Rattle.std.specs.Vec.{vec_len, vec_capacity}
-use Rattle.circle.specs.Directory.{Directory, org_number, account_number, community_number, group_number, client_key, membership_key, connection_key, group_member_key, arrangement_key}
+use Rattle.circle.specs.Directory.{Directory, org_number, account_number, community_number, group_number, client_key, membership_key, connection_key}
+use Rattle.circle.specs.Directory.{group_member_key, arrangement_key}
 use Rattle.circle.specs.Stretches.{Ascend, numbered}
 use Rattle.circle.specs.declared.command.RowEdit.{RowEdit}
 use Rattle.circle_rows.specs.declared.sets.Sets.{Sets}

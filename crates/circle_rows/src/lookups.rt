@@ -1,7 +1,9 @@
 //! Whether a directory in memory has a row.
 ghost use Rattle.std.specs.Prelude.{◌≡◌, ◌==◌, not};
 ghost use Rattle.std.specs.List.{list_any};
-ghost use Rattle.circle.specs.Directory.{has_org, has_org_named, has_person, has_key, has_suspended, has_nominated, has_person_of, has_client, has_community, has_community_named, has_membership, has_connection, has_group, has_group_named, has_group_of, has_group_being, has_group_member, has_extender, has_arrangement, same_flag};
+ghost use Rattle.circle.specs.Directory.{has_org, has_org_named, has_person, has_key, has_suspended, has_nominated, has_person_of, has_client, has_community};
+ghost use Rattle.circle.specs.Directory.{has_community_named, has_membership, has_connection, has_group, has_group_named, has_group_of, has_group_being};
+ghost use Rattle.circle.specs.Directory.{has_group_member, has_extender, has_arrangement, same_flag};
 
 use crate::keyed::{has_row, rows_of_key};
 use crate::rows::DirectoryRows;

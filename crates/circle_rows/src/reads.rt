@@ -1,7 +1,8 @@
 //! What is asked of a directory in memory besides the facts of commands.
 ghost use Rattle.std.specs.Prelude.{◌≡◌, ◌==◌, IfOk, filter, map};
 ghost use Rattle.std.specs.Option.{option_copied};
-ghost use Rattle.circle.specs.Reads.{person_of_key, person_of, group_of, community_of, members_of, connected_to, communities_of, memberships_in_groups, groups_joined, active_groups_joined, orgs_whose_client, share_community, joins, are_connected, arranged};
+ghost use Rattle.circle.specs.Reads.{person_of_key, person_of, group_of, community_of, members_of, connected_to, communities_of, memberships_in_groups};
+ghost use Rattle.circle.specs.Reads.{groups_joined, active_groups_joined, orgs_whose_client, share_community, joins, are_connected, arranged};
 
 use crate::keyed::row_of;
 use crate::rows::DirectoryRows;

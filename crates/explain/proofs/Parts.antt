@@ -1,26 +1,13 @@
 -- An explanation by its parts.
-use Rattle.std.proofs.Common.{◌≡◌, Bool, true, false, ◌||◌, List, sym, ap, subst, if◌then◌else◌}
-use Rattle.std.specs.Prelude.{Some, None, is_some, unwrap_or, Result, Ok, Err}
-use Rattle.std.specs.Result.{IsErrAnd}
-use Rattle.std.proofs.lemmas.Bool.{false≢true}
-use Rattle.iodef_tree.specs.Text.{Tokens, is_root}
-use Rattle.iodef_tree.specs.Paths.{LocatedLine, has_class}
-use Rattle.marking.specs.Label.{text_of}
-use Rattle.marking.specs.Marks.{site_of, label_at}
-use Rattle.marking.specs.Sited.{Sites}
-use Rattle.marking.specs.declared.fault.SiteFault.{SiteFault}
-use Rattle.marking.specs.declared.fault.SiteFault.TheVariants as site
-use Rattle.policy.specs.Clearance.{clearance_of}
-use Rattle.policy.specs.Verdict.{handling_for, verdict_of}
-use Rattle.policy.specs.Decided.{decided_at, Decides}
-use Rattle.policy.specs.declared.fault.DecideFault.{DecideFault}
-use Rattle.policy.specs.declared.fault.DecideFault.TheVariants as decide
-use Rattle.policy.specs.declared.standing.Standing.{Standing}
-use Rattle.policy.specs.declared.case.Case.{Case}
-use Rattle.explain.specs.Explanation.{Explanation, explanation_of, passages_on, covering}
-use Rattle.explain.specs.Explained.{explained_at, Explains, undecided, unsited}
+use Rattle.std.{proofs.{Common.{◌≡◌, Bool, true, false, ◌||◌, List, sym, ap, subst, if◌then◌else◌}, lemmas.Bool.false≢true}, specs.Prelude.{Some, None}}
+use Rattle.{std.specs.{Prelude.{is_some, unwrap_or, Result, Ok, Err}, Result.IsErrAnd}, iodef_tree.specs.{Paths.{LocatedLine, has_class}, Text.Tokens}}
+use Rattle.{iodef_tree.specs.Text.is_root, marking.specs.{Label.text_of, Marks.{site_of, label_at}, Sited.Sites, declared.fault.SiteFault.SiteFault}}
+use Rattle.policy.specs.{Clearance.clearance_of, Decided.{decided_at, Decides}, Verdict.{handling_for, verdict_of}, declared.case.Case.Case}
+use Rattle.{policy.specs.declared.{fault.DecideFault.DecideFault, standing.Standing.Standing}, explain.specs.Explained.{explained_at, Explains, undecided}}
+use Rattle.explain.specs.{Explained.unsited, Explanation.{Explanation, explanation_of, passages_on, covering}, declared.fault.ExplainFault.ExplainFault}
 use Rattle.explain.specs.declared.trace.Trace.{Trace}
-use Rattle.explain.specs.declared.fault.ExplainFault.{ExplainFault}
+use Rattle.marking.specs.declared.fault.SiteFault.TheVariants as site
+use Rattle.policy.specs.declared.fault.DecideFault.TheVariants as decide
 
 -- each part besides the verdict is what the policy and the markings say of the path
 pub record HasParts (es : List LocatedLine) (c : Case) (s : Standing) (p : Tokens) (x : Explanation) : Type 0 where

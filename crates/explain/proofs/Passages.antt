@@ -1,12 +1,6 @@
 -- The gates on the way to a path, token by token.
-use Rattle.std.proofs.Common.{◌≡◌, [], ◌∷◌, ◌++◌, sym, ◌∙◌, ap}
-use Rattle.std.specs.List.{flat_map}
-use Rattle.std.proofs.lemmas.List.{append-nil}
-use Rattle.std.proofs.lemmas.List.Concat.{flat_map-append}
-use Rattle.iodef_tree.specs.Text.{Bytes, Tokens, prefixes}
-use Rattle.policy.specs.declared.standing.Standing.{Standing}
-use Rattle.policy.specs.declared.case.Case.{Case}
-use Rattle.policy.proofs.Steps.{prefixes-push}
+use Rattle.std.{proofs.{Common.{◌≡◌, [], ◌∷◌, ◌++◌, sym, ◌∙◌, ap}, lemmas.List.{append-nil, Concat.flat_map-append}}, specs.List.flat_map}
+use Rattle.{iodef_tree.specs.Text.{Bytes, Tokens, prefixes}, policy.{proofs.Steps.prefixes-push, specs.declared.{case.Case.Case, standing.Standing.Standing}}}
 use Rattle.explain.specs.Explanation.{passages_at, passages_on}
 
 pub passages-root : (c : Case) (s : Standing) → passages_at c s [] ≡ passages_on c s []

@@ -3,15 +3,15 @@ use Rattle.std.specs.Prelude.{◌≡◌, List, Option, Some, None, if◌then◌e
 use Rattle.iodef_tree.specs.Text.{Tokens}
 use Rattle.iodef_tree.specs.Paths.{LocatedLine, has_class}
 use Rattle.marking.specs.declared.fault.SiteFault.{SiteFault}
-use Rattle.marking.specs.declared.fault.SiteFault.TheVariants as site
 use Rattle.policy.specs.declared.fault.DecideFault.{DecideFault}
-use Rattle.policy.specs.declared.fault.DecideFault.TheVariants as decide
 use Rattle.policy.specs.declared.standing.Standing.{Standing}
 use Rattle.policy.specs.declared.case.Case.{Case}
 use Rattle.explain.specs.Explanation.{Explanation, explanation_of, explanation}
 use Rattle.explain.specs.declared.trace.Trace.{Trace}
 use Rattle.explain.specs.declared.fault.ExplainFault.{ExplainFault}
 use Rattle.explain.specs.declared.fault.ExplainFault.TheVariants.{NoClass, NoMemory}
+use Rattle.marking.specs.declared.fault.SiteFault.TheVariants as site
+use Rattle.policy.specs.declared.fault.DecideFault.TheVariants as decide
 
 -- the explanation of the class at the path; none if there is no class there
 abbrev pub explained_at : List LocatedLine → Case → Standing → Tokens → Option Explanation

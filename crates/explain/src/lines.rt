@@ -4,7 +4,8 @@ ghost use Rattle.std.specs.Prelude.{◌≡◌, ◌++◌, IfOk, OnOk, decimal, st
 ghost use Rattle.std.specs.List.{flat_map};
 ghost use Rattle.json.specs.Print as spec;
 ghost use Rattle.explain.specs.Explanation.{explanation};
-ghost use Rattle.explain.specs.Lines.{space, newline, path_text, result_text, side_text, rule_in, verdict_line, path_line, community_line, gate_line, site_line, clearance_line, grantee_text, end_text, permission_line, permission_lines, trace_text};
+ghost use Rattle.explain.specs.Lines.{space, newline, path_text, result_text, side_text, rule_in, verdict_line, path_line, community_line, gate_line};
+ghost use Rattle.explain.specs.Lines.{site_line, clearance_line, grantee_text, end_text, permission_line, permission_lines, trace_text};
 
 use crate::listing::{PrintedPermission, grantee_number, kind_name, sort_permissions};
 use crate::trace::Trace;

@@ -1,14 +1,7 @@
 -- The reply that is due in two worlds that are alike.
-use Rattle.std.proofs.Common.{inl, inr}
-use Rattle.std.specs.Prelude.{ℤ}
-use Rattle.circle.specs.declared.directory.Account.{Account}
-use Rattle.hub.specs.Alike.{AlikeIsAnsweredAlike}
-use Rattle.hub.proofs.ToldSame.{StepsTellSame, chain-same}
-use Rattle.hub.proofs.OtherUnseen.{unseen-told}
-use Rattle.hub.proofs.EqualBut.{hidden_exchanged}
-use Rattle.hub.proofs.OtherLines.{plain-step, hidden-step}
-use Rattle.hub.proofs.OtherRows.{rows-step}
-use Rattle.hub.proofs.SharedSteps.{plain-shared, hidden-shared, unseen-shared, other-rows-shared}
+use Rattle.{std.{proofs.Common.{inl, inr}, specs.Prelude.ℤ}, circle.specs.declared.directory.Account.Account, hub.proofs.EqualBut.hidden_exchanged}
+use Rattle.hub.proofs.{OtherLines.{plain-step, hidden-step}, OtherRows.rows-step, OtherUnseen.unseen-told, SharedSteps.{plain-shared, hidden-shared}}
+use Rattle.hub.{proofs.{SharedSteps.{unseen-shared, other-rows-shared}, ToldSame.{StepsTellSame, chain-same}}, specs.Alike.AlikeIsAnsweredAlike}
 
 steps : (now : ℤ) (a : Account) → StepsTellSame now a
 steps now a s t ss st there (inl h) = let one = plain-step now a s t ss st there h in (one.0, plain-shared now a s t h, one.1)

@@ -1,43 +1,19 @@
 -- The reply to a change, by its edits.
-use Rattle.std.proofs.Common.{◌≡◌, ℕ, ◌+◌, ◌<◌, ◌≤◌, ◌^◌, false, ◌==◌, List, [], ◌∷◌, ◌++◌, map, Option, Some, None, drop, get_or, length, refl, sym, ◌∙◌, ap, subst, arith, append_assoc}
-use Rattle.std.specs.Prelude.{ℤ, option_map}
-use Rattle.std.specs.List.{flat_map, cons_option}
-use Rattle.std.proofs.lemmas.List.{drop_more}
-use Rattle.std.specs.Option.{option_map_or}
-use Rattle.std.proofs.lemmas.Bool.{true≢false}
-use Rattle.std.proofs.lemmas.List.Elements.{filter_map-append}
-use Rattle.iodef_tree.specs.Text.{Tokens}
-use Rattle.iodef_tree.specs.Pointer.{pointer_tokens}
-use Rattle.circle.specs.Directory.{Directory}
-use Rattle.circle.specs.Aftermath.{next_in, edit_of, rows_of}
-use Rattle.circle.specs.declared.directory.Person.{Person}
-use Rattle.circle.specs.declared.command.CircleCommand.{CircleCommand}
-use Rattle.circle.specs.declared.command.CircleCommand.TheVariants.{AddOrg, AddPerson, SuspendPerson, AddClient, RemoveClient, AddCommunity, Join, Leave, Link, Unlink, NewGroup, GroupAdd, GroupRemove, GroupActive, Arrange, CancelArrange, Nominate, Unnominate, NewKey}
-use Rattle.hub_state.specs.declared.TheConstants.{REVISION_LIMIT}
-use Rattle.hub_core.specs.Documents.{Lines, documents_in, made_at}
-use Rattle.hub_core.specs.State.{State, incident_of}
-use Rattle.hub_core.specs.Aftermath.{next_incident, put_gate, put_incident, put_incidents, edits_of, edits_by}
-use Rattle.hub_core.specs.Facts.{facts_of}
-use Rattle.hub_core.specs.Requests.{looked_up, incident_facts, known_of, incident_asked}
-use Rattle.hub_core.specs.Refusals.{refusal_of}
-use Rattle.hub_core.specs.Judgement.{next_revision}
-use Rattle.hub_core.specs.Laws.{is_reading}
-use Rattle.hub_core.specs.Sound.{IsSound}
-use Rattle.hub_core.proofs.Agrees.{same_edits}
-use Rattle.hub_state.specs.declared.edit.Edit.{Edit}
-use Rattle.hub_state.specs.declared.edit.Edit.TheVariants.{Directory as Row}
-use Rattle.hub_state.specs.declared.facts.Facts.{Facts}
-use Rattle.hub_state.specs.declared.facts.IncidentFacts.{IncidentFacts}
-use Rattle.hub_state.specs.declared.state.Incident.{Incident}
-use Rattle.hub_state.specs.declared.reply.Reply.{Reply}
-use Rattle.hub_state.specs.declared.reply.Reply.TheVariants.{Numbers, Revision}
-use Rattle.hub_state.specs.declared.request.Distribution.{Distribution}
-use Rattle.hub_state.specs.declared.request.WantedGate.{WantedGate}
-use Rattle.hub_state.specs.declared.request.Request.{Request}
+use Rattle.std.proofs.Common.{◌≡◌, ℕ, ◌+◌, ◌<◌, ◌≤◌, ◌^◌, false, ◌==◌, List, [], ◌∷◌, ◌++◌, map, Option, Some, None, drop, get_or, length, refl, sym, ◌∙◌, ap}
+use Rattle.std.{proofs.{Common.{subst, arith, append_assoc}, lemmas.{Bool.true≢false, List.{drop_more, Elements.filter_map-append}}}, specs.List.flat_map}
+use Rattle.{std.specs.{List.cons_option, Option.option_map_or, Prelude.{ℤ, option_map}}, iodef_tree.specs.{Pointer.pointer_tokens, Text.Tokens}}
+use Rattle.circle.specs.{Aftermath.{next_in, edit_of, rows_of}, Directory.Directory, declared.command.CircleCommand.{CircleCommand, TheVariants.AddOrg}}
+use Rattle.circle.specs.declared.command.CircleCommand.TheVariants.{AddPerson, SuspendPerson, AddClient, RemoveClient, AddCommunity, Join, Leave, Link, Unlink}
+use Rattle.circle.specs.declared.command.CircleCommand.TheVariants.{NewGroup, GroupAdd, GroupRemove, GroupActive, Arrange, CancelArrange, Nominate, Unnominate}
+use Rattle.{circle.specs.declared.{command.CircleCommand.TheVariants.NewKey, directory.Person.Person}, hub_state.proofs.Keeping.found_each}
+use Rattle.hub_state.specs.declared.{TheConstants.REVISION_LIMIT, edit.Edit.{Edit, TheVariants.Directory as Row}, facts.Facts.Facts}
+use Rattle.hub_state.specs.declared.{facts.IncidentFacts.IncidentFacts, reply.Reply.{Reply, TheVariants.{Numbers, Revision}}, request.Distribution.Distribution}
+use Rattle.{hub_state.specs.declared.{request.{Request.Request, WantedGate.WantedGate}, state.Incident.Incident}, hub_core.proofs.Agrees.same_edits}
+use Rattle.hub_core.specs.{Aftermath.{next_incident, put_gate, put_incident, put_incidents, edits_of, edits_by}, Documents.{Lines, documents_in, made_at}}
+use Rattle.hub_core.specs.{Facts.facts_of, Judgement.next_revision, Laws.is_reading, Refusals.refusal_of, Requests.{looked_up, incident_facts, known_of}}
+use Rattle.{hub_core.specs.{Requests.incident_asked, Sound.IsSound, State.{State, incident_of}}, hub.specs.Replies.{numbers_from, circle_reply, refused_or}}
+use Rattle.hub.specs.{Replies.answer_to, Serving.{due_to, number_put, numbers_put, made_reply}}
 use Rattle.hub_state.specs.declared.request.Request.TheVariants as ask
-use Rattle.hub_state.proofs.Keeping.{found_each}
-use Rattle.hub.specs.Replies.{numbers_from, circle_reply, refused_or, answer_to}
-use Rattle.hub.specs.Serving.{due_to, number_put, numbers_put, made_reply}
 
 -- ---- numbers
 

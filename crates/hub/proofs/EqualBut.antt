@@ -1,29 +1,12 @@
 -- Sound states that are equal but for a hidden class: that class of an incident is exchanged.
-use Rattle.std.proofs.Common.{◌≡◌, ℕ, Bool, true, false, List, [], ◌∷◌, refl, sym, ◌∙◌, ap, subst, ◌==◌, if◌then◌else◌}
-use Rattle.std.specs.Prelude.{ℤ, Option, Some, None, map, option_map, unwrap_or}
-use Rattle.std.specs.List.{AllByRecursion}
-use Rattle.std.specs.Option.{option_map_or}
-use Rattle.std.proofs.lemmas.Bool.{eqb-true, false≢true}
-use Rattle.iodef_tree.specs.Json.{incident_id}
-use Rattle.iodef_tree.specs.Text.{Tokens}
-use Rattle.iodef_tree.specs.Paths.{LocatedLine}
-use Rattle.redact.specs.Alike.{is_within, lines_but, is_hidden_from}
-use Rattle.redact.specs.Told.{withheld_of}
-use Rattle.redact.specs.Withheld.{Withheld}
-use Rattle.circle.specs.declared.directory.Account.{Account}
-use Rattle.hub_core.specs.Documents.{Lines, ident_of}
-use Rattle.hub_core.specs.State.{State, incident_of, incident_number}
-use Rattle.hub_core.specs.Reads.{case_for}
-use Rattle.hub_core.specs.Sound.{IsSound}
-use Rattle.hub_state.specs.declared.state.Incident.{Incident}
-use Rattle.hub_state.proofs.Keeping.{found_each, found_is}
-use Rattle.hub.specs.Told.{standing_at}
-use Rattle.hub.specs.Alike.{HasOtherHiddenClass, gates_but_at, incident_but, is_own, parts_but, permissions_but_at, report_of, with_document}
-use Rattle.hub.specs.inner.Exchanged.{HasExchangedClass, HiddenClassesAgree}
-use Rattle.hub.proofs.Numbered.{all_found}
-use Rattle.hub.proofs.OtherDocument.{other_of, redone}
-use Rattle.hub.proofs.OtherLines.{find-other, some-same}
-use Rattle.hub.proofs.Standings.{standing_at-is}
+use Rattle.std.proofs.{Common.{◌≡◌, ℕ, Bool, true, false, List, [], ◌∷◌, refl, sym, ◌∙◌, ap, subst, ◌==◌, if◌then◌else◌}, lemmas.Bool.{eqb-true, false≢true}}
+use Rattle.std.specs.{List.AllByRecursion, Option.option_map_or, Prelude.{ℤ, Option, Some, None, map, option_map, unwrap_or}}
+use Rattle.{iodef_tree.specs.{Json.incident_id, Paths.LocatedLine, Text.Tokens}, redact.specs.{Alike.{is_within, lines_but, is_hidden_from}, Told.withheld_of}}
+use Rattle.{redact.specs.Withheld.Withheld, circle.specs.declared.directory.Account.Account, hub_core.specs.{Documents.{Lines, ident_of}, Reads.case_for}}
+use Rattle.{hub_core.specs.{Sound.IsSound, State.{State, incident_of, incident_number}}, hub_state.proofs.Keeping.{found_each, found_is}}
+use Rattle.{hub_state.specs.declared.state.Incident.Incident, hub.proofs.{Numbered.all_found, OtherDocument.{other_of, redone}, OtherLines.find-other}}
+use Rattle.hub.{proofs.{OtherLines.some-same, Standings.standing_at-is}, specs.Alike.{HasOtherHiddenClass, gates_but_at, incident_but, is_own, parts_but}}
+use Rattle.hub.specs.{Alike.{permissions_but_at, report_of, with_document}, Told.standing_at, inner.Exchanged.{HasExchangedClass, HiddenClassesAgree}}
 
 abbrev Parts : Type 0
 Parts = Incident × List LocatedLine

@@ -1,32 +1,13 @@
 -- There is an explanation exactly if the request isn't refused.
-use Rattle.std.proofs.Common.{◌≡◌, Bool, true, false, not, Option, Some, None, cond, refl, sym, ◌∙◌, ap}
-use Rattle.std.specs.Prelude.{ℤ, is_none, option_map}
-use Rattle.std.specs.Option.{option_map_or}
-use Rattle.std.proofs.lemmas.Bool.{true≢false}
-use Rattle.iodef_tree.specs.Text.{Bytes, Tokens}
-use Rattle.iodef_tree.specs.Paths.{located, has_class}
-use Rattle.iodef_tree.specs.Pointer.{pointer_tokens}
-use Rattle.policy.specs.declared.standing.Standing.{Standing}
-use Rattle.policy.specs.declared.case.Case.{Case}
-use Rattle.explain.specs.Explanation.{Explanation, explanation_of}
-use Rattle.explain.specs.Explained.{explained_at}
-use Rattle.explain.specs.Lines.{trace_text}
-use Rattle.circle.specs.Reads.{person_of}
-use Rattle.circle.specs.declared.directory.Person.{Person}
-use Rattle.circle.proofs.Judged.{passed}
-use Rattle.hub_core.specs.State.{State, incident_of}
-use Rattle.hub_core.specs.Documents.{Lines}
-use Rattle.hub_core.specs.Reads.{case_for}
-use Rattle.hub_core.specs.Requests.{incident_facts}
-use Rattle.hub_core.specs.Facts.{facts_of}
-use Rattle.hub_core.specs.Refusals.{refusal_of}
-use Rattle.hub_core.specs.Judgement.{grounds_by, is_class_at}
-use Rattle.hub_state.specs.declared.state.Incident.{Incident}
-use Rattle.hub_state.specs.declared.request.Explain.{Explain}
-use Rattle.hub_state.specs.declared.request.Request.TheVariants as ask
-use Rattle.hub_core.proofs.Agrees.{agrees}
-use Rattle.hub.specs.Told.{standing_at, trace_of}
+use Rattle.std.{proofs.{Common.{◌≡◌, Bool, true, false, not, Option, Some, None, cond, refl, sym, ◌∙◌, ap}, lemmas.Bool.true≢false}, specs.Option.option_map_or}
+use Rattle.{std.specs.Prelude.{ℤ, is_none, option_map}, iodef_tree.specs.{Paths.{located, has_class}, Pointer.pointer_tokens, Text.{Bytes, Tokens}}}
+use Rattle.{policy.specs.declared.{case.Case.Case, standing.Standing.Standing}, explain.specs.{Explained.explained_at, Explanation.Explanation}}
+use Rattle.{explain.specs.{Explanation.explanation_of, Lines.trace_text}, circle.{proofs.Judged.passed, specs.Reads.person_of}}
+use Rattle.{circle.specs.declared.directory.Person.Person, hub_core.{proofs.Agrees.agrees, specs.{Documents.Lines, Facts.facts_of, Judgement.grounds_by}}}
+use Rattle.hub_core.specs.{Judgement.is_class_at, Reads.case_for, Refusals.refusal_of, Requests.incident_facts, State.{State, incident_of}}
+use Rattle.{hub_state.specs.declared.{request.Explain.Explain, state.Incident.Incident}, hub.specs.Told.{standing_at, trace_of}}
 use Rattle.hub.specs.inner.Explaining.{standing_between, text_at, text_of}
+use Rattle.hub_state.specs.declared.request.Request.TheVariants as ask
 
 -- what is looked up is there
 told_of : (b : Bool) (text : Bytes) → not b ≡ false → cond b (Some text) None ≡ Some text

@@ -1,16 +1,8 @@
 -- Each reply that says that the store failed was counted.
-use Rattle.std.proofs.Common.{◌≡◌, ◌≤◌, inl, inr, ℕ, ◌+◌, Bool, true, false, List, [], ◌∷◌, ◌++◌, cond, refl, sym, ◌∙◌, ap, arith}
-use Rattle.std.proofs.lemmas.Bool.{true≢false}
-use Rattle.std.proofs.lemmas.List.Sums.{sum_by_push}
-use Rattle.circle.specs.Outcomes.{bare}
-use Rattle.circle.specs.declared.refusal.Code.TheVariants.{F1}
-use Rattle.hub_core.specs.State.{State}
-use Rattle.hub_core.specs.Shelves.{HasFailed}
-use Rattle.hub_state.specs.declared.reply.Reply.{Reply}
-use Rattle.hub_state.specs.declared.reply.Reply.TheVariants.{Refused}
-use Rattle.hub.specs.Faults.{AreCounted, failures_told, tells_failure}
-use Rattle.hub.specs.Machine.{Asked, IsStep}
-use Rattle.hub.proofs.Served.{due_untold}
+use Rattle.std.proofs.{Common.{◌≡◌, ◌≤◌, inl, inr, ℕ, ◌+◌, Bool, true, false, List, [], ◌∷◌, ◌++◌, cond, refl, sym, ◌∙◌, ap, arith}, lemmas.Bool.true≢false}
+use Rattle.{std.proofs.lemmas.List.Sums.sum_by_push, circle.specs.{Outcomes.bare, declared.refusal.Code.TheVariants.F1}, hub_core.specs.Shelves.HasFailed}
+use Rattle.{hub_core.specs.State.State, hub_state.specs.declared.reply.Reply.{Reply, TheVariants.Refused}, hub.proofs.Served.due_untold}
+use Rattle.hub.specs.{Faults.{AreCounted, failures_told, tells_failure}, Machine.{Asked, IsStep}}
 
 -- a reply that says so is that of a step that was given up
 pub failure_alone : (s left : State) (asked : Asked) (reply : Reply) → IsStep s asked reply left → tells_failure reply ≡ true → reply ≡ Refused (bare F1)

@@ -1,12 +1,6 @@
 -- Several reads, one after another, and what they leave.
-use Rattle.std.proofs.Common.{◌≡◌, ◌<◌, ◌≤◌, inl, inr, ℕ, Result, Ok, Err, sym, arith}
-use Rattle.std.specs.Prelude.{Option}
-use Rattle.std.proofs.Math.Nat.{eq-or-lt_of_le}
-use Rattle.hub_core.specs.State.{State}
-use Rattle.hub_core.specs.Shelves.{IsRead}
-use Rattle.hub_state.specs.declared.shelf.ShelfFault.{ShelfFault}
-use Rattle.hub_state.specs.declared.shelf.ShelfFault.TheVariants.{Failed}
-use Rattle.hub_core.specs.Shelves.{IsKept}
+use Rattle.std.{proofs.{Common.{◌≡◌, ◌<◌, ◌≤◌, inl, inr, ℕ, Result, Ok, Err, sym, arith}, Math.Nat.eq-or-lt_of_le}, specs.Prelude.Option}
+use Rattle.{hub_core.specs.{Shelves.{IsRead, IsKept}, State.State}, hub_state.specs.declared.shelf.ShelfFault.{ShelfFault, TheVariants.Failed}}
 
 pub kept_on : {D : Type 0} {has : D → State → Type 0} {doubts failed : D → ℕ} {may_remain : D → Option State → Type 0} {old mid new : D} →
     IsKept has doubts failed may_remain old mid → IsKept has doubts failed may_remain mid new → IsKept has doubts failed may_remain old new

@@ -1,14 +1,9 @@
 -- What a stop may leave after a list of requests is the same as one request after another.
 use Rattle.std.proofs.Common.{◌≡◌, ◌⊎◌, inl, inr, Bool, true, false, List, [], ◌∷◌, ◌++◌, cond, ◌||◌, Option, Some, zip, refl, sym, ◌∙◌, ap, subst}
-use Rattle.std.proofs.lemmas.Bool.{true≢false}
-use Rattle.redact.proofs.InOrder.{contains_in, in_contained}
-use Rattle.hub_core.specs.State.{State}
-use Rattle.hub_state.specs.declared.reply.Reply.{Reply}
-use Rattle.hub.specs.Machine.{Asked, IsStep, IsRun, state_left}
-use Rattle.hub.specs.Serving.{is_made}
-use Rattle.hub.specs.Stops.{HasOneDue, IsDueChange, IsLeftByLast, IsLeftFromBefore, MayBeLeft, Replied, content_after, content_behind, is_any_made}
-use Rattle.hub.specs.inner.InTurn.{MayBeLeftBy, MayBeLeftInTurn, StopsAgree}
-use Rattle.hub.proofs.Stopped.{made_due, step_content}
+use Rattle.{std.proofs.lemmas.Bool.true≢false, redact.proofs.InOrder.{contains_in, in_contained}, hub_core.specs.State.State}
+use Rattle.{hub_state.specs.declared.reply.Reply.Reply, hub.{proofs.Stopped.{made_due, step_content}, specs.Machine.{Asked, IsStep, IsRun, state_left}}}
+use Rattle.hub.specs.{Serving.is_made, Stops.{HasOneDue, IsDueChange, IsLeftByLast, IsLeftFromBefore, MayBeLeft, Replied, content_after, content_behind}}
+use Rattle.hub.specs.{Stops.is_any_made, inner.InTurn.{MayBeLeftBy, MayBeLeftInTurn, StopsAgree}}
 
 abbrev LeftOf : (Option State → Type 0) → State → List Replied → Option State → Type 0
 LeftOf Before s xs left = IsLeftByLast s xs left ⊎ IsLeftFromBefore Before s xs left

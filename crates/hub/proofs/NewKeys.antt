@@ -1,32 +1,13 @@
 -- After a new key is made, it is the caller's, and the old one is nobody's.
 use Rattle.std.proofs.Common.{◌≡◌, ◌⊎◌, inl, inr, bytes_eq, ℕ, Bool, true, false, List, [], ◌∷◌, refl, sym, ◌∙◌, ap, subst, ◌==◌, if◌then◌else◌, cond, map}
-use Rattle.std.specs.Prelude.{Option, Some, None, find, option_map, Contains}
-use Rattle.std.proofs.lemmas.Bool.{eq-eqb, true≢false, false_from_ne_true, cond-false}
-use Rattle.iodef_tree.proofs.Order.{bytes_eq-true}
-use Rattle.redact.proofs.Filtered.{none-any}
-use Rattle.redact.proofs.InOrder.{In, contains_in}
-use Rattle.circle.specs.Aftermath.{exchange_key}
-use Rattle.circle.specs.Directory.{has_key}
-use Rattle.circle.specs.Outcomes.{bare}
-use Rattle.circle.specs.Reads.{person_in}
-use Rattle.circle.specs.declared.refusal.Code.TheVariants.{S1}
-use Rattle.circle.specs.declared.command.CircleCommand.TheVariants.{NewKey}
-use Rattle.circle.specs.declared.directory.Person.{Person}
-use Rattle.circle.specs.declared.directory.Account.{Account}
-use Rattle.hub_core.specs.Refusals.{unless_refused}
-use Rattle.hub_core.specs.Sound.{IsSound}
-use Rattle.hub_core.specs.State.{State}
-use Rattle.hub_state.specs.Aftermath.{changed}
-use Rattle.hub_state.specs.declared.request.Request.{Request}
+use Rattle.std.{proofs.lemmas.Bool.{eq-eqb, true≢false, false_from_ne_true, cond-false}, specs.Prelude.{Option, Some, None, find, option_map, Contains}}
+use Rattle.{iodef_tree.proofs.Order.bytes_eq-true, redact.proofs.{Filtered.none-any, InOrder.{In, contains_in}}, circle.specs.Aftermath.exchange_key}
+use Rattle.circle.specs.{Directory.has_key, Outcomes.bare, Reads.person_in, declared.{command.CircleCommand.TheVariants.NewKey, directory.Account.Account}}
+use Rattle.{circle.specs.declared.{directory.Person.Person, refusal.Code.TheVariants.S1}, hub_core.specs.{Refusals.unless_refused, Sound.IsSound, State.State}}
+use Rattle.{hub_state.{proofs.Keeping.{found_is, found_each}, specs.{Aftermath.changed, declared.request.Request.Request}}, hub.proofs.OtherUnseen.found-by-key}
+use Rattle.hub.{proofs.{OtherUnseen.known, Runs.left_sound, Served.same_person}, specs.{Laws.NewKeysReplaceOld, Machine.{left_by, state_left}}}
+use Rattle.hub.specs.{Replies.{caller_of, if_active}, declared.key.Key.TheVariants.Digest}
 use Rattle.hub_state.specs.declared.request.Request.TheVariants as ask
-use Rattle.hub_state.proofs.Keeping.{found_is, found_each}
-use Rattle.hub.specs.Laws.{NewKeysReplaceOld}
-use Rattle.hub.specs.Machine.{left_by, state_left}
-use Rattle.hub.specs.Replies.{caller_of, if_active}
-use Rattle.hub.specs.declared.key.Key.TheVariants.{Digest}
-use Rattle.hub.proofs.OtherUnseen.{found-by-key, known}
-use Rattle.hub.proofs.Runs.{left_sound}
-use Rattle.hub.proofs.Served.{same_person}
 
 in-map : {X Y : Type 0} (f : X → Y) (xs : List X) (x : X) → In xs x → In (map f xs) (f x)
 in-map f [] x h = absurd h

@@ -1,10 +1,7 @@
 -- Rows numbered from 1 without a gap.
-use Rattle.std.proofs.Common.{◌≡◌, inl, inr, ℕ, zero, suc, ◌+◌, ◌<◌, ◌≤◌, false, ◌==◌, nat_lt, List, [], ◌∷◌, Some, take, drop, refl, sym, ◌∙◌, ap, subst, arith, filter, find, slice_get}
-use Rattle.std.specs.List.{AllByRecursion}
-use Rattle.std.proofs.lemmas.Bool.{lt-ltb, le-ltb, eq-eqb, cond-true, cond-false}
-use Rattle.std.proofs.lemmas.Bool.Decides.{eqb_tells}
-use Rattle.circle.specs.Sound.{CountsFrom}
-use Rattle.hub_state.proofs.Keeping.{numbers_above}
+use Rattle.std.proofs.Common.{◌≡◌, inl, inr, ℕ, zero, suc, ◌+◌, ◌<◌, ◌≤◌, false, ◌==◌, nat_lt, List, [], ◌∷◌, Some, take, drop, refl, sym, ◌∙◌, ap, subst}
+use Rattle.std.proofs.{Common.{arith, filter, find, slice_get}, lemmas.Bool.{lt-ltb, le-ltb, eq-eqb, cond-true, cond-false, Decides.eqb_tells}}
+use Rattle.{std.specs.List.AllByRecursion, circle.specs.Sound.CountsFrom, hub_state.proofs.Keeping.numbers_above}
 
 module _ {X : Type 0} (number : X → ℕ) where
   pub counts_on : (n m : ℕ) (xs : List X) → n ≡ m → CountsFrom number n xs → CountsFrom number m xs

@@ -1,11 +1,6 @@
 -- One request more is answered.
-use Rattle.std.proofs.Common.{◌≡◌, ℕ, ◌+◌, ◌<◌, List, [], ◌∷◌, ◌++◌, take, length, get_or, refl, sym, subst}
-use Rattle.std.specs.Prelude.{Option}
-use Rattle.std.proofs.lemmas.List.{take_more}
-use Rattle.hub_core.specs.State.{State}
-use Rattle.hub_state.specs.declared.reply.Reply.{Reply}
-use Rattle.hub.specs.Machine.{Asked}
-use Rattle.hub.specs.OneByOne.{AreAnswers, IsOneAnswer}
+use Rattle.std.{proofs.{Common.{◌≡◌, ℕ, ◌+◌, ◌<◌, List, [], ◌∷◌, ◌++◌, take, length, get_or, refl, sym, subst}, lemmas.List.take_more}, specs.Prelude.Option}
+use Rattle.{hub_core.specs.State.State, hub_state.specs.declared.reply.Reply.Reply, hub.specs.{Machine.Asked, OneByOne.{AreAnswers, IsOneAnswer}}}
 
 module _ {D : Type 0} (has : D → State → Type 0) (doubts failed : D → ℕ) (may_remain : D → Option State → Type 0) where
   answers_more : (old mid new : D) (all : List Asked) (replies : List Reply) (asked : Asked) (reply : Reply) → AreAnswers has doubts failed may_remain old all replies mid → IsOneAnswer has doubts failed may_remain mid asked reply new

@@ -1,22 +1,11 @@
 -- Another document in one incident, of which a person learns the same.
-use Rattle.std.proofs.Common.{◌≡◌, ℕ, Bool, true, false, List, [], ◌∷◌, refl, sym, ◌∙◌, ap, ◌||◌, ◌==◌, if◌then◌else◌, cond}
-use Rattle.std.specs.Prelude.{ℤ, Option, Some, None, filter, find, map, take, nat_lt, option_map}
-use Rattle.std.specs.List.{AllByRecursion}
-use Rattle.std.proofs.lemmas.Bool.{false≢true, true≢false}
-use Rattle.iodef_tree.specs.Text.{Bytes}
-use Rattle.policy.specs.declared.standing.Standing.{Standing}
-use Rattle.redact.specs.Told.{is_listed, finds, excerpt_of}
-use Rattle.circle.specs.declared.directory.Person.{Person}
-use Rattle.hub_core.specs.Documents.{Lines, ident_of}
-use Rattle.hub_core.specs.State.{State, incident_of}
-use Rattle.hub_core.specs.Reads.{standing_for, case_for, entry_of}
-use Rattle.hub_state.specs.declared.state.Incident.{Incident}
-use Rattle.hub.specs.declared.TheConstants.{PAGE_LIMIT}
-use Rattle.hub.specs.Told.{standing_at, is_served, is_found, is_addressed, view_with, view_of}
-use Rattle.hub.specs.Replies.{page_of, view_or_nothing, viewed}
-use Rattle.redact.specs.Alike.{IsToldAlike}
-use Rattle.hub.specs.Alike.{report_of}
-use Rattle.hub.proofs.Standings.{standing_at-is}
+use Rattle.std.proofs.{Common.{◌≡◌, ℕ, Bool, true, false, List, [], ◌∷◌, refl, sym, ◌∙◌, ap, ◌||◌, ◌==◌, if◌then◌else◌, cond}, lemmas.Bool.false≢true}
+use Rattle.std.{proofs.lemmas.Bool.true≢false, specs.{List.AllByRecursion, Prelude.{ℤ, Option, Some, None, filter, find, map, take, nat_lt, option_map}}}
+use Rattle.{iodef_tree.specs.Text.Bytes, policy.specs.declared.standing.Standing.Standing, redact.specs.{Alike.IsToldAlike, Told.{is_listed, finds}}}
+use Rattle.{redact.specs.Told.excerpt_of, circle.specs.declared.directory.Person.Person, hub_core.specs.{Documents.{Lines, ident_of}, Reads.standing_for}}
+use Rattle.{hub_core.specs.{Reads.{case_for, entry_of}, State.{State, incident_of}}, hub_state.specs.declared.state.Incident.Incident}
+use Rattle.hub.{proofs.Standings.standing_at-is, specs.{Alike.report_of, Replies.{page_of, view_or_nothing, viewed}, Told.{standing_at, is_served, is_found}}}
+use Rattle.hub.specs.{Told.{is_addressed, view_with, view_of}, declared.TheConstants.PAGE_LIMIT}
 
 -- an incident with another document
 abbrev pub redone : Lines → Incident → Incident

@@ -1,31 +1,14 @@
 -- Other permissions that have ended, also the person's own; and those at others' reports alone.
-use Rattle.std.proofs.Common.{◌≡◌, Bool, false, List, [], ◌∷◌, refl, sym, ◌∙◌, ap, subst, ◌&&◌, ◌||◌, ◌==◌, inr}
-use Rattle.std.specs.Prelude.{ℤ, None, Some, filter, map, Contains, option_map}
-use Rattle.std.specs.List.{AllByRecursion}
-use Rattle.std.proofs.lemmas.List.{map-id}
-use Rattle.std.proofs.lemmas.Bool.{and_right, or_parts}
-use Rattle.policy.specs.declared.standing.Standing.{Standing}
-use Rattle.policy.specs.Permissions.{includes, is_before, holds_for}
-use Rattle.redact.specs.Alike.{IsToldAlike}
-use Rattle.redact.specs.Told.{is_listed, finds, excerpt_of}
-use Rattle.redact.proofs.Filtered.{filter-both, filter-within, filter-map}
-use Rattle.redact.proofs.ToldAlike.{alike-told}
-use Rattle.circle.specs.declared.directory.Person.{Person}
-use Rattle.circle.specs.declared.directory.Account.{Account}
-use Rattle.hub_core.specs.State.{State, incident_of, incident_number}
-use Rattle.hub_core.specs.Reads.{case_for}
-use Rattle.hub_core.specs.Sound.{IsSound}
-use Rattle.hub_state.specs.declared.state.Incident.{Incident}
-use Rattle.hub_state.specs.declared.state.Permission.{Permission}
-use Rattle.hub.specs.Told.{standing_at, is_served, is_found, is_addressed, view_with}
-use Rattle.hub.specs.Alike.{report_of, is_own, live_permissions, live_or_own_permissions, EndedPermissionsAreNotFelt, OthersEndedPermissionsAreNotFelt}
-use Rattle.hub.proofs.Numbered.{all_found}
-use Rattle.hub.proofs.Standings.{standing_at-is}
-use Rattle.hub.proofs.ToldSame.{TellsSame, TellsShared, reply-same, reply-alike}
-use Rattle.hub.proofs.OtherUnseen.{known}
-use Rattle.hub.proofs.OtherDocument.{ToldOf, page-same, view-same}
-use Rattle.hub.proofs.OtherLines.{marked-document}
-use Rattle.hub.proofs.SharedSteps.{kept-in, ended-shared}
+use Rattle.std.proofs.{Common.{◌≡◌, Bool, false, List, [], ◌∷◌, refl, sym, ◌∙◌, ap, subst, ◌&&◌, ◌||◌, ◌==◌, inr}, lemmas.Bool.{and_right, or_parts}}
+use Rattle.std.{proofs.lemmas.List.map-id, specs.{List.AllByRecursion, Prelude.{ℤ, None, Some, filter, map, Contains, option_map}}}
+use Rattle.{policy.specs.{Permissions.{includes, is_before, holds_for}, declared.standing.Standing.Standing}, redact.proofs.Filtered.filter-both}
+use Rattle.redact.{proofs.{Filtered.{filter-within, filter-map}, ToldAlike.alike-told}, specs.{Alike.IsToldAlike, Told.{is_listed, finds, excerpt_of}}}
+use Rattle.{circle.specs.declared.directory.{Account.Account, Person.Person}, hub_core.specs.{Reads.case_for, Sound.IsSound, State.{State, incident_of}}}
+use Rattle.{hub_core.specs.State.incident_number, hub_state.specs.declared.state.{Incident.Incident, Permission.Permission}, hub.proofs.Numbered.all_found}
+use Rattle.hub.proofs.{OtherDocument.{ToldOf, page-same, view-same}, OtherLines.marked-document, OtherUnseen.known, SharedSteps.{kept-in, ended-shared}}
+use Rattle.hub.{proofs.{Standings.standing_at-is, ToldSame.{TellsSame, TellsShared, reply-same, reply-alike}}, specs.Alike.{report_of, is_own}}
+use Rattle.hub.specs.{Alike.{live_permissions, live_or_own_permissions, EndedPermissionsAreNotFelt, OthersEndedPermissionsAreNotFelt}, Told.standing_at}
+use Rattle.hub.specs.Told.{is_served, is_found, is_addressed, view_with}
 
 module _ (now : ℤ) (a : Account) (s : State) (permissions : List Permission) where
   abbrev p : Person

@@ -1,38 +1,16 @@
 -- The steps in which one incident has another document.
 use Rattle.std.proofs.Common.{◌≡◌, ℕ, Bool, true, false, not, List, [], ◌∷◌, refl, sym, ◌∙◌, ap, subst, ◌&&◌, ◌||◌, ◌==◌, if◌then◌else◌, cond, inl, inr}
-use Rattle.std.specs.Prelude.{ℤ, Some, filter, find, map, Contains, option_map}
-use Rattle.std.specs.List.{AllByRecursion}
-use Rattle.std.proofs.lemmas.List.Elements.{filter_agree}
-use Rattle.std.proofs.lemmas.Bool.{eqb-true, true≢false, cond-true, cond-false}
-use Rattle.iodef_tree.specs.Text.{is_prefix}
-use Rattle.iodef_tree.specs.Laws.{IsDocument}
-use Rattle.iodef_tree.proofs.Filled.{all-at}
-use Rattle.iodef_tree.proofs.ReadSound.{readings-are-documents}
-use Rattle.policy.specs.declared.standing.Standing.{Standing}
-use Rattle.policy.specs.declared.gate.Gate.{Gate as CaseGate}
-use Rattle.policy.specs.declared.permission.Permission.{Permission as CasePermission}
-use Rattle.redact.specs.Told.{is_listed, finds, withheld_of, excerpt_of}
-use Rattle.circle.specs.declared.directory.Person.{Person}
-use Rattle.circle.specs.declared.directory.Account.{Account}
-use Rattle.hub_core.specs.Documents.{Lines}
-use Rattle.hub_core.specs.State.{State, incident_of, incident_number}
-use Rattle.hub_core.specs.Reads.{standing_for, case_for, its_gates, its_permissions}
-use Rattle.hub_core.specs.Sound.{IsSound, IsAccepted}
-use Rattle.hub_state.specs.declared.state.Incident.{Incident}
-use Rattle.hub_state.specs.declared.state.Gate.{Gate}
-use Rattle.hub_state.specs.declared.state.Permission.{Permission}
-use Rattle.hub.specs.Told.{standing_at, is_served, is_found, is_addressed, view_with}
-use Rattle.redact.specs.Alike.{IsMarked, is_hidden_from}
-use Rattle.hub.specs.Alike.{with_document, report_of, HasOtherPlainLines}
-use Rattle.hub.specs.inner.Exchanged.{HasExchangedClass}
-use Rattle.redact.proofs.Filtered.{filter-both, filter-within, filter-map}
-use Rattle.redact.proofs.ToldAlike.{alike-told}
-use Rattle.hub_state.proofs.Keeping.{not_both, turned, found_each}
-use Rattle.hub.proofs.Numbered.{all_found}
-use Rattle.hub.proofs.Standings.{standing_at-is}
-use Rattle.hub.proofs.ToldSame.{TellsSame}
-use Rattle.hub.proofs.OtherUnseen.{known}
-use Rattle.hub.proofs.OtherDocument.{other_of, redone, ToldOf, page-same, view-same, told-by}
+use Rattle.std.{proofs.lemmas.{Bool.{eqb-true, true≢false, cond-true, cond-false}, List.Elements.filter_agree}, specs.{List.AllByRecursion, Prelude.{ℤ, Some}}}
+use Rattle.{std.specs.Prelude.{filter, find, map, Contains, option_map}, iodef_tree.proofs.{Filled.all-at, ReadSound.readings-are-documents}}
+use Rattle.{iodef_tree.specs.{Laws.IsDocument, Text.is_prefix}, policy.specs.declared.gate.Gate.Gate as CaseGate}
+use Rattle.{policy.specs.declared.{permission.Permission.Permission as CasePermission, standing.Standing.Standing}, redact.proofs.Filtered.filter-both}
+use Rattle.redact.{proofs.{Filtered.{filter-within, filter-map}, ToldAlike.alike-told}, specs.{Alike.{IsMarked, is_hidden_from}, Told.{is_listed, finds}}}
+use Rattle.{redact.specs.Told.{withheld_of, excerpt_of}, circle.specs.declared.directory.{Account.Account, Person.Person}, hub_core.specs.Documents.Lines}
+use Rattle.hub_core.specs.{Reads.{standing_for, case_for, its_gates, its_permissions}, Sound.{IsSound, IsAccepted}, State.{State, incident_of, incident_number}}
+use Rattle.hub_state.{proofs.Keeping.{not_both, turned, found_each}, specs.declared.state.{Gate.Gate, Incident.Incident, Permission.Permission}}
+use Rattle.hub.proofs.{Numbered.all_found, OtherDocument.{other_of, redone, ToldOf, page-same, view-same, told-by}, OtherUnseen.known, Standings.standing_at-is}
+use Rattle.hub.{proofs.ToldSame.TellsSame, specs.{Alike.{with_document, report_of, HasOtherPlainLines}, Told.{standing_at, is_served, is_found, is_addressed}}}
+use Rattle.hub.specs.{Told.view_with, inner.Exchanged.HasExchangedClass}
 
 -- what reading returns is a document
 read-document : (doc : Lines) → IsAccepted doc → IsDocument doc

@@ -1,45 +1,21 @@
 -- Other permissions, recipients, persons, arrangements and memberships, none of which concern a person.
 use Rattle.std.proofs.Common.{◌≡◌, ◌⊎◌, Bool, true, false, List, [], ◌∷◌, refl, sym, ◌∙◌, ap, subst, ◌&&◌, ◌||◌, ◌==◌, if◌then◌else◌, inl, inr}
-use Rattle.std.specs.Prelude.{ℤ, Option, Some, None, filter, find, map, Contains, option_map}
-use Rattle.std.specs.List.{AllByRecursion, list_any, filter_map}
-use Rattle.std.proofs.lemmas.List.{map-id}
-use Rattle.std.proofs.lemmas.List.Elements.{filter_agree}
-use Rattle.std.proofs.lemmas.Bool.{eqb-true, eq-eqb, false≢true, true≢false, and_parts, and_left, and_right, or_parts}
-use Rattle.marking.specs.declared.label.Handling.{Handling}
-use Rattle.policy.specs.declared.standing.Standing.{Standing}
-use Rattle.policy.specs.declared.permission.Grantee.{Grantee}
+use Rattle.std.proofs.lemmas.{Bool.{eqb-true, eq-eqb, false≢true, true≢false, and_parts, and_left, and_right, or_parts}, List.{map-id, Elements.filter_agree}}
+use Rattle.std.specs.{List.{AllByRecursion, list_any, filter_map}, Prelude.{ℤ, Option, Some, None, filter, find, map, Contains, option_map}}
+use Rattle.{marking.specs.declared.label.Handling.Handling, policy.specs.{Permissions.{includes, holds_for}, declared.permission.Grantee.Grantee}}
+use Rattle.{policy.specs.declared.standing.Standing.Standing, redact.proofs.{Filtered.{any-each, any-kept, filter-both, filter-within, filter-map}, InOrder.In}}
+use Rattle.redact.{proofs.{InOrder.{in_contained, contains_in}, ToldAlike.alike-told}, specs.{Alike.IsToldAlike, Told.{is_listed, finds, excerpt_of}}}
+use Rattle.circle.specs.{Directory.has_group_being, Reads.{group_of, communities_of, memberships_in_groups, share_community, are_connected}}
+use Rattle.circle.specs.declared.directory.{Account.Account, Arrangement.Arrangement, Client.Client, GroupMember.GroupMember, Person.Person}
+use Rattle.hub_core.specs.{Handlings.handling_in, Reads.{is_peer, joined, standing_for, case_for}, Sound.IsSound, State.{State, incident_of, incident_number}}
+use Rattle.{hub_core.specs.State.{is_recipient_being, same_target}, hub_state.{proofs.Keeping.find_left, specs.declared.request.Target.Target}}
+use Rattle.{hub_state.specs.declared.state.{Incident.Incident, Permission.Permission, Recipient.Recipient}, hub.proofs.Numbered.all_found}
+use Rattle.hub.proofs.{OtherDocument.{ToldOf, page-same, view-same}, OtherLines.marked-document, OtherUnseen.known, Standings.standing_at-is}
+use Rattle.hub.{proofs.ToldSame.TellsSame, specs.Alike.{report_of, is_own, includes_person, is_org_or_person, staying_permissions, staying_recipients}}
+use Rattle.hub.specs.{Alike.{staying_accounts, staying_arrangements, staying_members, HasOtherRows}, Told.{standing_at, is_served, is_found, is_addressed}}
+use Rattle.hub.specs.Told.{view_with}
 use Rattle.policy.specs.declared.permission.Grantee.TheVariants as grantee
-use Rattle.policy.specs.Permissions.{includes, holds_for}
-use Rattle.redact.specs.Told.{is_listed, finds, excerpt_of}
-use Rattle.circle.specs.Directory.{has_group_being}
-use Rattle.circle.specs.Reads.{group_of, communities_of, memberships_in_groups, share_community, are_connected}
-use Rattle.circle.specs.declared.directory.Person.{Person}
-use Rattle.circle.specs.declared.directory.Account.{Account}
-use Rattle.circle.specs.declared.directory.Client.{Client}
-use Rattle.circle.specs.declared.directory.Arrangement.{Arrangement}
-use Rattle.circle.specs.declared.directory.GroupMember.{GroupMember}
-use Rattle.hub_core.specs.Handlings.{handling_in}
-use Rattle.hub_core.specs.State.{State, incident_of, incident_number, is_recipient_being, same_target}
-use Rattle.hub_core.specs.Reads.{is_peer, joined, standing_for, case_for}
-use Rattle.hub_core.specs.Sound.{IsSound}
-use Rattle.hub_state.specs.declared.request.Target.{Target}
 use Rattle.hub_state.specs.declared.request.Target.TheVariants as target
-use Rattle.hub_state.specs.declared.state.Incident.{Incident}
-use Rattle.hub_state.specs.declared.state.Recipient.{Recipient}
-use Rattle.hub_state.specs.declared.state.Permission.{Permission}
-use Rattle.hub.specs.Told.{standing_at, is_served, is_found, is_addressed, view_with}
-use Rattle.redact.specs.Alike.{IsToldAlike}
-use Rattle.redact.proofs.Filtered.{any-each, any-kept, filter-both, filter-within, filter-map}
-use Rattle.redact.proofs.ToldAlike.{alike-told}
-use Rattle.hub.specs.Alike.{report_of, is_own, includes_person, is_org_or_person, staying_permissions, staying_recipients, staying_accounts, staying_arrangements, staying_members, HasOtherRows}
-use Rattle.hub_state.proofs.Keeping.{find_left}
-use Rattle.hub.proofs.Numbered.{all_found}
-use Rattle.redact.proofs.InOrder.{In, in_contained, contains_in}
-use Rattle.hub.proofs.Standings.{standing_at-is}
-use Rattle.hub.proofs.ToldSame.{TellsSame}
-use Rattle.hub.proofs.OtherUnseen.{known}
-use Rattle.hub.proofs.OtherDocument.{ToldOf, page-same, view-same}
-use Rattle.hub.proofs.OtherLines.{marked-document}
 
 in-filter : {X : Type 0} (f : X → Bool) (xs : List X) (x : X) → f x ≡ true → In xs x → In (filter f xs) x
 in-filter f [] x k h = absurd h

@@ -1,42 +1,18 @@
 -- An incident of which a person sees nothing may be any.
 use Rattle.std.proofs.Common.{◌≡◌, ◌≢◌, inl, inr, bytes_eq, ℕ, Bool, true, false, not, List, [], ◌∷◌, refl, sym, ◌∙◌, ap, subst, ◌&&◌, ◌||◌, ◌==◌, cond}
-use Rattle.std.specs.Prelude.{ℤ, Option, Some, None, filter, find, map, take, nat_lt, Contains}
-use Rattle.std.specs.List.{AllByRecursion, list_any}
-use Rattle.std.specs.Option.{option_map_or}
-use Rattle.std.proofs.lemmas.Bool.{not-false, not-true, eqb-true, false≢true, and_left, cond-false}
-use Rattle.iodef_tree.specs.Text.{Bytes}
-use Rattle.policy.specs.declared.standing.Standing.{Standing}
-use Rattle.circle.specs.Directory.{Directory}
-use Rattle.circle.specs.declared.directory.Person.{Person}
-use Rattle.circle.specs.declared.directory.Account.{Account}
-use Rattle.circle.specs.declared.directory.Client.{Client}
-use Rattle.hub_core.specs.State.{State, incident_of, incident_number, is_recipient_being}
-use Rattle.hub_core.specs.Reads.{groups_of, standing_for, case_for, its_gates, its_permissions, entry_of}
-use Rattle.hub_core.specs.Sound.{IsSound}
-use Rattle.hub_state.specs.declared.request.Target.{Target}
+use Rattle.std.{proofs.lemmas.Bool.{not-false, not-true, eqb-true, false≢true, and_left, cond-false}, specs.List.{AllByRecursion, list_any}}
+use Rattle.std.specs.{Option.option_map_or, Prelude.{ℤ, Option, Some, None, filter, find, map, take, nat_lt, Contains, option_map}}
+use Rattle.{iodef_tree.{proofs.Order.{bytes_eq-true, bytes_eq-refl}, specs.Text.Bytes}, policy.specs.declared.{case.Case.Case, standing.Standing.Standing}}
+use Rattle.circle.specs.{Directory.Directory, Reads.person_in, Sound.Pairwise, declared.directory.{Account.Account, Client.Client, Person.Person}}
+use Rattle.hub_core.specs.{Reads.{groups_of, standing_for, case_for, its_gates, its_permissions, entry_of}, Sound.IsSound, State.{State, incident_of}}
+use Rattle.{hub_core.specs.State.{incident_number, is_recipient_being}, hub_state.proofs.Keeping.{not_both, turned, find_left, found_is}}
+use Rattle.hub_state.specs.declared.{request.Target.Target, state.{Gate.Gate, Incident.Incident, Permission.Permission, Recipient.Recipient}}
+use Rattle.redact.proofs.{Filtered.{each-from, any-each, any-kept, filter-within, filter-passing, filter-both, filter-agree}, InOrder.{In, in_contained}}
+use Rattle.{redact.{proofs.Promised.found-listed, specs.Told.{is_listed, finds, told_of, excerpt_of}}, hub.proofs.Numbered.all_found}
+use Rattle.hub.{proofs.{Standings.standing_at-is, ToldSame.TellsSame}, specs.{Alike.HasOtherUnseenIncident, Replies.{page_of, caller_of, if_active, viewed}}}
+use Rattle.hub.specs.{Replies.{view_or_nothing, nothing_for_you}, Told.{standing_at, is_served, is_found, is_addressed, view_with}}
+use Rattle.hub.specs.declared.{TheConstants.PAGE_LIMIT, key.Key.TheVariants.Digest}
 use Rattle.hub_state.specs.declared.request.Target.TheVariants as target
-use Rattle.hub_state.specs.declared.state.Incident.{Incident}
-use Rattle.hub_state.specs.declared.state.Gate.{Gate}
-use Rattle.hub_state.specs.declared.state.Recipient.{Recipient}
-use Rattle.hub_state.specs.declared.state.Permission.{Permission}
-use Rattle.hub.specs.declared.TheConstants.{PAGE_LIMIT}
-use Rattle.hub.specs.Told.{standing_at, is_served, is_found, is_addressed, view_with}
-use Rattle.redact.proofs.Filtered.{each-from, any-each, any-kept, filter-within, filter-passing, filter-both, filter-agree}
-use Rattle.redact.proofs.Promised.{found-listed}
-use Rattle.hub.proofs.ToldSame.{TellsSame}
-use Rattle.hub.specs.Replies.{page_of, caller_of, if_active, viewed, view_or_nothing, nothing_for_you}
-use Rattle.hub.specs.declared.key.Key.TheVariants.{Digest}
-use Rattle.circle.specs.Sound.{Pairwise}
-use Rattle.circle.specs.Reads.{person_in}
-use Rattle.iodef_tree.proofs.Order.{bytes_eq-true, bytes_eq-refl}
-use Rattle.std.specs.Prelude.{option_map}
-use Rattle.hub.specs.Alike.{HasOtherUnseenIncident}
-use Rattle.hub_state.proofs.Keeping.{not_both, turned, find_left, found_is}
-use Rattle.redact.proofs.InOrder.{In, in_contained}
-use Rattle.hub.proofs.Numbered.{all_found}
-use Rattle.hub.proofs.Standings.{standing_at-is}
-use Rattle.redact.specs.Told.{is_listed, finds, told_of, excerpt_of}
-use Rattle.policy.specs.declared.case.Case.{Case}
 
 abbrev pub other : ℕ → Incident → Bool
 other n i = not (i.naming.number == n)

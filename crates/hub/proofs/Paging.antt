@@ -1,29 +1,14 @@
 -- A page, made of the entries above a number.
-use Rattle.std.proofs.Common.{◌≡◌, ℕ, zero, suc, ◌+◌, ◌-◌, ◌<◌, ◌≤◌, Bool, true, false, List, [], ◌∷◌, ◌++◌, cond, Option, Some, None, length, take, drop, map, refl, sym, ◌∙◌, ap, subst, arith, filter, slice_get, get_or, not, ◌&&◌, append_assoc, string_bytes}
-use Rattle.std.specs.Prelude.{option_map}
-use Rattle.std.specs.List.{AllByRecursion}
-use Rattle.std.specs.Option.{option_map_or}
-use Rattle.std.proofs.Math.Seq.{take-length}
-use Rattle.std.proofs.lemmas.Bool.{cond-true, cond-false, true≢false}
-use Rattle.std.proofs.lemmas.List.{take-append-drop, take-append-le, length-map, map-append, take-map, append-nil, drop_more, drop_all, drop-drop, drop_min, length-take, take_all}
-use Rattle.std.proofs.lemmas.List.Elements.{filter-append}
-use Rattle.std.proofs.lemmas.Option.{slice_get_within}
-use Rattle.circle.specs.Sound.{CountsFrom}
-use Rattle.hub_core.specs.State.{State, incident_number, incident_of}
-use Rattle.hub_core.specs.Sound.{IsSound}
-use Rattle.hub_core.specs.Reads.{case_for, entry_of, incidents_above, entries_after}
-use Rattle.hub_state.specs.declared.state.Incident.{Incident}
-use Rattle.hub_state.specs.declared.reply.Entry.{Entry}
-use Rattle.policy.specs.declared.standing.Standing.{Standing}
-use Rattle.policy.specs.declared.case.Case.{Case}
-use Rattle.redact.specs.Wants.{HasSameWords, meets, meets_by}
-use Rattle.redact.specs.declared.want.Want.{Want}
-use Rattle.hub_core.specs.Documents.{Lines}
-use Rattle.hub.specs.declared.TheConstants.{PAGE_LIMIT}
+use Rattle.std.proofs.Common.{◌≡◌, ℕ, zero, suc, ◌+◌, ◌-◌, ◌<◌, ◌≤◌, Bool, true, false, List, [], ◌∷◌, ◌++◌, cond, Option, Some, None, length, take, drop, map}
+use Rattle.std.proofs.{Common.{refl, sym, ◌∙◌, ap, subst, arith, filter, slice_get, get_or, not, ◌&&◌, append_assoc, string_bytes}, Math.Seq.take-length}
+use Rattle.std.proofs.lemmas.{Bool.{cond-true, cond-false, true≢false}, List.{take-append-drop, take-append-le, length-map, map-append, take-map, append-nil}}
+use Rattle.std.proofs.lemmas.{List.{drop_more, drop_all, drop-drop, drop_min, length-take, take_all, Elements.filter-append}, Option.slice_get_within}
+use Rattle.{std.specs.{List.AllByRecursion, Option.option_map_or, Prelude.option_map}, circle.specs.Sound.CountsFrom, hub_core.specs.Documents.Lines}
+use Rattle.hub_core.specs.{Reads.{case_for, entry_of, incidents_above, entries_after}, Sound.IsSound, State.{State, incident_number, incident_of}}
+use Rattle.{hub_state.specs.declared.{reply.Entry.Entry, state.Incident.Incident}, policy.specs.declared.{case.Case.Case, standing.Standing.Standing}}
+use Rattle.{redact.specs.{Wants.{HasSameWords, meets, meets_by}, declared.want.Want.Want}, hub.proofs.Numbered.{above-numbered, counts-drop, counts-take}}
+use Rattle.hub.{proofs.{Numbered.all_found, ShutOut.shut-tells-nothing}, specs.declared.{TheConstants.PAGE_LIMIT, page_filter.PageFilter.PageFilter}}
 use Rattle.hub.specs.inner.PageFilter.{admits, is_shut_out, passes_filter, number_at_end}
-use Rattle.hub.specs.declared.page_filter.PageFilter.{PageFilter}
-use Rattle.hub.proofs.Numbered.{above-numbered, counts-drop, counts-take, all_found}
-use Rattle.hub.proofs.ShutOut.{shut-tells-nothing}
 
 -- ---- the first so many
 

@@ -1,23 +1,10 @@
 -- An incident that can be passed over without its document.
-use Rattle.std.proofs.Common.{◌≡◌, ℕ, Bool, true, false, ◌&&◌, Option, Some, None, refl, sym, ◌∙◌, ap}
-use Rattle.std.specs.Prelude.{ℤ, option_map}
-use Rattle.std.specs.Option.{option_map_or}
-use Rattle.policy.specs.declared.standing.Standing.{Standing}
-use Rattle.policy.specs.declared.case.Case.{Case}
-use Rattle.redact.specs.Wants.{meets}
-use Rattle.redact.specs.declared.want.Want.{Want}
-use Rattle.circle.specs.declared.directory.Person.{Person}
-use Rattle.hub_core.specs.State.{State, incident_of}
-use Rattle.hub_core.specs.Sound.{IsSound}
-use Rattle.hub_core.specs.Reads.{case_for}
-use Rattle.hub_state.specs.Reads.{case_of, standing_of, met_by_incident, met_for}
-use Rattle.hub_state.specs.declared.state.Incident.{Incident}
-use Rattle.hub_state.proofs.Marked.{met_found}
-use Rattle.hub.specs.Told.{standing_at}
-use Rattle.hub.specs.inner.Asking.{IsThere}
+use Rattle.std.{proofs.Common.{◌≡◌, ℕ, Bool, true, false, ◌&&◌, Option, Some, None, refl, ◌∙◌, ap}, specs.{Option.option_map_or, Prelude.{ℤ, option_map}}}
+use Rattle.{policy.specs.declared.{case.Case.Case, standing.Standing.Standing}, redact.specs.{Wants.meets, declared.want.Want.Want}}
+use Rattle.{circle.specs.declared.directory.Person.Person, hub_core.specs.{Reads.case_for, Sound.IsSound, State.{State, incident_of}}}
+use Rattle.hub_state.{proofs.Marked.met_found, specs.{Reads.{case_of, met_by_incident, met_for}, declared.state.Incident.Incident}}
+use Rattle.hub.{proofs.Standings.standing_of-there, specs.{Told.standing_at, declared.page_filter.PageFilter.PageFilter, inner.Asking.IsThere}}
 use Rattle.hub.specs.inner.PageFilter.{admits, is_wanted, is_wanted_at}
-use Rattle.hub.specs.declared.page_filter.PageFilter.{PageFilter}
-use Rattle.hub.proofs.Standings.{standing_of-there}
 
 module _ (s : State) (now : ℤ) (p : Person) (w : Want) (n : ℕ) where
   -- the incident meets the want for the person, by its document

@@ -1,16 +1,8 @@
 -- A run continues by a step.
 use Rattle.std.proofs.Common.{◌≡◌, inl, inr, ℕ, ◌+◌, ◌<◌, List, [], ◌∷◌, ◌++◌, Option, Some, None, take, length, get_or, refl, sym, subst}
-use Rattle.std.proofs.lemmas.List.{take_more}
-use Rattle.circle.specs.declared.directory.Person.{Person}
-use Rattle.hub_core.specs.State.{State}
-use Rattle.hub_core.specs.Sound.{IsSound}
-use Rattle.hub_state.specs.declared.reply.Reply.{Reply}
-use Rattle.hub_state.specs.declared.request.Request.{Request}
-use Rattle.hub_core.proofs.Kept.{stays_sound}
-use Rattle.hub.specs.Replies.{caller_of}
-use Rattle.hub.specs.Machine.{Asked, IsStep, IsRun, left_by, state_left}
-use Rattle.hub.specs.declared.key.Key.{Key}
-use Rattle.hub.proofs.Served.{caller_org}
+use Rattle.{std.proofs.lemmas.List.take_more, circle.specs.declared.directory.Person.Person, hub_core.{proofs.Kept.stays_sound, specs.Sound.IsSound}}
+use Rattle.{hub_core.specs.State.State, hub_state.specs.declared.{reply.Reply.Reply, request.Request.Request}, hub.proofs.Served.caller_org}
+use Rattle.hub.specs.{Machine.{Asked, IsStep, IsRun, left_by, state_left}, Replies.caller_of, declared.key.Key.Key}
 
 pub left_sound : (s : State) (key : Key) (r : Request) → IsSound s → IsSound (state_left s key r)
 left_sound s key r sound = by_caller (caller_of s key) refl

@@ -1,28 +1,12 @@
 -- A view is made of what is read.
-use Rattle.std.proofs.Common.{◌≡◌, ℕ, ◌+◌, ◌-◌, ◌≤◌, Bool, true, false, ◌==◌, nat_lt, List, [], ◌∷◌, cond, Option, Some, None, take, map, refl, sym, ◌∙◌, ap, arith, filter, find}
-use Rattle.std.specs.Prelude.{ℤ, is_some, if◌then◌else◌, option_map, option_and_then}
-use Rattle.std.proofs.lemmas.Bool.{cond-true, cond-false, ltb-true, ltb-false, eqb-true}
-use Rattle.std.proofs.lemmas.Bool.Decides.{eqb_tells}
-use Rattle.std.proofs.Common.{◌⊎◌, inl, inr}
-use Rattle.iodef_tree.specs.Paths.{located}
-use Rattle.marking.specs.Marks.{first_bad_marking}
-use Rattle.policy.specs.declared.standing.Standing.{Standing}
-use Rattle.policy.specs.declared.case.Case.{Case}
-use Rattle.redact.specs.Told.{Told, excerpt_of}
-use Rattle.redact.specs.Excerpts.{served_of}
-use Rattle.circle.specs.Sound.{CountsFrom}
-use Rattle.circle.specs.declared.directory.Person.{Person}
-use Rattle.hub_core.specs.Documents.{Lines}
-use Rattle.hub_core.specs.State.{State, incident_number, incident_of}
-use Rattle.hub_core.specs.Sound.{IsSound}
-use Rattle.hub_core.specs.Reads.{case_for, entry_of, entries_after}
-use Rattle.hub_state.specs.declared.state.Incident.{Incident}
-use Rattle.hub_state.specs.declared.reply.Entry.{Entry}
-use Rattle.hub_state.proofs.Marked.{IsMarked}
-use Rattle.hub.specs.Told.{standing_at, view_with, view_of}
-use Rattle.hub.specs.inner.PageFilter.{is_shut_out}
-use Rattle.hub.specs.inner.Viewing.{first_being, view_made}
-use Rattle.hub.proofs.ShutOut.{shut-tells-nothing}
+use Rattle.std.proofs.Common.{◌≡◌, ℕ, ◌+◌, ◌-◌, ◌≤◌, Bool, true, false, ◌==◌, nat_lt, List, [], ◌∷◌, cond, Option, Some, None, take, map, refl, sym, ◌∙◌, ap}
+use Rattle.std.proofs.{Common.{arith, filter, find, ◌⊎◌, inl, inr}, lemmas.Bool.{cond-true, cond-false, ltb-true, ltb-false, eqb-true, Decides.eqb_tells}}
+use Rattle.{std.specs.Prelude.{ℤ, is_some, if◌then◌else◌, option_map, option_and_then}, iodef_tree.specs.Paths.located, marking.specs.Marks.first_bad_marking}
+use Rattle.{policy.specs.declared.{case.Case.Case, standing.Standing.Standing}, redact.specs.{Excerpts.served_of, Told.{Told, excerpt_of}}}
+use Rattle.{circle.specs.{Sound.CountsFrom, declared.directory.Person.Person}, hub_core.specs.{Documents.Lines, Reads.{case_for, entry_of, entries_after}}}
+use Rattle.{hub_core.specs.{Sound.IsSound, State.{State, incident_number, incident_of}}, hub_state.{proofs.Marked.IsMarked, specs.declared.reply.Entry.Entry}}
+use Rattle.{hub_state.specs.declared.state.Incident.Incident, hub.{proofs.ShutOut.shut-tells-nothing, specs.Told.{standing_at, view_with, view_of}}}
+use Rattle.hub.specs.inner.{PageFilter.is_shut_out, Viewing.{first_being, view_made}}
 
 -- ---- an incident by its number
 

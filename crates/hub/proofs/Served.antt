@@ -1,46 +1,20 @@
 -- The caller is there, and what a request is answered and leaves.
 use Rattle.std.proofs.Common.{◌≡◌, inl, inr, ℕ, Bool, true, false, not, ◌&&◌, ◌==◌, List, [], ◌∷◌, cond, Option, Some, None, refl, sym, ◌∙◌, ap, subst, find}
-use Rattle.std.specs.Prelude.{ℤ, Result, Ok, Err, option_map, option_and_then}
-use Rattle.std.specs.List.{list_all, AllByRecursion}
-use Rattle.std.specs.Str.{bytes_eq}
-use Rattle.std.proofs.lemmas.Bool.{true≢false}
-use Rattle.circle.specs.Outcomes.{bare}
-use Rattle.circle.specs.Directory.{account_number}
-use Rattle.circle.specs.Refusals as circle
-use Rattle.circle.specs.Refusals.{Ground, first_answer}
-use Rattle.circle.specs.Sound.{IsOrg}
-use Rattle.circle.specs.declared.directory.Account.{Account}
-use Rattle.circle.specs.declared.directory.Person.{Person}
-use Rattle.circle.specs.declared.command.CircleCommand.{CircleCommand}
-use Rattle.circle.specs.declared.command.CircleCommand.TheVariants.{AddOrg, AddPerson, SuspendPerson, AddClient, RemoveClient, AddCommunity, Join, Leave, Link, Unlink, NewGroup, GroupAdd, GroupRemove, GroupActive, Arrange, CancelArrange, Nominate, Unnominate, NewKey}
-use Rattle.circle.specs.declared.refusal.Code.TheVariants.{F1, F2}
-use Rattle.circle.specs.declared.refusal.Refusal.{Refusal}
-use Rattle.hub_core.specs.State.{State, incident_of}
-use Rattle.hub_core.specs.Sound.{IsSound}
-use Rattle.circle.specs.Reads.{person_in}
-use Rattle.hub_core.specs.Refusals.{grounds, refusal_of, state_after, unless_refused}
-use Rattle.hub_core.specs.Aftermath.{changed}
-use Rattle.hub_core.specs.Laws.{is_reading}
-use Rattle.hub_state.specs.declared.state.Incident.{Incident}
-use Rattle.hub_state.specs.declared.reply.Reply.{Reply}
-use Rattle.hub_state.specs.declared.reply.Reply.TheVariants.{Refused}
-use Rattle.hub_state.specs.declared.reply.View.{View as ViewOf}
-use Rattle.hub_state.specs.declared.reply.Sharing.{Sharing as SharingOf}
-use Rattle.hub_state.specs.declared.request.Request.{Request}
-use Rattle.hub_state.specs.declared.request.Request.TheVariants as ask
-use Rattle.hub_state.specs.declared.shelf.ShelfFault.{ShelfFault}
-use Rattle.hub_state.specs.declared.shelf.ShelfFault.TheVariants.{NoMemory, Failed}
-use Rattle.hub_state.proofs.Keeping.{found_each}
-use Rattle.hub.specs.Faults.{code_told, is_failure, tells_failure}
-use Rattle.hub.specs.Told.{shared_at, view_of}
+use Rattle.std.{proofs.lemmas.Bool.true≢false, specs.{List.{list_all, AllByRecursion}, Prelude.{ℤ, Result, Ok, Err, option_map, option_and_then}, Str.bytes_eq}}
+use Rattle.circle.specs.{Directory.account_number, Outcomes.bare, Reads.person_in, Refusals.{Ground, first_answer}, Sound.IsOrg}
+use Rattle.circle.specs.declared.command.CircleCommand.{CircleCommand, TheVariants.{AddOrg, AddPerson, SuspendPerson, AddClient, RemoveClient, AddCommunity}}
+use Rattle.circle.specs.declared.command.CircleCommand.TheVariants.{Join, Leave, Link, Unlink, NewGroup, GroupAdd, GroupRemove, GroupActive, Arrange}
+use Rattle.circle.specs.declared.{command.CircleCommand.TheVariants.{CancelArrange, Nominate, Unnominate, NewKey}, directory.{Account.Account, Person.Person}}
+use Rattle.{circle.specs.declared.refusal.{Code.TheVariants.{F1, F2}, Refusal.Refusal}, hub_core.specs.{Aftermath.changed, Laws.is_reading, Refusals.grounds}}
+use Rattle.hub_core.specs.{Refusals.{refusal_of, state_after, unless_refused}, Shelves.IsKept, Sound.IsSound, State.{State, incident_of}}
+use Rattle.hub_state.{proofs.Keeping.found_each, specs.declared.reply.{Reply.{Reply, TheVariants.Refused}, Sharing.Sharing as SharingOf, View.View as ViewOf}}
+use Rattle.hub_state.specs.declared.{request.Request.Request, shelf.ShelfFault.{ShelfFault, TheVariants.{NoMemory, Failed}}, state.Incident.Incident}
+use Rattle.hub.{proofs.Numbered.all_found, specs.{Faults.{code_told, is_failure, tells_failure}, Machine.{Asked, IsGivenUp, IsStep, left_by}}}
 use Rattle.hub.specs.Replies.{if_active, caller_of, view_or_nothing, sharing_or_nothing, viewed, circle_reply, refused_or, answer_to, reply_by, reply_of}
-use Rattle.hub.specs.Machine.{Asked, IsGivenUp, IsStep, left_by}
-use Rattle.hub_core.specs.Shelves.{IsKept}
+use Rattle.hub.specs.{Serving.{due_to, read_by, is_made, IsDoneAsDue}, Told.{shared_at, view_of}, declared.key.Key.{Key, TheVariants.{Absent, Digest}}}
 use Rattle.hub.specs.inner.Asking.{IsThere}
-use Rattle.hub.specs.Serving.{due_to, read_by, is_made, IsDoneAsDue}
-use Rattle.hub.specs.declared.key.Key.{Key}
-use Rattle.hub.specs.declared.key.Key.TheVariants.{Absent, Digest}
-use Rattle.hub.proofs.Numbered.{all_found}
+use Rattle.circle.specs.Refusals as circle
+use Rattle.hub_state.specs.declared.request.Request.TheVariants as ask
 
 -- ---- the caller
 

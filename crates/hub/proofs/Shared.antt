@@ -1,26 +1,12 @@
 -- How an own report is shared, in two worlds: its rows are the same, or it is nobody's own.
-use Rattle.std.proofs.Common.{◌≡◌, ℕ, Bool, true, false, not, List, [], ◌∷◌, refl, sym, ◌∙◌, ap, subst, ◌==◌}
-use Rattle.std.specs.Prelude.{ℤ, Option, Some, None, option_map}
-use Rattle.std.specs.Option.{option_map_or}
-use Rattle.std.proofs.lemmas.Bool.{eqb-true, eq-eqb}
-use Rattle.policy.specs.declared.gate.Gate.{Gate as CaseGate}
-use Rattle.policy.specs.declared.permission.Permission.{Permission as CasePermission}
-use Rattle.circle.specs.Refusals.{first_answer}
-use Rattle.circle.specs.declared.directory.Person.{Person}
-use Rattle.hub_core.specs.Refusals.{not_for_you}
-use Rattle.hub_core.specs.State.{State, incident_of}
-use Rattle.hub_core.specs.Reads.{its_gates, its_recipients, its_permissions, sharing_for, incident_sharing}
-use Rattle.hub_state.specs.declared.look_ups.IncidentSharing.{IncidentSharing}
-use Rattle.hub_state.specs.declared.state.Incident.{Incident}
-use Rattle.hub_state.specs.declared.request.Target.{Target}
-use Rattle.hub_state.specs.declared.reply.Reply.{Reply}
-use Rattle.hub_state.specs.declared.reply.Reply.TheVariants.{Sharing}
+use Rattle.std.proofs.{Common.{◌≡◌, ℕ, Bool, true, false, not, List, [], ◌∷◌, refl, sym, ◌∙◌, ap, subst, ◌==◌}, lemmas.Bool.{eqb-true, eq-eqb}}
+use Rattle.{std.specs.{Option.option_map_or, Prelude.{ℤ, Option, Some, None, option_map}}, policy.specs.declared.gate.Gate.Gate as CaseGate}
+use Rattle.{policy.specs.declared.permission.Permission.Permission as CasePermission, circle.specs.{Refusals.first_answer, declared.directory.Person.Person}}
+use Rattle.hub_core.specs.{Reads.{its_gates, its_recipients, its_permissions, sharing_for, incident_sharing}, Refusals.not_for_you, State.{State, incident_of}}
+use Rattle.hub_state.{proofs.Keeping.found_is, specs.declared.{look_ups.IncidentSharing.IncidentSharing, reply.Reply.{Reply, TheVariants.Sharing}}}
+use Rattle.{hub_state.specs.declared.{request.Target.Target, state.Incident.Incident}, hub.specs.Laws.{is_own_report, OnlySourcesAreToldSharing}}
+use Rattle.hub.specs.{Replies.{sharing_or_nothing, answer_to, refused_or}, Serving.due_to, Told.{sharing_made, shared_at}}
 use Rattle.hub_state.specs.declared.request.Request.TheVariants as ask
-use Rattle.hub_state.proofs.Keeping.{found_is}
-use Rattle.hub.specs.Laws.{is_own_report, OnlySourcesAreToldSharing}
-use Rattle.hub.specs.Replies.{sharing_or_nothing, answer_to, refused_or}
-use Rattle.hub.specs.Serving.{due_to}
-use Rattle.hub.specs.Told.{sharing_made, shared_at}
 
 -- the reply, by whether the report is own, and by what it is if it is
 abbrev if_own : Bool → Reply → Reply

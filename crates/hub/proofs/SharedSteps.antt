@@ -1,29 +1,15 @@
 -- Over each step between worlds that are alike, a person's communities and how its own reports are shared stay.
-use Rattle.std.proofs.Common.{◌≡◌, ℕ, Bool, true, false, not, List, [], ◌∷◌, refl, sym, ◌∙◌, ap, subst, ◌||◌, ◌==◌, if◌then◌else◌, cond}
-use Rattle.std.specs.Prelude.{ℤ, Option, Some, filter, find, map, option_map}
-use Rattle.std.specs.Option.{option_map_or}
-use Rattle.std.proofs.lemmas.Bool.{eqb-true, true≢false, false_from_ne_true, cond-false, or_parts, not-false}
-use Rattle.iodef_tree.specs.Text.{is_prefix}
-use Rattle.policy.specs.Permissions.{is_before}
-use Rattle.circle.specs.declared.directory.Account.{Account}
-use Rattle.hub_core.specs.Documents.{Lines}
-use Rattle.hub_core.specs.State.{State, incident_of}
-use Rattle.hub_core.specs.Reads.{its_gates, its_permissions, joined_communities}
-use Rattle.hub_state.specs.declared.state.Incident.{Incident}
-use Rattle.hub_state.specs.declared.state.Gate.{Gate}
-use Rattle.hub_state.specs.declared.state.Recipient.{Recipient}
-use Rattle.hub_state.specs.declared.state.Permission.{Permission}
-use Rattle.hub_state.specs.declared.request.Request.TheVariants as ask
-use Rattle.hub_state.proofs.Keeping.{not_both, turned, find_left}
-use Rattle.redact.proofs.Filtered.{filter-within}
-use Rattle.hub.specs.Alike.{with_document, is_own, is_org_or_person, includes_person, staying_recipients, staying_permissions, live_or_own_permissions}
-use Rattle.hub.specs.Alike.{HasOtherPlainLines, HasOtherUnseenIncident, HasOtherRows}
+use Rattle.std.proofs.{Common.{◌≡◌, ℕ, Bool, true, false, not, List, [], ◌∷◌, refl, sym, ◌∙◌, ap, subst, ◌||◌, ◌==◌, if◌then◌else◌, cond}, lemmas.Bool.eqb-true}
+use Rattle.std.{proofs.lemmas.Bool.{true≢false, false_from_ne_true, cond-false, or_parts, not-false}, specs.{Option.option_map_or, Prelude.{ℤ, Option, Some}}}
+use Rattle.{std.specs.Prelude.{filter, find, map, option_map}, iodef_tree.specs.Text.is_prefix, policy.specs.Permissions.is_before}
+use Rattle.{circle.specs.declared.directory.Account.Account, hub_core.specs.{Documents.Lines, Reads.{its_gates, its_permissions, joined_communities}}}
+use Rattle.{hub_core.specs.State.{State, incident_of}, hub_state.{proofs.Keeping.{not_both, turned, find_left}, specs.declared.state.Gate.Gate}}
+use Rattle.{hub_state.specs.declared.state.{Incident.Incident, Permission.Permission, Recipient.Recipient}, redact.proofs.Filtered.filter-within}
+use Rattle.hub.proofs.{OtherDocument.{other_of, redone}, OtherLines.{find-other, of-others}, Shared.{rows-shared, foreign-shared, own-shared}}
+use Rattle.hub.{proofs.ToldSame.TellsShared, specs.Alike.{with_document, is_own, is_org_or_person, includes_person, staying_recipients, staying_permissions}}
+use Rattle.hub.specs.{Alike.{live_or_own_permissions, HasOtherPlainLines, HasOtherUnseenIncident, HasOtherRows}, Serving.due_to}
 use Rattle.hub.specs.inner.Exchanged.{HasExchangedClass}
-use Rattle.hub.specs.Serving.{due_to}
-use Rattle.hub.proofs.ToldSame.{TellsShared}
-use Rattle.hub.proofs.Shared.{rows-shared, foreign-shared, own-shared}
-use Rattle.hub.proofs.OtherDocument.{other_of, redone}
-use Rattle.hub.proofs.OtherLines.{find-other, of-others}
+use Rattle.hub_state.specs.declared.request.Request.TheVariants as ask
 
 -- Rows that pass a test are the same if the rows that pass wider tests are.
 pub kept-in : {X : Type 0} (of keeps keeps' : X → Bool) (xs ys : List X) → filter keeps xs ≡ filter keeps' ys →

@@ -1,16 +1,9 @@
 -- What an explanation shows is what a view serves.
-use Rattle.std.proofs.Common.{◌≡◌, Bool, true, false, Option, Some, None, is_some, refl, sym, subst, IfSome, if◌then◌else◌}
-use Rattle.std.specs.Prelude.{ℤ, Contains, IsSomeAnd, option_map}
-use Rattle.iodef_tree.specs.Paths.{LocatedLine, is_class, located}
-use Rattle.policy.specs.declared.rule.Rule.{Rule}
-use Rattle.redact.specs.Told.{kept_outline, visible_count, excerpt_place, is_listed, told_of, excerpt_of}
-use Rattle.redact.proofs.Promised.{verdicts-served}
-use Rattle.circle.specs.declared.directory.Person.{Person}
-use Rattle.hub_core.specs.State.{State}
-use Rattle.hub_core.specs.Reads.{case_for}
-use Rattle.hub_state.specs.declared.state.Incident.{Incident}
-use Rattle.hub.specs.Laws.{IsExplainedAsServed}
-use Rattle.hub.specs.Told.{standing_at, view_with}
+use Rattle.std.{proofs.Common.{◌≡◌, Bool, true, false, Option, Some, None, is_some, refl, sym, subst, IfSome, if◌then◌else◌}, specs.Prelude.{ℤ, Contains}}
+use Rattle.{std.specs.Prelude.{IsSomeAnd, option_map}, iodef_tree.specs.Paths.{LocatedLine, is_class, located}, policy.specs.declared.rule.Rule.Rule}
+use Rattle.redact.{proofs.Promised.verdicts-served, specs.Told.{kept_outline, visible_count, excerpt_place, is_listed, told_of, excerpt_of}}
+use Rattle.{circle.specs.declared.directory.Person.Person, hub_core.specs.{Reads.case_for, State.State}, hub_state.specs.declared.state.Incident.Incident}
+use Rattle.hub.specs.{Laws.IsExplainedAsServed, Told.{standing_at, view_with}}
 
 and_on : {A B : Type 0} (o : Option A) (f : A → B) (P : A → Type 0) (Q : B → Type 0) → ((a : A) → P a → Q (f a)) → IsSomeAnd o P → IsSomeAnd (option_map f o) Q
 and_on None f P Q on h = h

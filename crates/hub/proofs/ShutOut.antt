@@ -1,16 +1,8 @@
 -- The readers whom a gate at the root shuts out.
-use Rattle.std.proofs.Common.{◌≡◌, Bool, true, false, List, refl, sym, not, ◌&&◌, Contains}
-use Rattle.std.specs.List.{list_any}
-use Rattle.std.proofs.lemmas.Bool.{true≢false}
-use Rattle.std.proofs.lemmas.List.Folds.{Any-from_list_any}
-use Rattle.iodef_tree.specs.Text.{is_root}
-use Rattle.policy.specs.declared.standing.Standing.{Standing}
-use Rattle.policy.specs.declared.case.Case.{Case}
-use Rattle.policy.specs.declared.gate.Gate.{Gate}
-use Rattle.redact.specs.Laws.{TellsNothing}
-use Rattle.redact.proofs.Shut.{root-tells-nothing}
-use Rattle.hub_core.specs.Documents.{Lines}
-use Rattle.hub.specs.inner.PageFilter.{shuts_out, is_shut_out}
+use Rattle.std.proofs.{Common.{◌≡◌, Bool, true, false, List, refl, sym, not, ◌&&◌, Contains}, lemmas.{Bool.true≢false, List.Folds.Any-from_list_any}}
+use Rattle.{std.specs.List.list_any, iodef_tree.specs.Text.is_root, policy.specs.declared.{case.Case.Case, gate.Gate.Gate, standing.Standing.Standing}}
+use Rattle.{redact.{proofs.Shut.root-tells-nothing, specs.Laws.TellsNothing}, hub_core.specs.Documents.Lines, hub.specs.inner.PageFilter.shuts_out}
+use Rattle.hub.specs.inner.PageFilter.{is_shut_out}
 
 not-true : (b : Bool) → not b ≡ true → b ≡ false
 not-true true h = absurd (true≢false (sym h))

@@ -1,14 +1,7 @@
 -- How a person of the state stands to an incident, at a moment.
-use Rattle.std.proofs.Common.{◌≡◌, ℕ, Option, Some, None, refl, sym, ◌∙◌, ap}
-use Rattle.std.specs.Prelude.{ℤ, option_map, option_and_then}
-use Rattle.circle.specs.declared.directory.Person.{Person}
-use Rattle.hub_core.specs.State.{State, incident_of}
-use Rattle.hub_core.specs.Reads.{standing_for, standing_of}
-use Rattle.hub_state.specs.declared.state.Incident.{Incident}
-use Rattle.hub.specs.Told.{standing_at}
-use Rattle.circle.specs.Reads.{person_of}
-use Rattle.hub.specs.inner.Asking.{IsThere}
-use Rattle.hub.specs.inner.Explaining.{standing_between}
+use Rattle.{std.{proofs.Common.{◌≡◌, ℕ, Option, Some, None, refl, sym, ◌∙◌, ap}, specs.Prelude.{ℤ, option_map, option_and_then}}, circle.specs.Reads.person_of}
+use Rattle.{circle.specs.declared.directory.Person.Person, hub_core.specs.{Reads.{standing_for, standing_of}, State.{State, incident_of}}}
+use Rattle.{hub_state.specs.declared.state.Incident.Incident, hub.specs.{Told.standing_at, inner.{Asking.IsThere, Explaining.standing_between}}}
 
 pub standing_at-is : (s : State) (now : ℤ) (p : Person) (i : Incident) → standing_at s now p i ≡ standing_for s now p i
 unfolding standing_at

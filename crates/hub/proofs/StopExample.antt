@@ -1,16 +1,8 @@
 -- What a stop may leave after three requests.
-use Rattle.std.proofs.Common.{◌≡◌, inl, inr, Bool, true, false, List, [], ◌∷◌, Option, Some, refl, sym, ◌∙◌, ap}
-use Rattle.std.specs.Fmt.{digits}
-use Rattle.std.specs.Option.{option_map_or}
-use Rattle.std.proofs.lemmas.Bool.{false≢true, true≢false}
-use Rattle.redact.proofs.InOrder.{contains_in}
-use Rattle.hub_core.specs.State.{State}
-use Rattle.hub_state.specs.declared.state.Permission.{Permission}
-use Rattle.hub.specs.Examples.{MayBeLeftThen, StopsAreComputed, first, three_asked, three_replies, withdrawn, withdrawn_with_key}
-use Rattle.hub.specs.Machine.{IsRun}
-use Rattle.hub.specs.Stops.{Replied}
-use Rattle.hub.specs.inner.InTurn.{MayBeLeftInTurn}
-use Rattle.hub.proofs.Leaving.{in_turn_left, left_in_turn}
+use Rattle.std.proofs.{Common.{◌≡◌, inl, inr, Bool, true, false, List, [], ◌∷◌, Option, Some, refl, sym, ◌∙◌, ap}, lemmas.Bool.{false≢true, true≢false}}
+use Rattle.{std.specs.{Fmt.digits, Option.option_map_or}, hub_core.specs.State.State, hub_state.specs.declared.state.Permission.Permission}
+use Rattle.hub.{proofs.Leaving.{in_turn_left, left_in_turn}, specs.Examples.{StopsAreComputed, first, three_asked, three_replies, withdrawn}}
+use Rattle.hub.specs.{Examples.withdrawn_with_key, Machine.IsRun, inner.InTurn.MayBeLeftInTurn}
 
 abbrev Before : Option State → Type 0
 Before left = left ≡ Some first

@@ -1,15 +1,8 @@
 -- What may be left after a list of requests, and after one request more.
-use Rattle.std.proofs.Common.{◌≡◌, ◌⊎◌, ◌↔◌, inl, inr, ℕ, ◌+◌, ◌<◌, Bool, true, false, List, [], ◌∷◌, ◌++◌, cond, Option, Some, take, length, get_or, refl, sym, ◌∙◌, ap, subst}
-use Rattle.std.specs.Prelude.{IsTrue}
-use Rattle.std.proofs.lemmas.Bool.{true≢false}
-use Rattle.std.proofs.lemmas.List.{take_more}
-use Rattle.hub_core.specs.State.{State}
-use Rattle.hub_state.specs.declared.reply.Reply.{Reply}
-use Rattle.hub.specs.Machine.{Asked, IsGivenUp, IsStep, IsRun, state_left}
-use Rattle.hub.specs.Serving.{is_made}
-use Rattle.hub.specs.Stops.{IsDueChange, content_after, is_change_due}
-use Rattle.hub.specs.inner.InTurn.{MayBeLeftBy, MayBeLeftInTurn}
-use Rattle.hub.proofs.Served.{left_unmade}
+use Rattle.std.proofs.Common.{◌≡◌, ◌⊎◌, ◌↔◌, inl, inr, ℕ, ◌+◌, ◌<◌, Bool, true, false, List, [], ◌∷◌, ◌++◌, cond, Option, Some, take, length, get_or, refl, sym}
+use Rattle.{std.{proofs.{Common.{◌∙◌, ap, subst}, lemmas.{Bool.true≢false, List.take_more}}, specs.Prelude.IsTrue}, hub_core.specs.State.State}
+use Rattle.{hub_state.specs.declared.reply.Reply.Reply, hub.{proofs.Served.left_unmade, specs.Machine.{Asked, IsGivenUp, IsStep, IsRun, state_left}}}
+use Rattle.hub.specs.{Serving.is_made, Stops.{IsDueChange, content_after, is_change_due}, inner.InTurn.{MayBeLeftBy, MayBeLeftInTurn}}
 
 given_up_unmade : (reply : Reply) → IsGivenUp reply → is_made reply ≡ false
 given_up_unmade reply (inl is) = ap is_made is

@@ -1,23 +1,11 @@
 -- What a person learns in two worlds is the same, and so are the replies.
-use Rattle.std.proofs.Common.{◌≡◌, ℕ, Bool, true, false, List, [], ◌∷◌, refl, sym, ◌∙◌, ap, ◌&&◌, if◌then◌else◌}
-use Rattle.std.specs.Prelude.{ℤ, Option, Some, None, Contains}
-use Rattle.std.proofs.lemmas.Bool.{false≢true}
-use Rattle.circle.specs.declared.directory.Person.{Person}
-use Rattle.circle.specs.declared.directory.Account.{Account}
-use Rattle.hub_core.specs.State.{State, incident_of}
-use Rattle.hub_core.specs.Sound.{IsSound}
-use Rattle.hub_core.specs.Reads.{groups_of, joined_communities}
-use Rattle.hub_core.specs.Refusals.{refusal_of}
-use Rattle.hub_state.specs.declared.state.Incident.{Incident}
-use Rattle.hub_state.specs.declared.reply.Reply.TheVariants.{Incidents, Groups, Communities}
-use Rattle.iodef_tree.specs.Text.{Bytes}
-use Rattle.hub_state.specs.declared.request.Request.{Request}
+use Rattle.std.{proofs.{Common.{◌≡◌, ℕ, Bool, true, false, List, [], ◌∷◌, refl, sym, ◌∙◌, ap, ◌&&◌, if◌then◌else◌}, lemmas.Bool.false≢true}, specs.Prelude.ℤ}
+use Rattle.{std.specs.Prelude.{Option, Some, None, Contains}, circle.specs.declared.directory.{Account.Account, Person.Person}, hub_core.specs.Reads.groups_of}
+use Rattle.hub_core.specs.{Reads.joined_communities, Refusals.refusal_of, Sound.IsSound, State.{State, incident_of}}
+use Rattle.hub_state.specs.declared.{reply.Reply.TheVariants.{Incidents, Groups, Communities}, request.Request.Request, state.Incident.Incident}
+use Rattle.{iodef_tree.specs.Text.Bytes, hub.specs.{Alike.{is_told, is_answered_alike, IsAlikeStep, IsChain}, Replies.{caller_of, if_active, page_of, viewed}}}
+use Rattle.hub.specs.{Replies.{refused_or, reply_by, reply_of}, Serving.due_to, Told.{is_served, is_found, is_addressed}, declared.key.Key.TheVariants.Digest}
 use Rattle.hub_state.specs.declared.request.Request.TheVariants as ask
-use Rattle.hub.specs.Told.{is_served, is_found, is_addressed}
-use Rattle.hub.specs.Replies.{caller_of, if_active, page_of, viewed, refused_or, reply_by, reply_of}
-use Rattle.hub.specs.declared.key.Key.TheVariants.{Digest}
-use Rattle.hub.specs.Serving.{due_to}
-use Rattle.hub.specs.Alike.{is_told, is_answered_alike, IsAlikeStep, IsChain}
 
 module _ (now : ℤ) (a : Account) where
   abbrev p : Person

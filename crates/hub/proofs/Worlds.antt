@@ -1,20 +1,11 @@
 -- The worlds of the examples are sound, and steps join them.
-use Rattle.std.proofs.Common.{◌≡◌, ◌==◌, inl, inr, true, false, [], ◌∷◌, ◌++◌, refl, sym, ◌∙◌, ap, arith}
-use Rattle.std.specs.Prelude.{◌≢◌, codes}
-use Rattle.std.specs.Fmt.{digits}
-use Rattle.std.specs.Str.{bytes_eq, chars, is_utf8}
-use Rattle.std.proofs.lemmas.Bool.{true≢false}
-use Rattle.serde_json.proofs.OnLiterals.{serde_json_on_literals}
-use Rattle.iodef_tree.specs.Text.{Bytes, Tokens}
-use Rattle.iodef_tree.specs.Reading.{all_fit, reading}
-use Rattle.marking.specs.Marks.{incident_path}
-use Rattle.redact.proofs.InOrder.{contains_in}
+use Rattle.std.{proofs.{Common.{◌≡◌, ◌==◌, inl, inr, true, false, [], ◌∷◌, ◌++◌, refl, sym, ◌∙◌, ap, arith}, lemmas.Bool.true≢false}, specs.Fmt.digits}
+use Rattle.{std.specs.{Prelude.{◌≢◌, codes}, Str.{bytes_eq, chars, is_utf8}}, serde_json.proofs.OnLiterals.serde_json_on_literals}
+use Rattle.{iodef_tree.specs.{Reading.{all_fit, reading}, Text.{Bytes, Tokens}}, marking.specs.Marks.incident_path, redact.proofs.InOrder.contains_in}
+use Rattle.{circle.specs.Sound.SoundOrgs, hub_core.specs.{Examples.{body, circle as small_circle, incident, lines}, Sound.{IsAccepted, IsSound}}}
+use Rattle.{hub_core.specs.Sound.SoundIncidents, hub.specs.Examples.{StepsJoin, EndsAreAlike, EachIsServed, reader, keyed_circle, two_red, rewritten, one_red}}
+use Rattle.hub.specs.{Examples.{bank_report, first, with_other_words, without_last_event, with_second_incident, with_other_rows}, Told.standing_at}
 use Rattle.circle.specs.Sound as circle
-use Rattle.circle.specs.Sound.{SoundOrgs}
-use Rattle.hub_core.specs.Examples.{body, circle as small_circle, incident, lines}
-use Rattle.hub_core.specs.Sound.{IsAccepted, IsSound, SoundIncidents}
-use Rattle.hub.specs.Told.{standing_at}
-use Rattle.hub.specs.Examples.{StepsJoin, EndsAreAlike, EachIsServed, reader, keyed_circle, two_red, rewritten, one_red, bank_report, first, with_other_words, without_last_event, with_second_incident, with_other_rows}
 
 abbrev event_at : Bytes → Tokens
 event_at n = incident_path ++ codes "EventData" ∷ n ∷ []

@@ -6,7 +6,6 @@ use Rattle.iodef_tree.specs.Paths.{LocatedLine}
 use Rattle.policy.specs.Permissions.{includes, is_before}
 use Rattle.policy.specs.Standing.{stranger}
 use Rattle.policy.specs.declared.permission.Grantee.{Grantee}
-use Rattle.redact.specs.Alike as report
 use Rattle.redact.specs.Alike.{Report, is_within, lines_but, is_hidden_from}
 use Rattle.redact.specs.Told.{withheld_of}
 use Rattle.redact.specs.Withheld.{Withheld}
@@ -20,16 +19,17 @@ use Rattle.hub_core.specs.State.{State, incident_of}
 use Rattle.hub_core.specs.Reads.{case_for}
 use Rattle.hub_core.specs.Sound.{IsSound}
 use Rattle.hub_state.specs.declared.request.Target.{Target}
-use Rattle.hub_state.specs.declared.request.Target.TheVariants as target
 use Rattle.hub_state.specs.declared.state.Incident.{Incident}
 use Rattle.hub_state.specs.declared.state.Gate.{Gate}
 use Rattle.hub_state.specs.declared.state.Recipient.{Recipient}
 use Rattle.hub_state.specs.declared.state.Permission.{Permission}
 use Rattle.hub_state.specs.declared.request.Request.{Request}
-use Rattle.hub_state.specs.declared.request.Request.TheVariants as ask
 use Rattle.hub.specs.Told.{standing_at, is_served}
 use Rattle.hub.specs.Replies.{reply_of}
 use Rattle.hub.specs.declared.key.Key.TheVariants.{Digest}
+use Rattle.redact.specs.Alike as report
+use Rattle.hub_state.specs.declared.request.Target.TheVariants as target
+use Rattle.hub_state.specs.declared.request.Request.TheVariants as ask
 
 -- ---- rows
 

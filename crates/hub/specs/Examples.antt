@@ -5,7 +5,6 @@ use Rattle.iodef_tree.specs.Text.{Bytes}
 use Rattle.iodef_tree.specs.declared.line.Line.{Line}
 use Rattle.marking.specs.Examples.{class_line, text_line, value_line}
 use Rattle.marking.specs.Marks.{incident_path}
-use Rattle.policy.specs.declared.permission.Grantee.TheVariants as grantee
 use Rattle.policy.specs.declared.rule.Rule.TheVariants.{HRed}
 use Rattle.circle.specs.Directory.{Directory}
 use Rattle.circle.specs.Outcomes.{bare}
@@ -18,8 +17,6 @@ use Rattle.hub_core.specs.Examples.{banker, clerk, professor, circle, incident, 
 use Rattle.hub_core.specs.State.{State}
 use Rattle.hub_state.specs.declared.reply.Reply.{Reply}
 use Rattle.hub_state.specs.declared.reply.Reply.TheVariants.{Caller, Done, Refused, View}
-use Rattle.hub_state.specs.declared.request.Request.TheVariants as ask
-use Rattle.hub_state.specs.declared.request.Target.TheVariants as target
 use Rattle.hub_state.specs.declared.state.Incident.{Incident}
 use Rattle.hub_state.specs.declared.state.Permission.{Permission}
 use Rattle.hub.specs.Alike.{HasOtherPlainLines, HasOtherHiddenClass, HasOtherUnseenIncident, HasOtherRows, IsAlike}
@@ -27,6 +24,9 @@ use Rattle.hub.specs.Machine.{Asked}
 use Rattle.hub.specs.Replies.{reply_of}
 use Rattle.hub.specs.Stops.{MayBeLeft}
 use Rattle.hub.specs.declared.key.Key.TheVariants.{Digest}
+use Rattle.policy.specs.declared.permission.Grantee.TheVariants as grantee
+use Rattle.hub_state.specs.declared.request.Request.TheVariants as ask
+use Rattle.hub_state.specs.declared.request.Target.TheVariants as target
 
 -- ---- the circle
 

@@ -23,11 +23,11 @@ use Rattle.hub_state.specs.declared.reply.Sharing.{Sharing as SharingOf}
 use Rattle.hub_state.specs.declared.reply.Reply.{Reply}
 use Rattle.hub_state.specs.declared.reply.Reply.TheVariants.{Done, Numbers, Revision, View, Incidents, Groups, Communities, Sharing, Caller, Trace, Refused}
 use Rattle.hub_state.specs.declared.request.Request.{Request}
-use Rattle.hub_state.specs.declared.request.Request.TheVariants as ask
 use Rattle.hub.specs.declared.TheConstants.{PAGE_LIMIT}
 use Rattle.hub.specs.Told.{is_served, is_found, is_addressed, view_of, shared_at, trace_of}
 use Rattle.hub.specs.declared.key.Key.{Key}
 use Rattle.hub.specs.declared.key.Key.TheVariants.{Absent, Digest}
+use Rattle.hub_state.specs.declared.request.Request.TheVariants as ask
 
 -- ---- the caller
 

@@ -14,7 +14,6 @@ use Rattle.hub_state.specs.declared.facts.Facts.{Facts}
 use Rattle.hub_state.specs.declared.reply.Reply.{Reply}
 use Rattle.hub_state.specs.declared.reply.Reply.TheVariants.{Done, Numbers, Revision, Incidents}
 use Rattle.hub_state.specs.declared.request.Request.{Request}
-use Rattle.hub_state.specs.declared.request.Request.TheVariants as ask
 use Rattle.hub_state.specs.declared.request.Search.{Search}
 use Rattle.hub_state.specs.declared.shelf.ShelfFault.{ShelfFault}
 use Rattle.hub_state.specs.declared.shelf.ShelfFault.TheVariants.{Failed}
@@ -23,6 +22,7 @@ use Rattle.circle.specs.declared.refusal.Refusal.{Refusal}
 use Rattle.hub_state.specs.declared.state.Incident.{Incident}
 use Rattle.hub.specs.Told.{is_found}
 use Rattle.hub.specs.Replies.{page_of, refused_or, answer_to}
+use Rattle.hub_state.specs.declared.request.Request.TheVariants as ask
 
 -- the reply that is due to a person's request
 abbrev pub due_to : State → ℤ → Person → Request → Reply

@@ -1,28 +1,12 @@
 -- Putting or taking a recipient leaves a sound state.
-use Rattle.std.proofs.Common.{◌≡◌, ◌≤◌, ◌==◌, not, List, None, filter, subst, ◌∙◌}
-use Rattle.std.proofs.lemmas.Bool.{ltb-false, not-false}
-use Rattle.circle.specs.Ordered.{put_by}
-use Rattle.circle.specs.declared.directory.Person.{Person}
-use Rattle.circle.proofs.Judged.{passed}
-use Rattle.circle.proofs.Keeping.{each_put, each_left, each_weaker, pairs_left, order_put, none_of}
-use Rattle.hub_state.specs.declared.TheConstants.{RECIPIENT_LIMIT}
-use Rattle.hub_state.specs.Aftermath.{changed}
-use Rattle.hub_core.specs.Refusals.{refusal_of}
-use Rattle.hub_core.specs.Judgement.{grounds_by}
-use Rattle.hub_state.specs.Requests.{is_target}
-use Rattle.hub_state.specs.Facts.{facts_of, recipients_then}
-use Rattle.hub_state.specs.Sound.{IsSound, SoundRecipients}
-use Rattle.hub_state.specs.State.{State, recipient_cmp, recipients_of, is_recipient_being}
+use Rattle.{std.proofs.{Common.{◌≡◌, ◌≤◌, ◌==◌, not, List, None, filter, subst, ◌∙◌}, lemmas.Bool.{ltb-false, not-false}}, circle.proofs.Judged.passed}
+use Rattle.circle.{proofs.Keeping.{each_put, each_left, each_weaker, pairs_left, order_put, none_of}, specs.{Ordered.put_by, declared.directory.Person.Person}}
+use Rattle.hub_state.{proofs.{Keeping.{count_left, at_most, none_taken}, Keys.apart_recipient}, specs.{Aftermath.changed, Facts.{facts_of, recipients_then}}}
+use Rattle.hub_state.specs.{Orders.recipient_total, Requests.is_target, Sound.{IsSound, SoundRecipients}, State.{State, recipient_cmp, recipients_of}}
+use Rattle.hub_state.specs.{State.is_recipient_being, declared.{TheConstants.RECIPIENT_LIMIT, request.{Address.Address, Unaddress.Unaddress}}}
+use Rattle.{hub_state.specs.declared.state.Recipient.Recipient, hub_core.proofs.{Agrees.agrees, Limits.limit_put, Named.{own, is_incident, counted_is}}}
+use Rattle.hub_core.{proofs.Named.target_is, specs.{Judgement.grounds_by, Refusals.refusal_of}}
 use Rattle.hub_state.specs.declared.request.Request.TheVariants as ask
-use Rattle.hub_state.specs.declared.request.Address.{Address}
-use Rattle.hub_state.specs.declared.request.Unaddress.{Unaddress}
-use Rattle.hub_state.specs.declared.state.Recipient.{Recipient}
-use Rattle.hub_state.specs.Orders.{recipient_total}
-use Rattle.hub_core.proofs.Agrees.{agrees}
-use Rattle.hub_state.proofs.Keys.{apart_recipient}
-use Rattle.hub_core.proofs.Named.{own, is_incident, counted_is, target_is}
-use Rattle.hub_core.proofs.Limits.{limit_put}
-use Rattle.hub_state.proofs.Keeping.{count_left, at_most, none_taken}
 
 with_recipients : (s : State) (rows : List Recipient) → IsSound s → SoundRecipients s.directory s.incidents rows → IsSound (record s { recipients = rows })
 with_recipients s rows h new = record { directory = h.directory; incidents = h.incidents; gates = h.gates; recipients = new; permissions = h.permissions }

@@ -1,10 +1,7 @@
 -- Grounds asked in several lists, one after another.
 use Rattle.std.proofs.Common.{◌≡◌, List, [], ◌∷◌, ◌++◌, Bool, true, false, if◌then◌else◌, Option, Some, None, Result, Ok, Err, refl, ◌∙◌}
-use Rattle.circle.specs.Refusals.{Ground, first_answer}
-use Rattle.circle.specs.declared.refusal.Refusal.{Refusal}
-use Rattle.hub_core.specs.inner.Asked.{Asks}
-use Rattle.hub_core.specs.declared.judging.stop.Stop.{Stop}
-use Rattle.hub_core.specs.declared.judging.stop.Stop.TheVariants.{Refused, NoMemory}
+use Rattle.{circle.specs.{Refusals.{Ground, first_answer}, declared.refusal.Refusal.Refusal}, hub_core.specs.declared.judging.stop.Stop.Stop}
+use Rattle.hub_core.specs.{declared.judging.stop.Stop.TheVariants.{Refused, NoMemory}, inner.Asked.Asks}
 
 past : (holds : Bool) (why : Refusal) (one both rest : Option Refusal) → (one ≡ None → both ≡ rest) → (if holds then Some why else one) ≡ None → (if holds then Some why else both) ≡ rest
 past true why one both rest on h = cc

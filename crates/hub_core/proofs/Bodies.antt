@@ -1,34 +1,16 @@
 -- What is known of a body and of the gates asked for if no ground holds.
-use Rattle.std.proofs.Common.{◌≡◌, ℕ, suc, ◌≤◌, ◌==◌, ◌&&◌, ◌||◌, Bool, true, false, if◌then◌else◌, List, [], ◌∷◌, map, Option, Some, None, refl, sym, ap, ◌∙◌, arith}
-use Rattle.std.proofs.lemmas.Bool.{or_parts}
-use Rattle.std.specs.Prelude.{is_some, find, option_map, unwrap_or, Result, Ok, Err, Contains, decimal}
-use Rattle.std.specs.List.{list_any, list_all, filter_map, cons_option}
-use Rattle.std.specs.Option.{option_or}
-use Rattle.std.specs.Str.{bytes_eq}
-use Rattle.std.proofs.lemmas.List.Elements.{All-contains_itself, recursion_from_All}
-use Rattle.iodef_tree.specs.Text.{Bytes, Tokens, is_root}
-use Rattle.iodef_tree.specs.Json.{incident_id}
-use Rattle.iodef_tree.specs.Paths.{located}
-use Rattle.iodef_tree.specs.Reading.{reading}
-use Rattle.iodef_tree.specs.declared.fault.ReadFault.{ReadFault}
-use Rattle.iodef_tree.proofs.Identified.{IsIdentified, reported}
-use Rattle.marking.specs.Marks.{first_bad_marking}
+use Rattle.std.proofs.Common.{◌≡◌, ℕ, suc, ◌≤◌, ◌==◌, ◌&&◌, ◌||◌, Bool, true, false, if◌then◌else◌, List, [], ◌∷◌, map, Option, Some, None, refl, sym, ap, ◌∙◌}
+use Rattle.std.{proofs.{Common.arith, lemmas.{Bool.or_parts, List.Elements.{All-contains_itself, recursion_from_All}}}, specs.List.{list_any, list_all}}
+use Rattle.std.specs.{List.{filter_map, cons_option}, Option.option_or, Prelude.{is_some, find, option_map, unwrap_or, Result, Ok, Err, Contains, decimal}}
+use Rattle.{std.specs.Str.bytes_eq, iodef_tree.{proofs.Identified.{IsIdentified, reported}, specs.{Json.incident_id, Paths.located, Reading.reading}}}
+use Rattle.{iodef_tree.specs.{Text.{Bytes, Tokens, is_root}, declared.fault.ReadFault.ReadFault}, marking.specs.Marks.first_bad_marking}
+use Rattle.{circle.{proofs.Keeping.{each_weaker, none_of}, specs.{Sound.Each, declared.directory.Person.Person}}, hub_state.proofs.Keeping.all_each}
+use Rattle.hub_state.specs.Documents.{Lines, documents_of, documents_in, fault_of, fault_in, ident_of, is_class_in, at_pointer, bad_marking, bad_marking_from}
+use Rattle.hub_state.specs.{Documents.marking_told, Facts.{first_number, posted_in, length_as_u32}, Requests.has_joined_all, State.{State, incident_named}}
+use Rattle.hub_state.specs.declared.{TheConstants.GATE_LIMIT, request.{Distribution.Distribution, WantedGate.WantedGate}, state.Incident.Incident}
+use Rattle.hub_core.{proofs.{Named.all_there, Posted.{Wishes, IsFit, IsNew, StandAtClasses}}, specs.Refusals.{is_bad_gate, is_bad_pointer, is_bad_level}}
+use Rattle.hub_core.specs.Refusals.{is_bad_group, are_bad_gates, stands_twice, stand_at_classes}
 use Rattle.circle.specs.Sound as circle
-use Rattle.circle.specs.Sound.{Each}
-use Rattle.circle.specs.declared.directory.Person.{Person}
-use Rattle.circle.proofs.Keeping.{each_weaker, none_of}
-use Rattle.hub_state.specs.declared.TheConstants.{GATE_LIMIT}
-use Rattle.hub_state.specs.Documents.{Lines, documents_of, documents_in, fault_of, fault_in, ident_of, is_class_in, at_pointer, bad_marking, bad_marking_from, marking_told}
-use Rattle.hub_state.specs.Requests.{has_joined_all}
-use Rattle.hub_core.specs.Refusals.{is_bad_gate, is_bad_pointer, is_bad_level, is_bad_group, are_bad_gates, stands_twice, stand_at_classes}
-use Rattle.hub_state.specs.Facts.{first_number, posted_in, length_as_u32}
-use Rattle.hub_state.specs.State.{State, incident_named}
-use Rattle.hub_state.specs.declared.request.Distribution.{Distribution}
-use Rattle.hub_state.specs.declared.request.WantedGate.{WantedGate}
-use Rattle.hub_state.specs.declared.state.Incident.{Incident}
-use Rattle.hub_core.proofs.Named.{all_there}
-use Rattle.hub_core.proofs.Posted.{Wishes, IsFit, IsNew, StandAtClasses}
-use Rattle.hub_state.proofs.Keeping.{all_each}
 
 -- ---- the documents
 

@@ -1,62 +1,30 @@
 -- The grounds by the facts of a state are the grounds by its rows.
-use Rattle.std.proofs.Common.{◌≡◌, ℕ, ◌+◌, ◌<◌, ◌==◌, ◌&&◌, ◌||◌, Bool, true, false, not, if◌then◌else◌, List, [], ◌∷◌, ◌++◌, map, length, filter, Option, Some, None, refl, sym, ap, ◌∙◌, arith}
-use Rattle.std.proofs.Math.Bool.{and-true}
-use Rattle.std.proofs.lemmas.Bool.{true≢false, eq-eqb, eqb-true}
-use Rattle.std.proofs.lemmas.Bool.Decides.{nat_tests}
-use Rattle.std.proofs.lemmas.List.Folds.{list_all-append}
-use Rattle.std.proofs.lemmas.List.Sums.{length-filter}
-use Rattle.std.specs.Prelude.{ℤ, count_by, decimal, find, flat_map, is_none, is_some, min, nat_le, nat_lt, option_map}
-use Rattle.std.specs.List.{list_all, filter_map, cons_option}
-use Rattle.std.specs.Option.{option_map_or}
-use Rattle.std.specs.Str.{bytes_eq}
-use Rattle.std.specs.declared.cmp.Ordering.{Ordering}
-use Rattle.iodef_tree.specs.Text.{Bytes, Tokens, is_root, same_path}
-use Rattle.iodef_tree.specs.Pointer.{pointer_tokens}
-use Rattle.policy.specs.declared.permission.Grantee.{Grantee}
+use Rattle.std.proofs.Common.{◌≡◌, ℕ, ◌+◌, ◌<◌, ◌==◌, ◌&&◌, ◌||◌, Bool, true, false, not, if◌then◌else◌, List, [], ◌∷◌, ◌++◌, map, length, filter, Option, Some}
+use Rattle.std.proofs.{Common.{None, refl, sym, ap, ◌∙◌, arith}, Math.Bool.and-true, lemmas.Bool.{true≢false, eq-eqb, Decides.nat_tests}}
+use Rattle.std.{proofs.lemmas.List.{Folds.list_all-append, Sums.length-filter}, specs.{List.{list_all, filter_map, cons_option}, Option.option_map_or}}
+use Rattle.std.specs.{Prelude.{ℤ, count_by, decimal, find, flat_map, is_none, is_some, min, nat_le, nat_lt, option_map}, Str.bytes_eq}
+use Rattle.{std.specs.declared.cmp.Ordering.Ordering, iodef_tree.specs.{Pointer.pointer_tokens, Text.{Bytes, Tokens, is_root, same_path}}}
+use Rattle.{policy.specs.declared.permission.Grantee.Grantee, redact.proofs.Counts.count_by-cons, circle.specs.{Ordered.put_by, Reads.person_in}}
+use Rattle.circle.specs.{Refusals.{Ground, first_answer, refuse, unknown_unless, already, not_so_unless}, declared.directory.{Account.Account, Person.Person}}
+use Rattle.{circle.specs.declared.refusal.Code.TheVariants.{L1, S1, S3}, hub_state.proofs.Counted.{any_same, at_same, count_agree, count_filter}}
+use Rattle.hub_state.{proofs.{Indexing.and_and, Keeping.count_put}, specs.{Aftermath.{changed, put_gate, put_permission}, Documents.{Lines, documents_in}}}
+use Rattle.hub_state.specs.{Documents.{ident_of, is_class_in, at_pointer}, Edits.with_edits, Facts.{facts_of, first_number, posted_in, length_as_u32, counted}}
+use Rattle.hub_state.specs.{Facts.{gates_then, recipients_then, permissions_then}, Requests.{incident_facts, is_own_community, is_own_group, has_joined_all}}
+use Rattle.hub_state.specs.{Requests.{is_target, is_grantee, is_active}, State.{State, gate_cmp, recipient_cmp, permission_cmp, gate_with, permission_with}}
+use Rattle.hub_state.specs.State.{incident_of, incident_named, is_gate_at, is_recipient_being, is_permission_being, same_group, has_gate, class_gates}
+use Rattle.hub_state.specs.{State.{recipients_of, permissions_of}, declared.TheConstants.{REVISION_LIMIT, GATE_LIMIT, RECIPIENT_LIMIT, PERMISSION_LIMIT}}
+use Rattle.hub_state.specs.declared.{edit.Edit.TheVariants.TakeGate, facts.IncidentFacts.IncidentFacts, request.{Address.Address, Distribution.Distribution}}
+use Rattle.hub_state.specs.declared.request.{Explain.Explain, Grant.Grant, Post.Post, Redistribute.Redistribute, Replace.Replace, Target.Target}
+use Rattle.hub_state.specs.declared.{request.{Unaddress.Unaddress, WantedGate.WantedGate, Withdraw.Withdraw}, state.{Gate.Gate, GateKey.GateKey}}
+use Rattle.hub_state.specs.declared.state.{Incident.Incident, Permission.Permission, PermissionKey.PermissionKey, Recipient.Recipient}
+use Rattle.hub_core.{proofs.Named.{map_or_map, of_document}, specs.Judgement.{grounds_by, other_revision, next_revision, unless_own, keep_ident}}
+use Rattle.hub_core.specs.Refusals.{grounds, because, not_for_you, no_class_unless, over, over_at, other_than, given, first_of, numbers_under, holds_of, row_of}
+use Rattle.hub_core.specs.Refusals.{unless_ours, unless_joined, is_in_group, is_in_community, groups_given, is_recipient_there, is_grantee_there}
+use Rattle.hub_core.specs.Refusals.{is_addressed_to, is_granted_at, stands_gate, gates_with, recipients_with, permissions_with}
 use Rattle.policy.specs.declared.permission.Grantee.TheVariants as grantee
-use Rattle.redact.proofs.Counts.{count_by-cons}
-use Rattle.circle.specs.Ordered.{put_by}
-use Rattle.circle.specs.Refusals.{Ground, first_answer, refuse, unknown_unless, already, not_so_unless}
-use Rattle.circle.specs.Reads.{person_in}
-use Rattle.circle.specs.declared.directory.Account.{Account}
-use Rattle.circle.specs.declared.directory.Person.{Person}
-use Rattle.circle.specs.declared.refusal.Code.TheVariants.{L1, S1, S3}
-use Rattle.hub_state.specs.declared.TheConstants.{REVISION_LIMIT, GATE_LIMIT, RECIPIENT_LIMIT, PERMISSION_LIMIT}
-use Rattle.hub_state.specs.Aftermath.{changed, edits_of, next_row, put_gate, put_gates, put_next, put_permission, put_revised, put_revision}
-use Rattle.hub_state.specs.Documents.{Lines, documents_in, ident_of, is_class_in, at_pointer}
-use Rattle.hub_state.specs.Edits.{with_edits}
-use Rattle.hub_state.specs.Facts.{facts_of, first_number, posted_in, length_as_u32, counted, gates_then, recipients_then, permissions_then}
-use Rattle.hub_core.specs.Judgement.{grounds_by, other_revision, next_revision, unless_own, keep_ident}
 use Rattle.hub_core.specs.Refusals as rows
-use Rattle.hub_core.specs.Refusals.{grounds, because, not_for_you, no_class_unless, over, over_at, other_than, given, first_of, numbers_under, holds_of, row_of, unless_ours, unless_joined, is_in_group, is_in_community, groups_given, is_recipient_there, is_grantee_there, is_addressed_to, is_granted_at, stands_gate, gates_with, recipients_with, permissions_with}
-use Rattle.hub_state.specs.Requests.{incident_facts, is_own_community, is_own_group, has_joined_all, is_target, is_grantee, is_active}
-use Rattle.hub_state.specs.State.{State, gate_cmp, recipient_cmp, permission_cmp, gate_with, permission_with, incident_of, incident_named, is_gate_at, is_recipient_being, is_permission_being, same_group, has_gate, class_gates, recipients_of, permissions_of}
-use Rattle.hub_state.specs.declared.edit.Edit.{Edit}
-use Rattle.hub_state.specs.declared.edit.Edit.TheVariants.{PutIncident, TakeGate, TakeIncident, TakePolicy}
-use Rattle.hub_state.specs.declared.facts.IncidentFacts.{IncidentFacts}
-use Rattle.hub_state.specs.declared.request.Address.{Address}
-use Rattle.hub_state.specs.declared.request.Distribution.{Distribution}
-use Rattle.hub_state.specs.declared.request.Explain.{Explain}
-use Rattle.hub_state.specs.declared.request.Grant.{Grant}
-use Rattle.hub_state.specs.declared.request.Post.{Post}
-use Rattle.hub_state.specs.declared.request.Redistribute.{Redistribute}
-use Rattle.hub_state.specs.declared.request.Replace.{Replace}
 use Rattle.hub_state.specs.declared.request.Request.TheVariants as ask
-use Rattle.hub_state.specs.declared.request.Target.{Target}
 use Rattle.hub_state.specs.declared.request.Target.TheVariants as target
-use Rattle.hub_state.specs.declared.request.Unaddress.{Unaddress}
-use Rattle.hub_state.specs.declared.request.WantedGate.{WantedGate}
-use Rattle.hub_state.specs.declared.request.Withdraw.{Withdraw}
-use Rattle.hub_state.specs.declared.state.Gate.{Gate}
-use Rattle.hub_state.specs.declared.state.GateKey.{GateKey}
-use Rattle.hub_state.specs.declared.state.Incident.{Incident}
-use Rattle.hub_state.specs.declared.state.Permission.{Permission}
-use Rattle.hub_state.specs.declared.state.PermissionKey.{PermissionKey}
-use Rattle.hub_state.specs.declared.state.Recipient.{Recipient}
-use Rattle.hub_state.proofs.Counted.{any_same, at_same, count_agree, count_filter}
-use Rattle.hub_state.proofs.Indexing.{and_and}
-use Rattle.hub_state.proofs.Keeping.{count_put, found_is}
-use Rattle.hub_core.proofs.Named.{map_or_map, of_document}
 pub use Rattle.hub_state.proofs.Then.{replace_edits}
 
 -- ---- grounds one by one

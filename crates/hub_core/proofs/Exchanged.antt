@@ -1,30 +1,16 @@
 -- A Replace leaves a sound state.
-use Rattle.std.proofs.Common.{◌≡◌, ℕ, ◌+◌, ◌≤◌, ◌<◌, ◌==◌, ◌&&◌, ◌||◌, Bool, true, false, not, if◌then◌else◌, List, [], ◌∷◌, map, filter, Option, Some, None, refl, sym, ap, ◌∙◌, subst, arith}
-use Rattle.std.proofs.lemmas.Bool.{and_parts, eq-eqb, eqb-true, not-true, not_from_false}
-use Rattle.std.specs.Prelude.{count_by, find}
-use Rattle.std.specs.Option.{option_map_or}
-use Rattle.std.specs.Ordering.{is_lt, nat_cmp}
-use Rattle.std.proofs.lemmas.Bool.Decides.{nat_tests}
-use Rattle.iodef_tree.specs.Text.{Bytes, Tokens, is_root}
-use Rattle.iodef_tree.specs.Json.{incident_id}
-use Rattle.circle.specs.Ordered.{put_by, by_number}
-use Rattle.circle.specs.Sound.{Each, CountsFrom, IsOrg}
-use Rattle.circle.specs.Directory.{Directory}
-use Rattle.circle.proofs.Keeping.{each_put, each_left, each_weaker, each_map, pairs_left, numbered_map, differ_map, names_map}
-use Rattle.circle.proofs.Kept.{same_when}
-use Rattle.hub_state.specs.declared.TheConstants.{INCIDENT_LIMIT, REVISION_LIMIT, GATE_LIMIT, RECIPIENT_LIMIT, PERMISSION_LIMIT}
-use Rattle.hub_state.specs.Requests.{incident_facts}
-use Rattle.hub_state.specs.Aftermath.{next_row}
-use Rattle.hub_state.specs.Documents.{Lines, is_class_in}
-use Rattle.hub_state.specs.Sound.{IsSound, SoundIncidents, SoundRecipients, SoundPermissions, IsAccepted, IsIncident, IsCommunityIfAny}
-use Rattle.hub_state.specs.State.{State, incident_number, incident_in, incident_of, root_gates, class_gates, recipients_of, permissions_of}
-use Rattle.hub_state.specs.declared.request.Distribution.{Distribution}
-use Rattle.hub_state.specs.declared.state.Incident.{Incident}
-use Rattle.hub_state.specs.declared.state.Gate.{Gate}
-use Rattle.hub_state.specs.declared.state.Permission.{Permission}
-use Rattle.hub_core.proofs.Gated.{IsBeside, put_all, given}
+use Rattle.std.proofs.Common.{◌≡◌, ℕ, ◌+◌, ◌≤◌, ◌<◌, ◌==◌, ◌&&◌, ◌||◌, Bool, true, false, not, if◌then◌else◌, List, [], ◌∷◌, map, filter, Option, Some, None}
+use Rattle.std.proofs.{Common.{refl, sym, ap, ◌∙◌, subst, arith}, lemmas.Bool.{and_parts, eq-eqb, eqb-true, not-true, not_from_false, Decides.nat_tests}}
+use Rattle.{std.specs.{Option.option_map_or, Ordering.{is_lt, nat_cmp}, Prelude.{count_by, find}}, iodef_tree.specs.{Json.incident_id, Text.{Bytes, Tokens}}}
+use Rattle.{iodef_tree.specs.Text.is_root, circle.proofs.Keeping.{each_put, each_left, each_weaker, each_map, pairs_left, numbered_map, differ_map, names_map}}
+use Rattle.circle.{proofs.Kept.same_when, specs.{Directory.Directory, Ordered.{put_by, by_number}, Sound.{Each, CountsFrom, IsOrg}}}
+use Rattle.hub_state.proofs.Keeping.{never, numbers_above, not_both, turned, found_each, find_put, find_new, find_left, each_passed, each_passes, count_kept}
+use Rattle.hub_state.{proofs.Keeping.{count_left, at_most}, specs.{Aftermath.next_row, Documents.{Lines, is_class_in}, Requests.incident_facts, Sound.IsSound}}
+use Rattle.hub_state.specs.{Sound.{SoundIncidents, SoundRecipients, SoundPermissions, IsAccepted, IsIncident, IsCommunityIfAny}, State.{State, incident_number}}
+use Rattle.hub_state.specs.{State.{incident_in, incident_of, root_gates, class_gates, recipients_of, permissions_of}, declared.TheConstants.INCIDENT_LIMIT}
+use Rattle.hub_state.specs.declared.{TheConstants.{REVISION_LIMIT, GATE_LIMIT, RECIPIENT_LIMIT, PERMISSION_LIMIT}, request.Distribution.Distribution}
+use Rattle.{hub_state.specs.declared.state.{Gate.Gate, Incident.Incident, Permission.Permission}, hub_core.proofs.Gated.{IsBeside, put_all, given}}
 use Rattle.hub_core.proofs.Posted.{Wishes, StandAtClasses, wanted_at}
-use Rattle.hub_state.proofs.Keeping.{never, numbers_above, not_both, turned, found_each, find_put, find_new, find_left, each_passed, each_passes, count_kept, count_left, at_most}
 
 -- ---- a row taken out and put back is exchanged
 

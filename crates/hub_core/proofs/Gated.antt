@@ -1,32 +1,14 @@
 -- The gates of a new or exchanged incident: the one at its root, and those of the request.
-use Rattle.std.proofs.Common.{◌≡◌, ℕ, ◌+◌, ◌≤◌, ◌==◌, ◌&&◌, ◌||◌, Bool, true, false, not, List, [], ◌∷◌, ◌++◌, length, map, Option, Some, None, refl, sym, ap, ◌∙◌, subst, arith}
-use Rattle.std.proofs.lemmas.Bool.{and_from, and_left, and_right, eqb-true, or_parts, or_right}
-use Rattle.std.specs.List.{list_any, flat_map}
-use Rattle.std.specs.Option.{option_map_or}
-use Rattle.std.specs.Str.{bytes_eq}
-use Rattle.std.specs.declared.cmp.Ordering.TheVariants.{Less}
-use Rattle.iodef_tree.specs.Text.{Bytes, Tokens, is_root, same_path}
-use Rattle.iodef_tree.specs.Pointer.{pointer_text, pointer_tokens}
-use Rattle.iodef_tree.proofs.Inverse.{pointer_text-pointer_tokens}
-use Rattle.circle.specs.Ordered.{put_by}
-use Rattle.circle.specs.Sound.{Each, Pairwise}
-use Rattle.circle.specs.declared.directory.Group.{Group}
-use Rattle.circle.proofs.Keeping.{each_put, each_weaker, order_put}
-use Rattle.hub_state.specs.declared.TheConstants.{GATE_LIMIT}
-use Rattle.hub_state.specs.Aftermath.{put_gate, put_gates}
-use Rattle.hub_state.specs.Documents.{at_pointer, made_at, is_class_in}
-use Rattle.hub_state.specs.Edits.{with_edits}
+use Rattle.std.proofs.Common.{◌≡◌, ℕ, ◌+◌, ◌≤◌, ◌==◌, ◌&&◌, ◌||◌, Bool, true, false, not, List, [], ◌∷◌, length, map, Option, Some, None, refl, sym, ap, ◌∙◌}
+use Rattle.std.{proofs.{Common.{subst, arith}, lemmas.Bool.{and_from, and_left, and_right, eqb-true, or_parts, or_right}}, specs.List.{list_any, flat_map}}
+use Rattle.{std.specs.{Option.option_map_or, Str.bytes_eq, declared.cmp.Ordering.TheVariants.Less}, iodef_tree.proofs.Inverse.pointer_text-pointer_tokens}
+use Rattle.{iodef_tree.specs.{Pointer.{pointer_text, pointer_tokens}, Text.{Bytes, Tokens, is_root, same_path}}, circle.proofs.Keeping.{each_put, each_weaker}}
+use Rattle.{circle.{proofs.Keeping.order_put, specs.{Ordered.put_by, Sound.{Each, Pairwise}, declared.directory.Group.Group}}, hub_state.proofs.Keeping.never}
+use Rattle.hub_state.{proofs.{Keeping.{count_more, count_same, count_none, count_next, each_both}, Keys.{apart_gate, apart_text}}, specs.Aftermath.put_gate}
+use Rattle.hub_state.specs.{Aftermath.put_gates, Documents.{at_pointer, made_at, is_class_in}, Edits.with_edits, Orders.gate_total, Sound.SoundGates}
+use Rattle.hub_state.specs.{Sound.IsGroupIfAny, State.{State, gate_cmp, incident_in, is_class_of, is_place_of, root_gates, class_gates}}
+use Rattle.hub_state.specs.declared.{TheConstants.GATE_LIMIT, request.{Distribution.Distribution, WantedGate.WantedGate}, state.{Gate.Gate, Incident.Incident}}
 use Rattle.hub_core.specs.Refusals.{stands_twice}
-use Rattle.hub_state.specs.Sound.{SoundGates, IsGroupIfAny}
-use Rattle.hub_state.specs.State.{State, gate_cmp, incident_in, is_class_of, is_place_of, root_gates, class_gates}
-use Rattle.hub_state.specs.declared.edit.Edit.{Edit}
-use Rattle.hub_state.specs.declared.request.Distribution.{Distribution}
-use Rattle.hub_state.specs.declared.request.WantedGate.{WantedGate}
-use Rattle.hub_state.specs.declared.state.Gate.{Gate}
-use Rattle.hub_state.specs.declared.state.Incident.{Incident}
-use Rattle.hub_state.specs.Orders.{gate_total}
-use Rattle.hub_state.proofs.Keys.{apart_gate, apart_text}
-use Rattle.hub_state.proofs.Keeping.{never, count_more, count_same, count_none, count_next, each_both}
 pub use Rattle.hub_state.proofs.Then.{after_append}
 
 -- ---- the gates after the edits

@@ -1,38 +1,16 @@
 -- Putting or taking a permission leaves a sound state.
-use Rattle.std.proofs.Common.{◌≡◌, ℕ, ◌≤◌, ◌==◌, Bool, not, List, [], ◌∷◌, filter, Option, Some, None, true, false, subst, sym, ◌∙◌}
-use Rattle.hub_state.specs.declared.state.Incident.{Incident}
-use Rattle.std.specs.Prelude.{ℤ, option_map}
-use Rattle.std.proofs.lemmas.Bool.{ltb-false, not-false, not-true}
-use Rattle.std.specs.Option.{option_map_or}
-use Rattle.iodef_tree.specs.Text.{Tokens}
-use Rattle.iodef_tree.specs.Pointer.{pointer_tokens}
-use Rattle.policy.specs.declared.permission.Grantee.{Grantee}
-use Rattle.circle.specs.Sound.{Each}
-use Rattle.circle.specs.declared.directory.Person.{Person}
-use Rattle.circle.proofs.Judged.{passed}
-use Rattle.circle.proofs.Keeping.{each_put, each_left, each_weaker, pairs_left, order_put}
-use Rattle.hub_state.specs.declared.TheConstants.{PERMISSION_LIMIT}
-use Rattle.hub_state.specs.Aftermath.{changed, put_permission}
-use Rattle.hub_state.specs.Documents.{at_pointer, is_class_in}
-use Rattle.hub_state.specs.Edits.{with_edits}
+use Rattle.std.proofs.{Common.{◌≡◌, ℕ, ◌≤◌, ◌==◌, Bool, not, List, [], ◌∷◌, filter, Option, Some, None, true, false, subst, sym, ◌∙◌}, lemmas.Bool.ltb-false}
+use Rattle.{std.{proofs.lemmas.Bool.{not-false, not-true}, specs.{Option.option_map_or, Prelude.{ℤ, option_map}}}, hub_state.proofs.Keeping.count_left}
+use Rattle.hub_state.{proofs.{Keeping.{at_most, each_passes}, Keys.apart_permission}, specs.{Aftermath.{changed, put_permission}, Documents.at_pointer}}
+use Rattle.hub_state.specs.{Documents.is_class_in, Edits.with_edits, Facts.{facts_of, permissions_then}, Orders.permission_total, Requests.is_grantee}
+use Rattle.hub_state.specs.{Sound.{IsSound, SoundPermissions, IsGrantee}, State.{State, permission_cmp, permission_with, permissions_of, is_permission_being}}
+use Rattle.hub_state.specs.{State.{is_class_of, incident_of}, declared.{TheConstants.PERMISSION_LIMIT, edit.Edit.TheVariants.TakePermission}}
+use Rattle.hub_state.specs.declared.{request.{Grant.Grant, Withdraw.Withdraw}, state.{Incident.Incident, Permission.Permission, PermissionKey.PermissionKey}}
+use Rattle.{iodef_tree.specs.{Pointer.pointer_tokens, Text.Tokens}, policy.specs.declared.permission.Grantee.Grantee, circle.proofs.Judged.passed}
+use Rattle.circle.{proofs.Keeping.{each_put, each_left, each_weaker, pairs_left, order_put}, specs.{Sound.Each, declared.directory.Person.Person}}
+use Rattle.hub_core.{proofs.{Agrees.agrees, Limits.limit_put, Named.{own, counted_is, grantee_is, of_document}}, specs.Judgement.{grounds_by, is_class_at}}
 use Rattle.hub_core.specs.Refusals.{refusal_of}
-use Rattle.hub_core.specs.Judgement.{grounds_by, is_class_at}
-use Rattle.hub_state.specs.Requests.{is_grantee}
-use Rattle.hub_state.specs.Facts.{facts_of, permissions_then}
-use Rattle.hub_state.specs.Sound.{IsSound, SoundPermissions, IsGrantee}
-use Rattle.hub_state.specs.State.{State, permission_cmp, permission_with, permissions_of, is_permission_being, is_class_of, incident_of}
-use Rattle.hub_state.specs.declared.edit.Edit.TheVariants.{TakePermission}
-use Rattle.hub_state.specs.declared.request.Grant.{Grant}
 use Rattle.hub_state.specs.declared.request.Request.TheVariants as ask
-use Rattle.hub_state.specs.declared.request.Withdraw.{Withdraw}
-use Rattle.hub_state.specs.declared.state.Permission.{Permission}
-use Rattle.hub_state.specs.declared.state.PermissionKey.{PermissionKey}
-use Rattle.hub_state.specs.Orders.{permission_total}
-use Rattle.hub_core.proofs.Agrees.{agrees}
-use Rattle.hub_state.proofs.Keys.{apart_permission}
-use Rattle.hub_core.proofs.Named.{own, counted_is, grantee_is, of_document}
-use Rattle.hub_core.proofs.Limits.{limit_put}
-use Rattle.hub_state.proofs.Keeping.{count_left, at_most, each_passes}
 
 with_permissions : (s : State) (rows : List Permission) → IsSound s → SoundPermissions s.directory s.incidents rows → IsSound (record s { permissions = rows })
 with_permissions s rows h new = record { directory = h.directory; incidents = h.incidents; gates = h.gates; recipients = h.recipients; permissions = new }

@@ -1,26 +1,15 @@
 -- A change of the directory leaves a sound state.
-use Rattle.std.proofs.Common.{◌≡◌, ℕ, Option, Some, None, sym, subst}
-use Rattle.policy.specs.declared.permission.Grantee.{Grantee}
+use Rattle.{std.proofs.Common.{◌≡◌, ℕ, Option, Some, None, sym, subst}, policy.specs.declared.permission.Grantee.Grantee, circle.proofs.Growth.grows}
+use Rattle.circle.{proofs.Keeping.each_weaker, specs.{Directory.Directory, Growth.Grows, Sound.IsOrg, declared.command.CircleCommand.CircleCommand}}
+use Rattle.{circle.specs.declared.{command.Edit.Edit as CircleEdit, directory.Person.Person}, hub_state.specs.{Aftermath.changed, Sound.{IsSound, IsTarget}}}
+use Rattle.hub_state.specs.{Sound.{IsGrantee, IsCommunityIfAny, IsGroupIfAny}, State.State, declared.request.Target.Target}
+use Rattle.hub_core.{proofs.Commands.rows_make, specs.Refusals.refusal_of}
 use Rattle.policy.specs.declared.permission.Grantee.TheVariants as grantee
 use Rattle.circle.specs.Aftermath as circle
-use Rattle.circle.specs.Directory.{Directory}
-use Rattle.circle.specs.Growth.{Grows}
 use Rattle.circle.specs.Sound as circle_sound
-use Rattle.circle.specs.Sound.{IsOrg}
-use Rattle.circle.specs.declared.command.CircleCommand.{CircleCommand}
-use Rattle.circle.specs.declared.command.Edit.{Edit as CircleEdit}
-use Rattle.circle.specs.declared.directory.Person.{Person}
-use Rattle.circle.proofs.Growth.{grows}
-use Rattle.circle.proofs.Keeping.{each_weaker}
 use Rattle.circle.proofs.Kept as kept
-use Rattle.hub_state.specs.Aftermath.{changed}
-use Rattle.hub_core.specs.Refusals.{refusal_of}
-use Rattle.hub_state.specs.Sound.{IsSound, IsTarget, IsGrantee, IsCommunityIfAny, IsGroupIfAny}
-use Rattle.hub_state.specs.State.{State}
 use Rattle.hub_state.specs.declared.request.Request.TheVariants as ask
-use Rattle.hub_state.specs.declared.request.Target.{Target}
 use Rattle.hub_state.specs.declared.request.Target.TheVariants as target
-use Rattle.hub_core.proofs.Commands.{rows_make}
 
 community_stays : (d e : Directory) → Grows d e → (community : Option ℕ) → IsCommunityIfAny d.communities community → IsCommunityIfAny e.communities community
 community_stays d e more None h = tt

@@ -1,22 +1,12 @@
 -- A permission that replaces another meets no limit.
 use Rattle.std.proofs.Common.{◌≡◌, ℕ, ◌≤◌, ◌==◌, Bool, true, false, not, List, [], filter, Option, Some, None, if◌then◌else◌, refl, arith}
-use Rattle.std.proofs.lemmas.Bool.{and_parts, eq-eqb, false≢true}
-use Rattle.std.specs.Prelude.{ℤ, is_some}
-use Rattle.std.specs.Option.{option_map_or}
-use Rattle.iodef_tree.specs.Text.{Tokens}
-use Rattle.iodef_tree.specs.Pointer.{pointer_tokens}
-use Rattle.policy.specs.declared.permission.Grantee.{Grantee}
-use Rattle.hub_state.specs.declared.TheConstants.{PERMISSION_LIMIT}
-use Rattle.hub_state.specs.Aftermath.{changed, put_permission}
-use Rattle.hub_state.specs.Edits.{with_edits}
+use Rattle.std.{proofs.lemmas.Bool.{and_parts, eq-eqb, false≢true}, specs.{Option.option_map_or, Prelude.{ℤ, is_some}}}
+use Rattle.{iodef_tree.specs.{Pointer.pointer_tokens, Text.Tokens}, policy.specs.declared.permission.Grantee.Grantee, hub_state.proofs.Bounded.few_permissions}
+use Rattle.hub_state.{proofs.Keeping.{count_fewer, count_more}, specs.{Aftermath.{changed, put_permission}, Edits.with_edits, Sound.IsSound, State.State}}
+use Rattle.hub_state.specs.State.{has_permission, incident_of, is_permission_being, permission_cmp, permission_with, permissions_of}
+use Rattle.hub_state.specs.declared.{TheConstants.PERMISSION_LIMIT, state.{Permission.Permission, PermissionKey.PermissionKey}}
 use Rattle.hub_core.specs.Laws.{GrantsInPlaceMeetNoLimit}
-use Rattle.hub_state.specs.Sound.{IsSound}
-use Rattle.hub_state.specs.State.{State, has_permission, incident_of, is_permission_being, permission_cmp, permission_with, permissions_of}
 use Rattle.hub_state.specs.declared.request.Request.TheVariants as ask
-use Rattle.hub_state.specs.declared.state.Permission.{Permission}
-use Rattle.hub_state.specs.declared.state.PermissionKey.{PermissionKey}
-use Rattle.hub_state.proofs.Bounded.{few_permissions}
-use Rattle.hub_state.proofs.Keeping.{count_fewer, count_more}
 
 in_place : (s : State) (n : ℕ) (o : Option Tokens) (grantee : Grantee) (until : Option ℤ) → IsSound s → option_map_or (λ p. has_permission (record { incident = n; path = p; grantee = grantee }) s) o false ≡ true →
     permissions_of n (with_edits (option_map_or (λ p. put_permission (record { incident = n; path = p; grantee = grantee }) until) o []) s).permissions ≤ PERMISSION_LIMIT

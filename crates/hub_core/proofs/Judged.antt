@@ -1,23 +1,9 @@
 -- What is judged by the facts of a state holds of the state.
-use Rattle.std.proofs.Common.{◌≡◌, List, None, Result, Ok, Err, IfOk, sym, ap, ◌∙◌, subst}
-use Rattle.std.specs.Prelude.{IfErr, OnOk}
-use Rattle.circle.specs.Outcomes.{RefusedAs}
-use Rattle.circle.specs.Refusals.{Ground, first_answer}
-use Rattle.circle.specs.declared.directory.Person.{Person}
-use Rattle.circle.specs.declared.refusal.Refusal.{Refusal}
-use Rattle.hub_state.specs.State.{State}
-use Rattle.hub_state.specs.Edits.{with_edits}
-use Rattle.hub_state.specs.Facts.{facts_of}
-use Rattle.hub_core.specs.Refusals.{refusal_of, state_after}
-use Rattle.hub_core.specs.Judgement.{grounds_by, refusal_by}
-use Rattle.hub_state.specs.Aftermath.{edits_by}
-use Rattle.hub_state.specs.Sound.{IsSound}
-use Rattle.hub_core.specs.inner.Asked.{Asks}
-use Rattle.hub_state.specs.declared.edit.Edit.{Edit}
-use Rattle.hub_state.specs.declared.facts.Facts.{Facts}
-use Rattle.hub_core.specs.declared.judging.stop.Stop.{Stop}
-use Rattle.hub_state.specs.declared.request.Request.{Request}
-use Rattle.hub_core.proofs.Agrees.{agrees, makes}
+use Rattle.{std.{proofs.Common.{◌≡◌, List, None, Result, Ok, Err, IfOk, sym, ap, ◌∙◌, subst}, specs.Prelude.{IfErr, OnOk}}, circle.specs.Outcomes.RefusedAs}
+use Rattle.{circle.specs.{Refusals.{Ground, first_answer}, declared.{directory.Person.Person, refusal.Refusal.Refusal}}, hub_state.specs.Aftermath.edits_by}
+use Rattle.hub_state.specs.{Edits.with_edits, Facts.facts_of, Sound.IsSound, State.State, declared.{edit.Edit.Edit, facts.Facts.Facts, request.Request.Request}}
+use Rattle.hub_core.{proofs.Agrees.{agrees, makes}, specs.{Judgement.{grounds_by, refusal_by}, Refusals.{refusal_of, state_after}}}
+use Rattle.hub_core.specs.{declared.judging.stop.Stop.Stop, inner.Asked.Asks}
 
 -- ---- by the grounds of a request
 

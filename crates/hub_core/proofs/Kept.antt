@@ -1,48 +1,18 @@
 -- A request that nothing refuses leaves a sound state.
 use Rattle.std.proofs.Common.{◌≡◌, ℕ, ◌+◌, ◌≤◌, ◌&&◌, true, false, List, [], ◌∷◌, ◌++◌, length, Option, Some, None, refl, sym, ap, ◌∙◌, subst, arith}
-use Rattle.std.proofs.lemmas.Bool.{false≢true, ltb-false, not-false, or_parts}
-use Rattle.std.specs.Prelude.{suc, nat_lt, Ok, option_map}
-use Rattle.std.specs.List.{list_all}
-use Rattle.std.specs.Str.{bytes_eq}
-use Rattle.std.proofs.lemmas.Bool.Decides.{nat_tests}
-use Rattle.iodef_tree.specs.Reading.{reading}
-use Rattle.iodef_tree.proofs.Identified.{has_one, reported}
-use Rattle.iodef_tree.proofs.Order.{bytes_eq-true}
-use Rattle.circle.specs.Sound.{Each, IsOrg}
-use Rattle.circle.specs.declared.refusal.Refusal.{Refusal}
-use Rattle.circle.specs.declared.directory.Person.{Person}
-use Rattle.circle.proofs.Judged.{passed, next_number}
-use Rattle.hub_state.specs.declared.TheConstants.{INCIDENT_LIMIT, REVISION_LIMIT, GATE_LIMIT}
-use Rattle.hub_state.specs.Aftermath.{changed, next_incident, put_gates, put_next, put_revision}
-use Rattle.hub_state.specs.Documents.{Lines, documents_in, ident_of}
-use Rattle.hub_state.specs.Edits.{with_edits}
-use Rattle.hub_core.specs.Refusals.{refusal_of, are_bad_gates, has_several, has_some, stand_at_classes, unless_refused}
-use Rattle.hub_core.specs.Judgement.{grounds_by, keep_ident, next_revision}
-use Rattle.hub_state.specs.Requests.{incident_facts, has_joined_all}
-use Rattle.hub_state.specs.Facts.{facts_of, length_as_u32}
-use Rattle.hub_core.specs.Laws.{StaysSound}
-use Rattle.hub_state.specs.Sound.{IsSound}
-use Rattle.hub_state.specs.State.{State, incident_number, incident_of}
-use Rattle.hub_state.specs.declared.edit.Edit.{Edit}
-use Rattle.hub_state.specs.declared.edit.Edit.TheVariants.{TakePolicy}
-use Rattle.hub_state.specs.declared.request.Request.{Request}
+use Rattle.std.{proofs.lemmas.Bool.{false≢true, ltb-false, not-false, or_parts, Decides.nat_tests}, specs.{List.list_all, Prelude.{suc, nat_lt, Ok}}}
+use Rattle.{std.specs.{Prelude.option_map, Str.bytes_eq}, iodef_tree.{proofs.{Identified.{has_one, reported}, Order.bytes_eq-true}, specs.Reading.reading}}
+use Rattle.circle.{proofs.Judged.{passed, next_number}, specs.{Sound.{Each, IsOrg}, declared.{directory.Person.Person, refusal.Refusal.Refusal}}}
+use Rattle.hub_state.{proofs.Keeping.all_each, specs.{Aftermath.{changed, next_incident, put_gates, put_next, put_revision}, Documents.{Lines, documents_in}}}
+use Rattle.hub_state.specs.{Documents.ident_of, Edits.with_edits, Facts.{facts_of, length_as_u32}, Requests.{incident_facts, has_joined_all}, Sound.IsSound}
+use Rattle.hub_state.specs.{State.{State, incident_number, incident_of}, declared.{TheConstants.{INCIDENT_LIMIT, REVISION_LIMIT, GATE_LIMIT}, edit.Edit.Edit}}
+use Rattle.hub_state.specs.declared.{edit.Edit.TheVariants.TakePolicy, request.{Distribution.Distribution, Post.Post, Replace.Replace, Request.Request}}
+use Rattle.{hub_state.specs.declared.state.Incident.Incident, hub_core.proofs.{Addressed.{address_kept, unaddress_kept}, Agrees.agrees, Bodies.body_read}}
+use Rattle.hub_core.proofs.{Bodies.{fit, not_posted, wishes}, ByRows.replace_edits, Exchanged.{with_document, exchanged}, Gated.after_gates, Granted.grant_kept}
+use Rattle.hub_core.proofs.{Granted.withdraw_kept, Grown.directory_kept, Named.{own, counted_is}, Posted.{IsFit, posted}, Redistributed.redistribute_kept}
+use Rattle.hub_core.specs.{Judgement.{grounds_by, keep_ident, next_revision}, Laws.StaysSound, Refusals.{refusal_of, are_bad_gates, has_several, has_some}}
+use Rattle.hub_core.specs.Refusals.{stand_at_classes, unless_refused}
 use Rattle.hub_state.specs.declared.request.Request.TheVariants as ask
-use Rattle.hub_state.specs.declared.request.Distribution.{Distribution}
-use Rattle.hub_state.specs.declared.request.Post.{Post}
-use Rattle.hub_state.specs.declared.request.Replace.{Replace}
-use Rattle.hub_state.specs.declared.state.Incident.{Incident}
-use Rattle.hub_core.proofs.Agrees.{agrees}
-use Rattle.hub_core.proofs.Addressed.{address_kept, unaddress_kept}
-use Rattle.hub_core.proofs.Bodies.{body_read, fit, not_posted, wishes}
-use Rattle.hub_core.proofs.ByRows.{replace_edits}
-use Rattle.hub_core.proofs.Exchanged.{with_document, exchanged}
-use Rattle.hub_core.proofs.Gated.{after_gates}
-use Rattle.hub_core.proofs.Granted.{grant_kept, withdraw_kept}
-use Rattle.hub_core.proofs.Grown.{directory_kept}
-use Rattle.hub_core.proofs.Named.{own, counted_is}
-use Rattle.hub_core.proofs.Posted.{IsFit, posted}
-use Rattle.hub_core.proofs.Redistributed.{redistribute_kept}
-use Rattle.hub_state.proofs.Keeping.{all_each}
 
 post_kept : (s : State) (a : Person) (r : Post) → IsSound s → IsOrg s.directory.orgs a.org → refusal_of s a (ask.Post r) ≡ None → IsSound (changed s a (ask.Post r))
 post_kept s a r h known fine =

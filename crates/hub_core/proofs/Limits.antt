@@ -1,13 +1,7 @@
 -- How many rows each incident has after a put.
-use Rattle.std.proofs.Common.{◌≡◌, ℕ, ◌≤◌, ◌==◌, Bool, true, false, List, refl, sym, subst}
-use Rattle.std.proofs.lemmas.Bool.{eqb-true}
-use Rattle.std.specs.Prelude.{count_by}
-use Rattle.std.specs.declared.cmp.Ordering.{Ordering}
-use Rattle.circle.specs.Ordered.{put_by}
-use Rattle.circle.specs.Sound.{Each}
-use Rattle.circle.proofs.Keeping.{each_weaker}
-use Rattle.hub_state.specs.declared.state.Incident.{Incident}
-use Rattle.hub_state.proofs.Keeping.{count_same}
+use Rattle.std.{proofs.{Common.{◌≡◌, ℕ, ◌≤◌, ◌==◌, Bool, true, false, List, refl, sym, subst}, lemmas.Bool.eqb-true}, specs.Prelude.count_by}
+use Rattle.{std.specs.declared.cmp.Ordering.Ordering, circle.{proofs.Keeping.each_weaker, specs.{Ordered.put_by, Sound.Each}}}
+use Rattle.hub_state.{proofs.Keeping.count_same, specs.declared.state.Incident.Incident}
 
 still_within : {X : Type 0} (number : X → ℕ) (cmp : X → X → Ordering) (limit : ℕ) (x : X) (xs : List X) (n : ℕ) →
     count_by (λ y. number y == number x) (put_by cmp x xs) ≤ limit → count_by (λ y. number y == n) xs ≤ limit → count_by (λ y. number y == n) (put_by cmp x xs) ≤ limit

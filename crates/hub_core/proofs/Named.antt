@@ -1,30 +1,16 @@
 -- What is known of the names in a request if no ground holds.
-use Rattle.std.proofs.Common.{◌≡◌, ℕ, ◌==◌, Bool, true, false, not, if◌then◌else◌, Option, Some, None, refl, sym, ap, ◌∙◌, subst}
-use Rattle.std.proofs.lemmas.Bool.{and_parts, eqb-true, not-false}
-use Rattle.std.specs.Prelude.{is_some, option_map}
-use Rattle.std.specs.List.{list_all}
-use Rattle.std.specs.Option.{option_map_or}
-use Rattle.iodef_tree.specs.Text.{Bytes, Tokens}
-use Rattle.policy.specs.declared.permission.Grantee.{Grantee}
-use Rattle.policy.specs.declared.permission.Grantee.TheVariants as grantee
-use Rattle.circle.specs.Directory.{Directory, has_group_member, has_membership}
-use Rattle.circle.specs.Sound as circle
-use Rattle.circle.specs.Sound.{Each, IsCommunity, IsGroup}
-use Rattle.circle.specs.declared.directory.Person.{Person}
-use Rattle.circle.proofs.Keeping.{found_then, each_weaker}
+use Rattle.std.proofs.{Common.{◌≡◌, ℕ, ◌==◌, Bool, true, false, not, if◌then◌else◌, Option, Some, None, refl, sym, ap, ◌∙◌, subst}, lemmas.Bool.and_parts}
+use Rattle.{std.{proofs.lemmas.Bool.{eqb-true, not-false}, specs.{List.list_all, Option.option_map_or, Prelude.option_map}}, iodef_tree.specs.Text.Bytes}
+use Rattle.{iodef_tree.specs.Text.Tokens, policy.specs.declared.permission.Grantee.Grantee, circle.proofs.Keeping.{found_then, each_weaker}}
+use Rattle.circle.specs.{Directory.{Directory, has_group_member, has_membership}, Sound.{Each, IsCommunity, IsGroup}, declared.directory.Person.Person}
+use Rattle.hub_state.{proofs.Keeping.{all_each, found_any, found_is, found_passing}, specs.{Documents.{Lines, at_pointer}, Facts.counted}}
+use Rattle.hub_state.specs.{Requests.{incident_facts, is_own_community, is_own_group, are_own_groups, has_joined_all, is_target, is_grantee}, Sound.IsIncident}
+use Rattle.hub_state.specs.{Sound.{IsTarget, IsGrantee, IsCommunityIfAny, IsGroupIfAny}, State.{State, incident_of}, declared.facts.IncidentFacts.IncidentFacts}
+use Rattle.hub_state.specs.declared.{request.{Distribution.Distribution, Target.Target, WantedGate.WantedGate}, state.Incident.Incident}
 use Rattle.hub_core.specs.Judgement.{is_own}
-use Rattle.hub_state.specs.Requests.{incident_facts, is_own_community, is_own_group, are_own_groups, has_joined_all, is_target, is_grantee}
-use Rattle.hub_state.specs.Facts.{counted}
-use Rattle.hub_state.specs.Documents.{Lines, at_pointer}
-use Rattle.hub_state.specs.Sound.{IsIncident, IsTarget, IsGrantee, IsCommunityIfAny, IsGroupIfAny}
-use Rattle.hub_state.specs.State.{State, incident_of}
-use Rattle.hub_state.specs.declared.request.Distribution.{Distribution}
-use Rattle.hub_state.specs.declared.request.Target.{Target}
+use Rattle.policy.specs.declared.permission.Grantee.TheVariants as grantee
+use Rattle.circle.specs.Sound as circle
 use Rattle.hub_state.specs.declared.request.Target.TheVariants as target
-use Rattle.hub_state.specs.declared.request.WantedGate.{WantedGate}
-use Rattle.hub_state.specs.declared.state.Incident.{Incident}
-use Rattle.hub_state.specs.declared.facts.IncidentFacts.{IncidentFacts}
-use Rattle.hub_state.proofs.Keeping.{all_each, found_any, found_is, found_passing}
 pub use Rattle.hub_state.proofs.Keeping.{some_is}
 
 -- ---- what is known of an incident

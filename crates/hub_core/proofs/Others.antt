@@ -1,48 +1,22 @@
 -- What a request leaves of the incidents that it doesn't name.
-use Rattle.std.proofs.Common.{◌≡◌, ◌≢◌, ℕ, ◌+◌, ◌≤◌, ◌==◌, ◌&&◌, Bool, true, false, not, List, [], ◌∷◌, ◌++◌, length, map, filter, Option, Some, None, refl, sym, ap, ◌∙◌, subst, arith}
-use Rattle.std.specs.Prelude.{option_map}
-use Rattle.hub_state.specs.declared.facts.IncidentFacts.{IncidentFacts}
-use Rattle.hub_state.specs.Requests.{incident_facts}
-use Rattle.hub_state.specs.Facts.{facts_of}
-use Rattle.std.proofs.lemmas.Bool.{and_left, eqb-true, false_from_ne_true, ne_eqb, not-true, not_from_false}
-use Rattle.std.specs.List.{flat_map}
-use Rattle.std.specs.Option.{option_map_or}
-use Rattle.iodef_tree.specs.Text.{Tokens, same_path}
-use Rattle.iodef_tree.specs.Pointer.{pointer_tokens}
-use Rattle.circle.specs.Aftermath as circle
-use Rattle.circle.specs.Aftermath.{rows_of}
-use Rattle.circle.specs.Ordered.{by_number}
-use Rattle.circle.specs.Sound.{Each}
-use Rattle.circle.specs.declared.command.RowEdit.{RowEdit}
-use Rattle.circle.specs.declared.directory.Person.{Person}
-use Rattle.circle.specs.declared.refusal.Refusal.{Refusal}
-use Rattle.circle.proofs.Judged.{passed, next_number}
-use Rattle.circle.proofs.Keeping.{names_within}
-use Rattle.hub_state.specs.declared.TheConstants.{INCIDENT_LIMIT}
-use Rattle.hub_state.specs.Aftermath.{changed, edits_of, next_incident, put_gate, put_gates, put_incident, put_incidents, put_next, put_permission}
-use Rattle.hub_state.specs.Documents.{Lines, documents_in, made_at}
-use Rattle.hub_state.specs.Edits.{with_edits, edited}
-use Rattle.hub_core.specs.Laws.{OthersStay, ReplacesTakePermissionsOut}
-use Rattle.hub_core.specs.Others.{LeavesIncident, HasPermissionsTakenOut, recipients_at, permissions_at}
+use Rattle.std.proofs.Common.{◌≡◌, ◌≢◌, ℕ, ◌+◌, ◌≤◌, ◌==◌, ◌&&◌, Bool, true, false, not, List, [], ◌∷◌, ◌++◌, length, map, filter, Option, Some, None, refl}
+use Rattle.std.proofs.{Common.{sym, ap, ◌∙◌, subst, arith}, lemmas.Bool.{and_left, eqb-true, false_from_ne_true, ne_eqb, not-true, not_from_false}}
+use Rattle.{std.specs.{List.flat_map, Option.option_map_or, Prelude.option_map}, hub_state.proofs.Keeping.{not_both, turned, find_put, find_left, filter_put}}
+use Rattle.hub_state.{proofs.Keeping.{filter_left, filter_none}, specs.Aftermath.{changed, edits_of, next_incident, put_gate, put_gates, put_incident}}
+use Rattle.hub_state.specs.{Aftermath.{put_incidents, put_next, put_permission}, Documents.{Lines, documents_in, made_at}, Edits.{with_edits, edited}}
+use Rattle.hub_state.specs.{Facts.facts_of, Requests.incident_facts, Sound.IsSound, State.{State, incident_number, incident_of, gate_cmp, recipient_cmp}}
+use Rattle.hub_state.specs.State.{permission_cmp, is_gate_at, is_recipient_being, is_permission_being, same_target, same_grantee}
+use Rattle.hub_state.specs.declared.{TheConstants.INCIDENT_LIMIT, edit.Edit.{Edit, TheVariants.{Directory, PutIncident, TakeIncident, TakePolicy, PutGate}}}
+use Rattle.hub_state.specs.declared.edit.Edit.TheVariants.{TakeGate, PutRecipient, TakeRecipient, PutPermission, TakePermission}
+use Rattle.hub_state.specs.declared.{facts.IncidentFacts.IncidentFacts, request.{Distribution.Distribution, Request.Request, WantedGate.WantedGate}}
+use Rattle.{hub_state.specs.declared.state.{Gate.Gate, Incident.Incident, Permission.Permission, Recipient.Recipient}, iodef_tree.specs.Pointer.pointer_tokens}
+use Rattle.{iodef_tree.specs.Text.{Tokens, same_path}, circle.{proofs.{Judged.{passed, next_number}, Keeping.names_within}, specs.Aftermath.rows_of}}
+use Rattle.circle.specs.{Ordered.by_number, Sound.Each, declared.{command.RowEdit.RowEdit, directory.Person.Person, refusal.Refusal.Refusal}}
+use Rattle.hub_core.{proofs.{Agrees.agrees, ByRows.replace_edits, Gated.after_append, Named.{own, is_incident}}, specs.Judgement.{grounds_by, is_own}}
+use Rattle.hub_core.specs.{Laws.{OthersStay, ReplacesTakePermissionsOut}, Others.{LeavesIncident, HasPermissionsTakenOut, recipients_at, permissions_at}}
 use Rattle.hub_core.specs.Refusals.{refusal_of, unless_refused}
-use Rattle.hub_core.specs.Judgement.{grounds_by, is_own}
-use Rattle.hub_state.specs.Sound.{IsSound}
-use Rattle.hub_state.specs.State.{State, incident_number, incident_of, gate_cmp, recipient_cmp, permission_cmp, is_gate_at, is_recipient_being, is_permission_being, same_target, same_grantee}
-use Rattle.hub_state.specs.declared.edit.Edit.{Edit}
-use Rattle.hub_state.specs.declared.edit.Edit.TheVariants.{Directory, PutIncident, TakeIncident, TakePolicy, PutGate, TakeGate, PutRecipient, TakeRecipient, PutPermission, TakePermission}
-use Rattle.hub_state.specs.declared.request.Request.{Request}
+use Rattle.circle.specs.Aftermath as circle
 use Rattle.hub_state.specs.declared.request.Request.TheVariants as ask
-use Rattle.hub_state.specs.declared.request.Distribution.{Distribution}
-use Rattle.hub_state.specs.declared.request.WantedGate.{WantedGate}
-use Rattle.hub_state.specs.declared.state.Gate.{Gate}
-use Rattle.hub_state.specs.declared.state.Incident.{Incident}
-use Rattle.hub_state.specs.declared.state.Permission.{Permission}
-use Rattle.hub_state.specs.declared.state.Recipient.{Recipient}
-use Rattle.hub_core.proofs.Agrees.{agrees}
-use Rattle.hub_core.proofs.ByRows.{replace_edits}
-use Rattle.hub_core.proofs.Gated.{after_append}
-use Rattle.hub_core.proofs.Named.{own, is_incident}
-use Rattle.hub_state.proofs.Keeping.{not_both, turned, find_put, find_left, filter_put, filter_left, filter_none}
 
 -- ---- one edit
 

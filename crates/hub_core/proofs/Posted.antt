@@ -1,31 +1,16 @@
 -- Posting an incident with its gates leaves a sound state.
-use Rattle.std.proofs.Common.{◌≡◌, ℕ, ◌+◌, ◌≤◌, ◌<◌, ◌==◌, ◌&&◌, ◌||◌, Bool, true, false, List, [], ◌∷◌, length, map, Option, Some, None, refl, sym, ap, ◌∙◌, subst, arith}
-use Rattle.std.proofs.lemmas.Bool.{and_right, eq-eqb, ne_eqb, or_parts}
-use Rattle.std.specs.List.{list_any}
-use Rattle.std.specs.Option.{option_map_or}
-use Rattle.std.specs.Str.{bytes_eq}
-use Rattle.iodef_tree.specs.Text.{Bytes, Tokens, is_root}
-use Rattle.iodef_tree.specs.Json.{incident_id}
-use Rattle.iodef_tree.specs.Pointer.{pointer_tokens}
-use Rattle.circle.specs.Ordered.{put_by, by_number}
-use Rattle.circle.specs.Sound.{Each, CountsFrom, IsOrg}
-use Rattle.circle.specs.Directory.{Directory}
-use Rattle.circle.proofs.Keeping.{each_put, each_weaker, pairs_put, numbered_put, length_put, any_put, names_within, pair_apart}
-use Rattle.hub_state.specs.declared.TheConstants.{INCIDENT_LIMIT, GATE_LIMIT, RECIPIENT_LIMIT, PERMISSION_LIMIT}
-use Rattle.hub_state.specs.Aftermath.{put_incident, put_incidents}
-use Rattle.hub_state.specs.Documents.{Lines, ident_of, at_pointer, is_class_in}
-use Rattle.hub_state.specs.Edits.{with_edits}
-use Rattle.hub_core.specs.Refusals.{stands_twice}
-use Rattle.hub_state.specs.Sound.{IsSound, SoundIncidents, SoundRecipients, SoundPermissions, IsAccepted, IsIncident, IsCommunityIfAny, IsGroupIfAny}
-use Rattle.hub_state.specs.State.{State, incident_number, incident_in, root_gates, class_gates, recipients_of, permissions_of}
-use Rattle.hub_state.specs.declared.request.Distribution.{Distribution}
-use Rattle.hub_state.specs.declared.request.WantedGate.{WantedGate}
-use Rattle.hub_state.specs.declared.state.Incident.{Incident}
-use Rattle.hub_state.specs.declared.state.Recipient.{Recipient}
-use Rattle.hub_state.specs.declared.state.Permission.{Permission}
-use Rattle.hub_core.proofs.Gated.{IsWanted, IsBeside, put_all, after_append, after_gates, given}
-use Rattle.hub_core.proofs.Named.{AreThere, some_is}
-use Rattle.hub_state.proofs.Keeping.{never, turned, found_any, found_passing, find_put, find_new, count_none}
+use Rattle.std.proofs.Common.{◌≡◌, ℕ, ◌+◌, ◌≤◌, ◌<◌, ◌==◌, ◌&&◌, ◌||◌, Bool, true, false, List, [], ◌∷◌, length, map, Option, Some, None, refl, sym, ap, ◌∙◌}
+use Rattle.std.{proofs.{Common.{subst, arith}, lemmas.Bool.{and_right, eq-eqb, ne_eqb, or_parts}}, specs.{List.list_any, Option.option_map_or, Str.bytes_eq}}
+use Rattle.{iodef_tree.specs.{Json.incident_id, Pointer.pointer_tokens, Text.{Bytes, Tokens, is_root}}, circle.proofs.Keeping.{each_put, each_weaker}}
+use Rattle.circle.{proofs.Keeping.{pairs_put, numbered_put, length_put, any_put, names_within, pair_apart}, specs.{Directory.Directory, Ordered.put_by}}
+use Rattle.{circle.specs.{Ordered.by_number, Sound.{Each, CountsFrom, IsOrg}}, hub_state.proofs.Keeping.{never, turned, found_any, found_passing, find_put}}
+use Rattle.hub_state.{proofs.Keeping.{find_new, count_none}, specs.{Aftermath.{put_incident, put_incidents}, Documents.{Lines, ident_of, at_pointer}}}
+use Rattle.hub_state.specs.{Documents.is_class_in, Edits.with_edits, Sound.{IsSound, SoundIncidents, SoundRecipients, SoundPermissions, IsAccepted, IsIncident}}
+use Rattle.hub_state.specs.{Sound.{IsCommunityIfAny, IsGroupIfAny}, State.{State, incident_number, incident_in, root_gates, class_gates, recipients_of}}
+use Rattle.hub_state.specs.{State.permissions_of, declared.TheConstants.{INCIDENT_LIMIT, GATE_LIMIT, RECIPIENT_LIMIT, PERMISSION_LIMIT}}
+use Rattle.hub_state.specs.declared.{request.{Distribution.Distribution, WantedGate.WantedGate}, state.{Incident.Incident, Permission.Permission}}
+use Rattle.{hub_state.specs.declared.state.Recipient.Recipient, hub_core.proofs.Gated.{IsWanted, IsBeside, put_all, after_append, after_gates, given}}
+use Rattle.hub_core.{proofs.Named.{AreThere, some_is}, specs.Refusals.stands_twice}
 
 -- ---- what the request says for each of its incidents
 

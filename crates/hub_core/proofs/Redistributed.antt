@@ -1,36 +1,17 @@
 -- A Redistribute leaves a sound state.
 use Rattle.std.proofs.Common.{◌≡◌, ℕ, ◌+◌, ◌≤◌, ◌==◌, ◌&&◌, Bool, true, false, not, List, [], ◌∷◌, filter, Option, Some, None, refl, sym, ap, ◌∙◌, subst, ◌||◌}
-use Rattle.hub_state.specs.declared.state.Incident.{Incident}
 use Rattle.std.proofs.lemmas.Bool.{and_parts, eq-eqb, eqb-true, false_from_ne_true, ltb-false, not-false, not-true, not_from_false}
-use Rattle.std.specs.Prelude.{count_by, option_map}
-use Rattle.std.specs.Option.{option_map_or}
-use Rattle.iodef_tree.specs.Text.{Tokens, is_root, same_path}
-use Rattle.iodef_tree.specs.Pointer.{pointer_tokens}
-use Rattle.iodef_tree.proofs.Order.{same_path-true, same_path-refl}
-use Rattle.circle.specs.Ordered.{put_by}
-use Rattle.circle.specs.declared.directory.Person.{Person}
-use Rattle.circle.proofs.Judged.{passed}
-use Rattle.circle.proofs.Keeping.{each_put, each_left, each_weaker, pairs_left, order_put}
-use Rattle.hub_state.specs.declared.TheConstants.{GATE_LIMIT}
-use Rattle.hub_state.specs.Aftermath.{changed, put_gate}
-use Rattle.hub_state.specs.Documents.{at_pointer, is_class_in}
-use Rattle.hub_state.specs.Edits.{with_edits}
-use Rattle.hub_core.specs.Refusals.{refusal_of}
-use Rattle.hub_core.specs.Judgement.{grounds_by, is_place_at}
-use Rattle.hub_state.specs.Facts.{facts_of, gates_then}
-use Rattle.hub_state.specs.Requests.{is_own_group}
-use Rattle.hub_state.specs.Sound.{IsSound, SoundGates, IsGroupIfAny}
+use Rattle.{std.specs.{Option.option_map_or, Prelude.{count_by, option_map}}, hub_state.proofs.Keeping.{never, each_passes, count_more, count_same, count_none}}
+use Rattle.hub_state.{proofs.{Keeping.count_kept, Keys.apart_gate}, specs.{Aftermath.{changed, put_gate}, Documents.{at_pointer, is_class_in}}}
+use Rattle.hub_state.specs.{Edits.with_edits, Facts.{facts_of, gates_then}, Orders.gate_total, Requests.is_own_group, Sound.{IsSound, SoundGates, IsGroupIfAny}}
 use Rattle.hub_state.specs.State.{State, gate_cmp, gate_key, gate_with, is_gate_at, is_place_of, root_gates, class_gates, incident_of}
-use Rattle.hub_state.specs.declared.edit.Edit.TheVariants.{TakeGate}
-use Rattle.hub_state.specs.declared.request.Redistribute.{Redistribute}
+use Rattle.hub_state.specs.declared.{TheConstants.GATE_LIMIT, edit.Edit.TheVariants.TakeGate, request.Redistribute.Redistribute, state.Gate.Gate}
+use Rattle.{hub_state.specs.declared.state.{GateKey.GateKey, Incident.Incident}, iodef_tree.proofs.Order.{same_path-true, same_path-refl}}
+use Rattle.{iodef_tree.specs.{Pointer.pointer_tokens, Text.{Tokens, is_root, same_path}}, circle.proofs.{Judged.passed, Keeping.{each_put, each_left}}}
+use Rattle.circle.{proofs.Keeping.{each_weaker, pairs_left, order_put}, specs.{Ordered.put_by, declared.directory.Person.Person}}
+use Rattle.hub_core.{proofs.{Agrees.agrees, Named.{own, counted_is, group_if_any, of_document}}, specs.Judgement.{grounds_by, is_place_at}}
+use Rattle.hub_core.specs.Refusals.{refusal_of}
 use Rattle.hub_state.specs.declared.request.Request.TheVariants as ask
-use Rattle.hub_state.specs.declared.state.Gate.{Gate}
-use Rattle.hub_state.specs.declared.state.GateKey.{GateKey}
-use Rattle.hub_state.specs.Orders.{gate_total}
-use Rattle.hub_core.proofs.Agrees.{agrees}
-use Rattle.hub_state.proofs.Keys.{apart_gate}
-use Rattle.hub_core.proofs.Named.{own, counted_is, group_if_any, of_document}
-use Rattle.hub_state.proofs.Keeping.{never, each_passes, count_more, count_same, count_none, count_kept}
 
 root_is : (p : Tokens) → is_root p ≡ true → p ≡ []
 root_is [] h = refl

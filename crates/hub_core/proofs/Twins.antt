@@ -1,9 +1,6 @@
 -- A loop that finds two equal elements of a list.
-use Rattle.std.proofs.Common.{◌≡◌, ℕ, suc, ◌+◌, ◌<◌, List, [], ◌∷◌, Bool, ◌||◌, map, length, drop, drop-cons, get_or, add-one, refl, sym, ap, ◌∙◌}
-use Rattle.std.specs.List.{list_any}
-use Rattle.std.specs.Str.{bytes_eq}
-use Rattle.iodef_tree.specs.Text.{Bytes}
-use Rattle.hub_core.specs.Refusals.{stands_twice}
+use Rattle.std.{proofs.Common.{◌≡◌, ℕ, suc, ◌+◌, ◌<◌, List, ◌∷◌, ◌||◌, map, length, drop, drop-cons, get_or, add-one, sym, ap, ◌∙◌}, specs.List.list_any}
+use Rattle.{std.specs.Str.bytes_eq, iodef_tree.specs.Text.Bytes, hub_core.specs.Refusals.stands_twice}
 pub use Rattle.hub_state.proofs.Keeping.{any_map}
 
 -- from an element on, as at a step of a loop

@@ -1,14 +1,8 @@
 -- What is asked of the gates of a request depends only on their paths, and so do the edits.
-use Rattle.std.proofs.Common.{◌≡◌, ℕ, List, [], ◌∷◌, ◌++◌, Bool, ◌&&◌, map, Option, None, append_assoc, refl, ap, ◌∙◌}
-use Rattle.std.specs.List.{list_all, flat_map}
-use Rattle.iodef_tree.proofs.Inverse.{pointer_tokens-pointer_text}
-use Rattle.policy.specs.declared.gate.Gate.{Gate}
-use Rattle.hub_state.specs.Documents.{Lines, is_class_in, at_pointer, made_at}
-use Rattle.hub_state.specs.Aftermath.{put_gate, put_gates}
-use Rattle.hub_core.specs.Refusals.{stand_at_classes}
-use Rattle.hub_core.specs.inner.Wanted.{asked_as, put_at}
-use Rattle.hub_state.specs.declared.edit.Edit.{Edit}
-use Rattle.hub_state.specs.declared.request.WantedGate.{WantedGate}
+use Rattle.std.{proofs.Common.{◌≡◌, ℕ, List, [], ◌∷◌, ◌++◌, Bool, ◌&&◌, map, Option, None, append_assoc, refl, ap, ◌∙◌}, specs.List.{list_all, flat_map}}
+use Rattle.{iodef_tree.proofs.Inverse.pointer_tokens-pointer_text, policy.specs.declared.gate.Gate.Gate, hub_state.specs.Aftermath.{put_gate, put_gates}}
+use Rattle.hub_state.specs.{Documents.{Lines, is_class_in, at_pointer, made_at}, declared.{edit.Edit.Edit, request.WantedGate.WantedGate}}
+use Rattle.hub_core.specs.{Refusals.stand_at_classes, inner.Wanted.{asked_as, put_at}}
 
 put_each : (n : ℕ) (gates : List Gate) → map (put_at n) gates ≡ flat_map (λ (g : WantedGate). made_at (put_gate n g.level g.group) g.path) (map asked_as gates)
 put_each n [] = refl

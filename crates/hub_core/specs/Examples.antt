@@ -6,13 +6,11 @@ use Rattle.marking.specs.declared.label.Handling.TheVariants.{Amber}
 use Rattle.policy.specs.Examples.{event_path}
 use Rattle.policy.specs.Standing.{stranger}
 use Rattle.policy.specs.declared.permission.Grantee.{Grantee}
-use Rattle.policy.specs.declared.permission.Grantee.TheVariants as grantee
 use Rattle.circle.specs.Directory.{Directory}
 use Rattle.circle.specs.Outcomes.{bare}
 use Rattle.circle.specs.declared.refusal.Code.TheVariants.{W1, B1, N1, N2, N3, S1, S2, S3, W3}
 use Rattle.circle.specs.declared.refusal.Refusal.{Refusal}
 use Rattle.circle.specs.declared.command.CircleCommand.TheVariants.{Nominate, Arrange}
-use Rattle.circle.specs.declared.directory.Handling.TheVariants as arranged
 use Rattle.circle.specs.declared.directory.Role.{Role}
 use Rattle.circle.specs.declared.directory.Role.TheVariants.{Coordinator, Poster, Reader}
 use Rattle.circle.specs.declared.directory.Person.{Person}
@@ -21,13 +19,15 @@ use Rattle.hub_state.specs.Documents.{Lines}
 use Rattle.hub_state.specs.State.{State, permission_with}
 use Rattle.hub_core.specs.Refusals.{refusal_of, state_after}
 use Rattle.hub_state.specs.Reads.{is_peer, standing_of}
-use Rattle.hub_state.specs.declared.request.Target.TheVariants as target
 use Rattle.hub_state.specs.declared.request.Distribution.{Distribution}
 use Rattle.hub_state.specs.declared.request.Request.{Request}
-use Rattle.hub_state.specs.declared.request.Request.TheVariants as ask
 use Rattle.hub_state.specs.declared.state.Incident.{Incident}
 use Rattle.hub_state.specs.declared.state.Gate.{Gate}
 use Rattle.hub_state.specs.declared.state.Permission.{Permission}
+use Rattle.policy.specs.declared.permission.Grantee.TheVariants as grantee
+use Rattle.circle.specs.declared.directory.Handling.TheVariants as arranged
+use Rattle.hub_state.specs.declared.request.Target.TheVariants as target
+use Rattle.hub_state.specs.declared.request.Request.TheVariants as ask
 
 -- ---- the circle
 

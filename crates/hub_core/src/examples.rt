@@ -2,7 +2,9 @@
 //! definition would show here without a program between. Each is the contract of a function that does nothing.
 #![tactic(auto, unfolding(crate::proofs::Computed::computed))]
 
-ghost use Rattle.hub_core.specs.Examples.{StandingsAreFound, PeersAreFound, ReaderPostsNothing, FirstPostIsFirst, PostsAreRefused, GrantsAreRefused, PermissionsAreExchanged, GatesAreRefused, OthersAreNotThere, PermissionsAreWithdrawn, ReplaceTakesPermissionsOut, CommunitiesAreNamed, CoordinatorsKeepToTheirs};
+ghost use Rattle.hub_core.specs.Examples.{StandingsAreFound, PeersAreFound, ReaderPostsNothing, FirstPostIsFirst, PostsAreRefused, GrantsAreRefused};
+ghost use Rattle.hub_core.specs.Examples.{PermissionsAreExchanged, GatesAreRefused, OthersAreNotThere, PermissionsAreWithdrawn, ReplaceTakesPermissionsOut};
+ghost use Rattle.hub_core.specs.Examples.{CommunitiesAreNamed, CoordinatorsKeepToTheirs};
 
 /// How persons stand to an incident, by the rows of the circle.
 pub fn standings_are_found()

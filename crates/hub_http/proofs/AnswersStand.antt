@@ -1,21 +1,12 @@
 -- More bytes change no answer but Truncated.
-use Rattle.std.proofs.Common.{◌≡◌, ◌≢◌, ℕ, ◌+◌, ◌-◌, ◌≤◌, List, [], ◌++◌, length, take, drop, Bool, true, false, Result, Ok, Err, refl, ap, sym, ◌∙◌, subst, inl, inr, arith, append_assoc, append-nil, length-append, nat_le, codes}
-use Rattle.std.specs.Str.{bytes_eq}
-use Rattle.std.proofs.Math.Seq.{take-append-add}
-use Rattle.std.proofs.lemmas.Bool.Decides.{leb_tells}
-use Rattle.std.proofs.lemmas.List.{take-append-le, drop-append-le, take_all}
-use Rattle.std.proofs.lemmas.Bool.{cases_lt}
-use Rattle.httparse.specs.Grammar.{print_request, ReadsRequest, HasNoRequest, NeverHasRequest, MayBecomeRequest}
-use Rattle.httparse.proofs.GrammarLemmas.{ReadsRequest-append}
-use Rattle.hub_http.specs.declared.TheConstants.{HEAD_LIMIT, FIELD_LIMIT}
+use Rattle.std.proofs.Common.{◌≡◌, ◌≢◌, ℕ, ◌+◌, ◌-◌, ◌≤◌, List, [], ◌++◌, length, take, drop, Bool, true, false, Result, Ok, Err, refl, ap, sym, ◌∙◌, subst}
+use Rattle.std.proofs.{Common.{inl, inr, arith, append_assoc, append-nil, length-append, nat_le, codes}, Math.Seq.take-append-add, lemmas.Bool.cases_lt}
+use Rattle.std.{proofs.lemmas.{Bool.Decides.leb_tells, List.{take-append-le, drop-append-le, take_all}}, specs.Str.bytes_eq}
+use Rattle.httparse.{proofs.GrammarLemmas.ReadsRequest-append, specs.Grammar.{print_request, ReadsRequest, HasNoRequest, NeverHasRequest, MayBecomeRequest}}
+use Rattle.hub_http.{proofs.Heads.head_fits, specs.{Fields.{body_length, key_of}, Outcome.{◌>>=◌, require}, Parameters.Pair, Requests.request_by, Wire.Asked}}
+use Rattle.hub_http.specs.{Wire.{Wire, AsksByHead, IsHeadless, asked_by, as_wire, window, fields_of}, declared.TheConstants.{HEAD_LIMIT, FIELD_LIMIT}}
 use Rattle.hub_http.specs.declared.wire_fault.WireFault.{WireFault}
 use Rattle.hub_http.specs.declared.wire_fault.WireFault.TheVariants as fault
-use Rattle.hub_http.specs.Outcome.{◌>>=◌, require}
-use Rattle.hub_http.specs.Parameters.{Pair}
-use Rattle.hub_http.specs.Fields.{body_length, key_of}
-use Rattle.hub_http.specs.Requests.{request_by}
-use Rattle.hub_http.specs.Wire.{Asked, Wire, AsksByHead, IsHeadless, asked_by, as_wire, window, fields_of}
-use Rattle.hub_http.proofs.Heads.{head_fits}
 
 -- the window of more bytes begins with the window
 grown : (bytes more : List ℕ) → (x : List ℕ) × (window (bytes ++ more) ≡ window bytes ++ x)

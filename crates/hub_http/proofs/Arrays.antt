@@ -1,9 +1,6 @@
 -- An array that is put one element after another, of elements of several kinds.
 use Rattle.std.proofs.Common.{◌≡◌, ℕ, List, [], ◌∷◌, ◌++◌, Bool, true, false, cond, ◌&&◌, Result, Ok, Err, OnOk, refl, ap, ◌∙◌, subst, append_assoc}
-use Rattle.serde_json.specs.Data.{Data}
-use Rattle.serde_json.specs.View.{items_of}
-use Rattle.serde_json.specs.Written.{comma_if, compact_text, items_text}
-use Rattle.json_text.proofs.Puts.{ok-both-are}
+use Rattle.{serde_json.specs.{Data.Data, View.items_of, Written.{comma_if, compact_text, items_text}}, json_text.proofs.Puts.ok-both-are}
 use Rattle.hub_http.specs.Bodies.{listed}
 
 -- a comma before a token that begins a value, and none before a closing bracket

@@ -1,12 +1,8 @@
 -- Gates, one after another.
-use Rattle.std.proofs.Common.{◌≡◌, ℕ, ◌+◌, ◌<◌, List, [], ◌∷◌, ◌++◌, length, drop, Ok, Err, refl, ap, sym, ◌∙◌, subst, append_assoc, append-nil, Bor, get_or, drop_of_length-le, add-one, ◌≤◌}
-use Rattle.std.proofs.Math.Seq.{drop-cons}
-use Rattle.hub_http.specs.inner.Texts.{texts}
-use Rattle.hub_state.specs.declared.request.WantedGate.{WantedGate}
-use Rattle.hub_http.specs.declared.request_fault.RequestFault.{RequestFault}
-use Rattle.hub_http.specs.declared.request_fault.RequestFault.TheVariants.{NoRoute, BadBody, NoMemory}
-use Rattle.hub_http.specs.Outcome.{Read, ◌>>=◌, Fails}
-use Rattle.hub_http.specs.Spelling.{gate, gates}
+use Rattle.std.proofs.Common.{◌≡◌, ℕ, ◌+◌, ◌<◌, List, [], ◌∷◌, ◌++◌, length, drop, Ok, Err, refl, ap, sym, ◌∙◌, subst, append_assoc, append-nil, Bor, get_or}
+use Rattle.{std.proofs.{Common.{drop_of_length-le, add-one, ◌≤◌}, Math.Seq.drop-cons}, hub_state.specs.declared.request.WantedGate.WantedGate}
+use Rattle.hub_http.specs.{Outcome.{Read, ◌>>=◌, Fails}, Spelling.{gate, gates}, declared.request_fault.RequestFault.{RequestFault, TheVariants.NoRoute}}
+use Rattle.hub_http.specs.{declared.request_fault.RequestFault.TheVariants.{BadBody, NoMemory}, inner.Texts.texts}
 
 -- the gates so far, and then those of the rest
 abbrev pub behind : List WantedGate → Read (List WantedGate) → Read (List WantedGate)

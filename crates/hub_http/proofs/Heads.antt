@@ -1,18 +1,11 @@
 -- What the parser of heads returns, and what the bytes ask.
-use Rattle.std.proofs.Common.{◌≡◌, ℕ, ◌+◌, ◌<◌, ◌≤◌, List, [], ◌∷◌, ◌++◌, length, drop, Err, refl, ap, ◌∙◌, subst, inl, arith, append-nil, length-append, length-take, nat_le, false, sym}
-use Rattle.std.specs.List.{flat_map}
-use Rattle.std.proofs.lemmas.List.{length-map}
-use Rattle.std.proofs.lemmas.Bool.Decides.{nat_tests}
-use Rattle.httparse.specs.Grammar.{RequestHead, Field, lf, print_end, print_field, print_request, ReadsRequest}
-use Rattle.httparse.specs.Borrowed.{HoldsSomeRequest}
-use Rattle.httparse.specs.Spans.{RequestOverflows, RequestExceeds}
-use Rattle.httparse.specs.declared.borrowed.Request.{Request}
-use Rattle.hub_http.specs.declared.TheConstants.{HEAD_LIMIT, FIELD_LIMIT}
+use Rattle.std.proofs.Common.{◌≡◌, ℕ, ◌+◌, ◌<◌, ◌≤◌, List, [], ◌∷◌, ◌++◌, length, drop, Err, refl, ap, ◌∙◌, subst, inl, arith, append-nil, length-append}
+use Rattle.std.{proofs.{Common.{length-take, nat_le, false, sym}, lemmas.{Bool.Decides.nat_tests, List.length-map}}, specs.List.flat_map}
+use Rattle.httparse.specs.{Borrowed.HoldsSomeRequest, Grammar.{RequestHead, Field, lf, print_end, print_field, print_request, ReadsRequest}}
+use Rattle.{httparse.specs.{Spans.{RequestOverflows, RequestExceeds}, declared.borrowed.Request.Request}, hub_http.specs.Wire.{Asked, Wire, AsksByHead}}
+use Rattle.hub_http.specs.{Wire.{asked_by, window, fields_of}, declared.{TheConstants.{HEAD_LIMIT, FIELD_LIMIT}, wire.Arrival.{Arrival, TheVariants.Wants}}}
+use Rattle.hub_http.specs.{declared.wire.Arrival.TheVariants.{Asks, Refused}, inner.Arrivals.{Stands, Arrives}}
 use Rattle.hub_http.specs.declared.wire_fault.WireFault.TheVariants as fault
-use Rattle.hub_http.specs.declared.wire.Arrival.{Arrival}
-use Rattle.hub_http.specs.declared.wire.Arrival.TheVariants.{Wants, Asks, Refused}
-use Rattle.hub_http.specs.Wire.{Asked, Wire, AsksByHead, asked_by, window, fields_of}
-use Rattle.hub_http.specs.inner.Arrivals.{Stands, Arrives}
 
 module _ (bytes : List ℕ) (asked : Asked) (by_head : AsksByHead bytes asked) where
   is_wire : (other : Asked) → asked ≡ other → Wire bytes other

@@ -1,6 +1,5 @@
 -- A message is the sum of what is put for it.
-use Rattle.std.proofs.Common.{◌≡◌, ℕ, List, [], ◌∷◌, ◌++◌, length, decimal, codes, refl, sym, ap, ◌∙◌, append_assoc}
-use Rattle.hub_http.specs.Replies.{message, challenge}
+use Rattle.{std.proofs.Common.{◌≡◌, ℕ, List, ◌++◌, length, decimal, codes, sym, ap, ◌∙◌, append_assoc}, hub_http.specs.Replies.{message, challenge}}
 use Rattle.hub_http.specs.inner.Messages.{reason_text, status_line, fields}
 
 three : (a b c d : List ℕ) → ((a ++ b) ++ c) ++ d ≡ a ++ (b ++ (c ++ d))

@@ -1,18 +1,10 @@
 -- Reading a number.
-use Rattle.std.proofs.Common.{◌+◌, ◌-◌, ◌*◌, ◌≤◌, min, take, ◌≡◌, ℕ, ◌<◌, ◌^◌, List, length, true, false, ◌&&◌, Result, Ok, Err, refl, rules, arith, nat_lt, get_or, sym, if◌then◌else◌}
-use Rattle.std.specs.List.{list_all}
-use Rattle.std.specs.Char.{is_ascii_digit, digit_value}
-use Rattle.std.specs.Result.{OkIff}
-use Rattle.std.specs.Str.Parse.{digits_value, ParsesUnsigned}
-use Rattle.std.proofs.lemmas.Bool.Decides.{nat_tests}
-use Rattle.std.proofs.lemmas.Int.Digits.{digits_value_more}
-use Rattle.std.proofs.lemmas.Str.Parse.{digit_at, IsNumeralModel, numerals_by_value, parse_digits}
-use Rattle.std.proofs.lemmas.Grind.{common_steps}
-use Rattle.hub_http.specs.declared.TheConstants.{BODY_LIMIT}
-use Rattle.hub_http.specs.Spelling.{is_numeral, number}
+use Rattle.std.proofs.Common.{◌+◌, ◌-◌, ◌*◌, ◌≤◌, min, take, ◌≡◌, ℕ, ◌<◌, ◌^◌, List, length, true, false, ◌&&◌, Result, Ok, Err, refl, rules, arith, nat_lt}
+use Rattle.std.proofs.{Common.{get_or, sym, if◌then◌else◌}, lemmas.{Bool.Decides.nat_tests, Grind.common_steps, Int.Digits.digits_value_more}}
+use Rattle.std.{proofs.lemmas.Str.Parse.{digit_at, IsNumeralModel, numerals_by_value, parse_digits}, specs.{Char.{is_ascii_digit, digit_value}, List.list_all}}
+use Rattle.std.specs.{Result.OkIff, Str.Parse.{digits_value, ParsesUnsigned}}
 use borrow.Author.Tests.{ltb-true}
-use Rattle.hub_http.specs.declared.request_fault.RequestFault.{RequestFault}
-use Rattle.hub_http.specs.declared.request_fault.RequestFault.TheVariants.{BadBody}
+use Rattle.hub_http.specs.{Spelling.{is_numeral, number}, declared.{TheConstants.BODY_LIMIT, request_fault.RequestFault.{RequestFault, TheVariants.BadBody}}}
 
 own : IsNumeralModel (λ ds. list_all is_ascii_digit ds ≡ true) (digits_value 10)
 own = numerals_by_value _ (search rules)

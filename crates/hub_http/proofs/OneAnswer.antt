@@ -1,11 +1,8 @@
 -- The bytes ask one thing or have one fault, but for the one case with two right faults.
 use Rattle.std.proofs.Common.{◌≡◌, ℕ, ◌<◌, ◌≤◌, ◌⊎◌, List, [], length, drop, Ok, Err, refl, ap, sym, ◌∙◌, subst, inl, inr, arith, append-nil}
-use Rattle.httparse.specs.Grammar.{print_request, HasNoRequest, NeverHasRequest, MayBecomeRequest}
-use Rattle.httparse.proofs.GrammarLemmas.{request_unique}
-use Rattle.hub_http.specs.declared.TheConstants.{HEAD_LIMIT}
+use Rattle.httparse.{proofs.GrammarLemmas.request_unique, specs.Grammar.{print_request, HasNoRequest, NeverHasRequest, MayBecomeRequest}}
+use Rattle.hub_http.specs.{Laws.IsOpenTarget, Wire.{Asked, Wire, AsksByHead, IsHeadless, asked_by, window, fields_of}, declared.TheConstants.HEAD_LIMIT}
 use Rattle.hub_http.specs.declared.wire_fault.WireFault.TheVariants as fault
-use Rattle.hub_http.specs.Wire.{Asked, Wire, AsksByHead, IsHeadless, asked_by, window, fields_of}
-use Rattle.hub_http.specs.Laws.{IsOpenTarget}
 
 never_now : (bytes : List ℕ) → NeverHasRequest bytes → HasNoRequest bytes
 never_now bytes never = subst HasNoRequest (append-nil bytes) (never [])

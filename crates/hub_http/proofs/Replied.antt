@@ -1,13 +1,7 @@
 -- A reply to the request that was read serves the connection.
-use Rattle.std.proofs.Common.{List, ℕ, Option, Result, Ok, Err, inr}
-use Rattle.hub_state.specs.declared.reply.Reply.{Reply}
-use Rattle.hub_state.specs.declared.request.Request.{Request}
-use Rattle.hub.specs.declared.key.Key.{Key}
-use Rattle.hub_http.specs.declared.serve.Served.{Served}
-use Rattle.hub_http.specs.declared.serve.Served.TheVariants.{Answered, WireRefused}
-use Rattle.hub_http.specs.declared.serve.ServeFault.{ServeFault}
-use Rattle.hub_http.specs.declared.serve.ServeFault.TheVariants.{Truncated, ReadFailed, WriteFailed, NoMemory}
-use Rattle.hub_http.specs.Serving.{HasRead, Replies, Serves}
+use Rattle.{std.proofs.Common.{List, ℕ, Option, Result, Ok, Err, inr}, hub_state.specs.declared.{reply.Reply.Reply, request.Request.Request}}
+use Rattle.{hub.specs.declared.key.Key.Key, hub_http.specs.{Serving.{HasRead, Replies, Serves}, declared.serve.ServeFault.{ServeFault, TheVariants.Truncated}}}
+use Rattle.hub_http.specs.declared.serve.{ServeFault.TheVariants.{ReadFailed, WriteFailed, NoMemory}, Served.{Served, TheVariants.{Answered, WireRefused}}}
 
 pub serves_reply : (Does : Key × Request → Reply → Type 0) (Same : Type 0) (asked : Key × Request)
     (before after written now_written : Option (List ℕ)) (result : Result Served ServeFault)

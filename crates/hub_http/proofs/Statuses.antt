@@ -1,9 +1,6 @@
 -- The status of each code is one of HTTP's.
-use Rattle.std.proofs.Common.{arith}
-use Rattle.http.specs.StatusCode.{IsStatusCode}
-use Rattle.circle.specs.Codes.{status_of}
-use Rattle.circle.specs.declared.refusal.Code.{Code}
-use Rattle.circle.specs.declared.refusal.Code.TheVariants.{K1, W1, B1, N1, N2, W2, W3, N3, S1, S2, S3, L1, F1, F2}
+use Rattle.{std.proofs.Common.arith, http.specs.StatusCode.IsStatusCode, circle.specs.{Codes.status_of, declared.refusal.Code.{Code, TheVariants.{K1, W1, B1}}}}
+use Rattle.circle.specs.declared.refusal.Code.TheVariants.{N1, N2, W2, W3, N3, S1, S2, S3, L1, F1, F2}
 
 pub status_known : (code : Code) → IsStatusCode (status_of code)
 status_known K1 = (omega arith, omega arith)

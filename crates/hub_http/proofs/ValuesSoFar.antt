@@ -1,7 +1,5 @@
 -- Parameters, one after another.
-use Rattle.std.proofs.Common.{◌≡◌, ℕ, List, [], ◌∷◌, Option, Some, None, Bor}
-use Rattle.hub_http.specs.declared.fields.Sole.{Sole}
-use Rattle.hub_http.specs.declared.fields.Sole.TheVariants.{Missing, One, Several}
+use Rattle.{std.proofs.Common.{◌≡◌, ℕ, List, [], ◌∷◌, Option, Some, None, Bor}, hub_http.specs.declared.fields.Sole.{Sole, TheVariants.{Missing, One, Several}}}
 
 -- the value found so far, as a list
 abbrev pub held : Option (Bor (List ℕ)) → List (List ℕ)

@@ -1,17 +1,8 @@
 -- The bytes of replies in worlds that are alike for a person.
-use Rattle.std.proofs.Common.{◌≡◌, inl, inr, true, ℤ, sym, ◌∙◌, ap}
-use Rattle.circle.specs.declared.directory.Account.{Account}
-use Rattle.hub_core.specs.State.{State}
-use Rattle.hub_state.specs.declared.reply.Reply.{Reply}
-use Rattle.hub_state.specs.declared.request.Request.{Request}
-use Rattle.hub.specs.Alike.{IsAlike, is_answered_alike}
-use Rattle.hub.specs.Machine.{IsGivenUp, IsStep}
-use Rattle.hub.specs.Replies.{reply_of}
-use Rattle.hub.specs.declared.key.Key.{Key}
-use Rattle.hub.specs.declared.key.Key.TheVariants.{Digest}
-use Rattle.hub.proofs.AnsweredAlike.{answered-alike}
-use Rattle.hub_http.specs.Alike.{IsGivenUpText, IsWrittenAlike}
-use Rattle.hub_http.specs.Replies.{reply_text}
+use Rattle.{std.proofs.Common.{◌≡◌, inl, inr, true, ℤ, sym, ◌∙◌, ap}, circle.specs.declared.directory.Account.Account, hub_core.specs.State.State}
+use Rattle.{hub_state.specs.declared.{reply.Reply.Reply, request.Request.Request}, hub.{proofs.AnsweredAlike.answered-alike, specs.Alike.IsAlike}}
+use Rattle.hub.specs.{Alike.is_answered_alike, Machine.{IsGivenUp, IsStep}, Replies.reply_of, declared.key.Key.{Key, TheVariants.Digest}}
+use Rattle.hub_http.specs.{Alike.{IsGivenUpText, IsWrittenAlike}, Replies.reply_text}
 
 given-up-text : (r : Reply) → IsGivenUp r → IsGivenUpText (reply_text r)
 given-up-text r (inl h) = inl (ap reply_text h)

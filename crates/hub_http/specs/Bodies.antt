@@ -1,5 +1,5 @@
 -- The body of each reply, as a JSON value (RFC 8259). The members of an object are in the byte order of their names.
-use Rattle.std.specs.Prelude.{◌≡◌, ℕ, ℤ, List, [], ◌∷◌, map, false, true, Option, Some, None, unwrap_or, codes}
+use Rattle.std.specs.Prelude.{ℕ, ℤ, List, [], ◌∷◌, map, true, Option, Some, None, unwrap_or, codes}
 use Rattle.serde_json.specs.Data.{Data, null, boolean, number, unsigned, string, array, object, no_members, member}
 use Rattle.serde_json.specs.Find.{of_integer}
 use Rattle.serde_json.specs.View.{items_of}
@@ -13,16 +13,16 @@ use Rattle.policy.specs.Rule.{name_of as rule_name}
 use Rattle.policy.specs.declared.rule.Rule.{Rule}
 use Rattle.policy.specs.declared.gate.Gate.{Gate}
 use Rattle.policy.specs.declared.permission.Grantee.{Grantee}
-use Rattle.policy.specs.declared.permission.Grantee.TheVariants as grantee
 use Rattle.hub_state.specs.declared.reply.Entry.{Entry}
 use Rattle.hub_state.specs.declared.reply.JoinedGroup.{JoinedGroup}
 use Rattle.hub_state.specs.declared.reply.JoinedCommunity.{JoinedCommunity}
 use Rattle.hub_state.specs.declared.reply.SharedPermission.{SharedPermission}
 use Rattle.hub_state.specs.declared.reply.Sharing.{Sharing}
 use Rattle.hub_state.specs.declared.request.Target.{Target}
-use Rattle.hub_state.specs.declared.request.Target.TheVariants as target
 use Rattle.hub_state.specs.declared.reply.View.{View}
 use Rattle.hub_state.specs.declared.reply.Reply.{Reply}
+use Rattle.policy.specs.declared.permission.Grantee.TheVariants as grantee
+use Rattle.hub_state.specs.declared.request.Target.TheVariants as target
 use Rattle.hub_state.specs.declared.reply.Reply.TheVariants as reply
 
 -- ---- parts

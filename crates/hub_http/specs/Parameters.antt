@@ -5,12 +5,12 @@ use Rattle.std.specs.Str.{bytes_eq}
 use Rattle.std.specs.Str.Lossy.{utf8_lossy}
 use Rattle.form_urlencoded.specs.Form.{raw_pairs, decode}
 use Rattle.policy.specs.declared.permission.Grantee.{Grantee}
-use Rattle.policy.specs.declared.permission.Grantee.TheVariants as grantee
 use Rattle.hub_state.specs.declared.request.Target.{Target}
-use Rattle.hub_state.specs.declared.request.Target.TheVariants as target
 use Rattle.hub_http.specs.declared.request_fault.RequestFault.TheVariants.{BadBody}
 use Rattle.hub_http.specs.Outcome.{Read, ◌>>=◌, or_fault, require}
 use Rattle.hub_http.specs.Spelling.{moment, number}
+use Rattle.policy.specs.declared.permission.Grantee.TheVariants as grantee
+use Rattle.hub_state.specs.declared.request.Target.TheVariants as target
 
 -- a name and a value
 abbrev pub Pair : Type 0

@@ -4,9 +4,9 @@ use Rattle.http.specs.StatusCode.{status_text}
 use Rattle.serde_json.specs.Written.{compact_text}
 use Rattle.circle.specs.Codes.{status_of as code_status}
 use Rattle.hub_state.specs.declared.reply.Reply.{Reply}
-use Rattle.hub_state.specs.declared.reply.Reply.TheVariants as reply
 use Rattle.hub_http.specs.Bodies.{body_of, refusal_body}
 use Rattle.hub_http.specs.declared.wire_fault.WireFault.{WireFault}
+use Rattle.hub_state.specs.declared.reply.Reply.TheVariants as reply
 use Rattle.hub_http.specs.declared.wire_fault.WireFault.TheVariants as fault
 
 -- ---- statuses (RFC 9110 section 15)

@@ -1,25 +1,26 @@
 -- The request of a route, from its parameters and its body.
 use Rattle.std.specs.Prelude.{ℕ, List, [], ◌∷◌, length, ◌==◌, if◌then◌else◌, Option, Some, None, unwrap_or, Ok, Err, codes}
 use Rattle.circle.specs.declared.command.CircleCommand.{CircleCommand}
-use Rattle.circle.specs.declared.command.CircleCommand.TheVariants as command
 use Rattle.hub_state.specs.declared.request.Distribution.{Distribution}
 use Rattle.hub_state.specs.declared.request.Request.{Request}
-use Rattle.hub_state.specs.declared.request.Request.TheVariants as request
 use Rattle.hub_http.specs.declared.request_fault.RequestFault.TheVariants.{BadBody}
 use Rattle.hub_http.specs.declared.routes.CircleChange.{CircleChange}
-use Rattle.hub_http.specs.declared.routes.CircleChange.TheVariants as circle
 use Rattle.hub_http.specs.declared.routes.PartChange.{PartChange}
-use Rattle.hub_http.specs.declared.routes.PartChange.TheVariants as part
 use Rattle.hub_http.specs.declared.routes.IncidentChange.{IncidentChange}
-use Rattle.hub_http.specs.declared.routes.IncidentChange.TheVariants as incident
 use Rattle.hub_http.specs.declared.routes.Route.{Route}
-use Rattle.hub_http.specs.declared.routes.Route.TheVariants as route
 use Rattle.hub_http.specs.declared.requests.Place.{Place}
-use Rattle.hub_http.specs.declared.requests.Place.TheVariants as place
 use Rattle.hub_http.specs.Outcome.{Read, ◌>>=◌}
 use Rattle.hub_http.specs.Spelling.{flag, role_named, handling_named, digest, gates}
-use Rattle.hub_http.specs.Parameters.{Pair, pairs_of, values, only, mandatory, optional, mandatory_number, number_or_zero, optional_moment, optional_number, number_alone, grantee_in, target_alone}
+use Rattle.hub_http.specs.Parameters.{Pair, pairs_of, values, only, mandatory, optional, mandatory_number, number_or_zero, optional_moment, optional_number}
+use Rattle.hub_http.specs.Parameters.{number_alone, grantee_in, target_alone}
 use Rattle.hub_http.specs.Routes.{verb_of, path_of, query_of, resource_at, route_at}
+use Rattle.circle.specs.declared.command.CircleCommand.TheVariants as command
+use Rattle.hub_state.specs.declared.request.Request.TheVariants as request
+use Rattle.hub_http.specs.declared.routes.CircleChange.TheVariants as circle
+use Rattle.hub_http.specs.declared.routes.PartChange.TheVariants as part
+use Rattle.hub_http.specs.declared.routes.IncidentChange.TheVariants as incident
+use Rattle.hub_http.specs.declared.routes.Route.TheVariants as route
+use Rattle.hub_http.specs.declared.requests.Place.TheVariants as place
 
 -- ---- the place of the parameters
 

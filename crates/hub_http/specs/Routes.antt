@@ -1,5 +1,6 @@
 -- The route of a method and a target.
-use Rattle.std.specs.Prelude.{ℕ, List, [], ◌∷◌, length, fold, Bool, true, false, ◌==◌, ◌&&◌, nat_lt, if◌then◌else◌, Option, Some, None, is_none, option_map, Result, Ok, Err, codes}
+use Rattle.std.specs.Prelude.{ℕ, List, [], ◌∷◌, length, fold, Bool, true, false, ◌==◌, ◌&&◌, nat_lt, if◌then◌else◌, Option, Some, None, is_none, option_map}
+use Rattle.std.specs.Prelude.{Result, Ok, Err, codes}
 use Rattle.std.specs.List.{before_first, after_first, position_or_len}
 use Rattle.std.specs.Str.{bytes_eq}
 use Rattle.matchit.specs.Rows.{RowsOf}
@@ -10,16 +11,16 @@ use Rattle.matchit.specs.Order.{placed}
 use Rattle.matchit.specs.declared.error.InsertError.{InsertError}
 use Rattle.hub_http.specs.declared.request_fault.RequestFault.TheVariants.{NoRoute}
 use Rattle.hub_http.specs.declared.routes.Verb.{Verb}
+use Rattle.hub_http.specs.declared.routes.Resource.{Resource}
+use Rattle.hub_http.specs.declared.routes.Route.{Route}
+use Rattle.hub_http.specs.Outcome.{Read, ◌>>=◌}
+use Rattle.hub_http.specs.Spelling.{number}
 use Rattle.hub_http.specs.declared.routes.Verb.TheVariants as verb
 use Rattle.hub_http.specs.declared.routes.CircleChange.TheVariants as circle
 use Rattle.hub_http.specs.declared.routes.PartChange.TheVariants as part
 use Rattle.hub_http.specs.declared.routes.IncidentChange.TheVariants as incident
-use Rattle.hub_http.specs.declared.routes.Resource.{Resource}
 use Rattle.hub_http.specs.declared.routes.Resource.TheVariants as resource
-use Rattle.hub_http.specs.declared.routes.Route.{Route}
 use Rattle.hub_http.specs.declared.routes.Route.TheVariants as route
-use Rattle.hub_http.specs.Outcome.{Read, ◌>>=◌}
-use Rattle.hub_http.specs.Spelling.{number}
 
 -- ---- the paths
 

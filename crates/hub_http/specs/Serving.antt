@@ -14,15 +14,15 @@ use Rattle.hub.specs.Serving.{is_made}
 use Rattle.hub.specs.Stops.{IsDueChange}
 use Rattle.hub.specs.declared.key.Key.{Key}
 use Rattle.hub_http.specs.declared.wire_fault.WireFault.{WireFault}
-use Rattle.hub_http.specs.declared.wire_fault.WireFault.TheVariants as fault
 use Rattle.hub_http.specs.declared.serve.Served.{Served}
 use Rattle.hub_http.specs.declared.serve.Served.TheVariants.{Answered, WireRefused}
 use Rattle.hub_http.specs.declared.serve.ServeFault.{ServeFault}
 use Rattle.hub_http.specs.declared.serve.ServeFault.TheVariants.{Truncated, ReadFailed, WriteFailed, NoMemory}
 use Rattle.hub_http.specs.declared.serve.GatherFault.{GatherFault}
-use Rattle.hub_http.specs.declared.serve.GatherFault.TheVariants as gather
 use Rattle.hub_http.specs.Replies.{reply_text, fault_text, fault_status}
 use Rattle.hub_http.specs.Wire.{Asked, Wire}
+use Rattle.hub_http.specs.declared.wire_fault.WireFault.TheVariants as fault
+use Rattle.hub_http.specs.declared.serve.GatherFault.TheVariants as gather
 
 -- ---- what was read
 

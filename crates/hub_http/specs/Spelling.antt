@@ -1,5 +1,6 @@
 -- The values that the texts of parameters spell.
-use Rattle.std.specs.Prelude.{ℕ, ℤ, ◌^◌, List, [], ◌∷◌, length, slice_index, Bool, true, false, ◌&&◌, ◌==◌, nat_lt, if◌then◌else◌, Option, Some, None, Result, Ok, Err, codes}
+use Rattle.std.specs.Prelude.{ℕ, ℤ, ◌^◌, List, [], ◌∷◌, length, slice_index, Bool, true, false, ◌&&◌, ◌==◌, nat_lt, if◌then◌else◌, Option, Some, None, Result}
+use Rattle.std.specs.Prelude.{Ok, Err, codes}
 use Rattle.std.specs.List.{list_all, before_first, after_first, position_or_len}
 use Rattle.std.specs.Str.{bytes_eq}
 use Rattle.std.specs.Char.{is_ascii_digit}
@@ -8,12 +9,12 @@ use Rattle.hex.specs.Hex.{decode_sized}
 use Rattle.policy.specs.Moment.{moment_in}
 use Rattle.policy.specs.declared.fault.MomentFault.{MomentFault}
 use Rattle.circle.specs.declared.directory.Role.{Role}
-use Rattle.circle.specs.declared.directory.Role.TheVariants as role
 use Rattle.circle.specs.declared.directory.Handling.{Handling}
-use Rattle.circle.specs.declared.directory.Handling.TheVariants as handling
 use Rattle.hub_state.specs.declared.request.WantedGate.{WantedGate}
 use Rattle.hub_http.specs.declared.request_fault.RequestFault.TheVariants.{BadBody}
 use Rattle.hub_http.specs.Outcome.{Read, ◌>>=◌}
+use Rattle.circle.specs.declared.directory.Role.TheVariants as role
+use Rattle.circle.specs.declared.directory.Handling.TheVariants as handling
 
 -- decimal digits without a leading zero
 abbrev pub is_numeral : List ℕ → Bool

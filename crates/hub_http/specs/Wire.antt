@@ -7,13 +7,13 @@ use Rattle.hub.specs.declared.key.Key.{Key}
 use Rattle.hub_state.specs.declared.request.Request.{Request}
 use Rattle.hub_http.specs.declared.TheConstants.{HEAD_LIMIT, FIELD_LIMIT}
 use Rattle.hub_http.specs.declared.wire_fault.WireFault.{WireFault}
-use Rattle.hub_http.specs.declared.wire_fault.WireFault.TheVariants as fault
 use Rattle.hub_http.specs.declared.request_fault.RequestFault.{RequestFault}
-use Rattle.hub_http.specs.declared.request_fault.RequestFault.TheVariants as request_fault
 use Rattle.hub_http.specs.Outcome.{◌>>=◌, require}
 use Rattle.hub_http.specs.Parameters.{Pair}
 use Rattle.hub_http.specs.Fields.{body_length, key_of}
 use Rattle.hub_http.specs.Requests.{request_by}
+use Rattle.hub_http.specs.declared.wire_fault.WireFault.TheVariants as fault
+use Rattle.hub_http.specs.declared.request_fault.RequestFault.TheVariants as request_fault
 
 -- a key and a request, or a fault
 abbrev pub Asked : Type 0

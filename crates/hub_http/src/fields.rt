@@ -1,12 +1,14 @@
 //! The fields of a head: the length of the body, and the caller's key.
-ghost use Rattle.std.specs.Prelude.{◌≡◌, ◌↔◌, ℕ, ◌+◌, ◌<◌, ◌≤◌, List, [], ◌∷◌, length, map, min, drop, IsTrue, Ok, Some, codes, option_copied, IfOk, IfSome, IfErr, ◌≢◌};
+ghost use Rattle.std.specs.Prelude.{◌≡◌, ◌↔◌, ℕ, ◌+◌, ◌<◌, ◌≤◌, List, [], ◌∷◌, length, map, min, drop, IsTrue, Ok, Some, codes, option_copied, IfOk, IfSome};
+ghost use Rattle.std.specs.Prelude.{IfErr, ◌≢◌};
 ghost use Rattle.std.specs.List.{list_all};
 ghost use Rattle.std.specs.Option.{ForSome};
 ghost use Rattle.std.specs.Char.{is_ascii_digit, to_ascii_lowercase};
 ghost use Rattle.std.specs.Str.Parse.{digits_value};
 ghost use Rattle.httparse.specs.Borrowed.{header_parts};
 ghost use Rattle.hub_http.specs.inner.Texts.{IsText};
-ghost use Rattle.hub_http.specs.Fields.{same_name, field_values, is_digits, length_text, declared_length, body_length, is_visible, is_bearer, key_in, key_of, key_shown, lacks};
+ghost use Rattle.hub_http.specs.Fields.{same_name, field_values, is_digits, length_text, declared_length, body_length, is_visible, is_bearer, key_in, key_of};
+ghost use Rattle.hub_http.specs.Fields.{key_shown, lacks};
 ghost use Rattle.hub_http.specs.inner.Texts.{IsSole};
 
 use crate::spelling::has_digits_alone;

@@ -1,8 +1,8 @@
 -- The fault that is printed for a store that isn't opened.
 use Rattle.hub_store.specs.declared.sql_shelf.OpenFault.{OpenFault}
-use Rattle.hub_store.specs.declared.sql_shelf.OpenFault.TheVariants as opening
 use Rattle.hub_service.specs.declared.fault.Fault.{Fault}
 use Rattle.hub_service.specs.declared.fault.Fault.TheVariants.{NotOurs, WrongVersion, Failed, NoMemory}
+use Rattle.hub_store.specs.declared.sql_shelf.OpenFault.TheVariants as opening
 
 -- the fault for a store that isn't opened
 abbrev pub told_of_opening : OpenFault → Fault

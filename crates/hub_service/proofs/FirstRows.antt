@@ -1,9 +1,5 @@
 -- The state of a new store is sound.
-use Rattle.std.proofs.Common.{◌≡◌, ℕ, List, rules, refl}
-use Rattle.iodef_tree.specs.Text.{Bytes}
-use Rattle.hub_core.specs.State.{empty}
-use Rattle.hub_core.specs.Edits.{with_edits}
-use Rattle.hub_core.specs.Sound.{IsSound}
+use Rattle.{std.proofs.Common.{◌≡◌, ℕ, List, rules, refl}, iodef_tree.specs.Text.Bytes, hub_core.specs.{Edits.with_edits, Sound.IsSound, State.empty}}
 use Rattle.hub_service.specs.FirstRows.{first_edits, first_state}
 
 pub first_is_after : (name : Bytes) (key : List ℕ) → with_edits (first_edits name key) empty ≡ first_state name key

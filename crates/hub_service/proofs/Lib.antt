@@ -1,3 +1,2 @@
 pub mod FirstRows
-pub mod Inputs
 pub mod Served

@@ -1,21 +1,10 @@
 -- One connection after another is one run.
-use Rattle.std.proofs.Common.{◌≡◌, inl, inr, ℕ, ◌+◌, ℤ, List, [], ◌∷◌, ◌++◌, Option, Result, Ok, Err, refl, sym, subst, arith}
-use Rattle.std.proofs.lemmas.List.{length-append}
-use Rattle.hub_core.specs.State.{State}
-use Rattle.hub_state.specs.declared.reply.Reply.{Reply}
-use Rattle.hub_state.specs.declared.request.Request.{Request}
-use Rattle.hub.specs.Machine.{Asked, IsRun}
-use Rattle.hub.specs.declared.key.Key.{Key}
-use Rattle.hub.proofs.Leaving.{in_turn_left, left_in_turn}
-use Rattle.hub.proofs.Runs.{runs_sound}
-use Rattle.hub.proofs.Stopped.{left_behind_one, left_joined, left_more}
-use Rattle.hub.specs.inner.InTurn.{MayBeLeftInTurn}
-use Rattle.hub_http.specs.Serving.{Steps, Serves, MayHaveAnswered}
-use Rattle.hub_http.specs.declared.serve.Served.{Served}
-use Rattle.hub_http.specs.declared.serve.Served.TheVariants.{Answered, WireRefused}
-use Rattle.hub_http.specs.declared.serve.ServeFault.{ServeFault}
-use Rattle.hub_http.specs.declared.serve.ServeFault.TheVariants.{Truncated, ReadFailed, WriteFailed, NoMemory}
-use Rattle.hub_service.specs.Serving.{HasRun}
+use Rattle.std.proofs.{Common.{◌≡◌, inl, inr, ℕ, ◌+◌, ℤ, List, [], ◌∷◌, ◌++◌, Option, Result, Ok, Err, refl, sym, subst, arith}, lemmas.List.length-append}
+use Rattle.{hub_core.specs.State.State, hub_state.specs.declared.{reply.Reply.Reply, request.Request.Request}, hub.proofs.Leaving.{in_turn_left, left_in_turn}}
+use Rattle.hub.{proofs.{Runs.runs_sound, Stopped.{left_behind_one, left_joined, left_more}}, specs.{Machine.{Asked, IsRun}, declared.key.Key.Key}}
+use Rattle.{hub.specs.inner.InTurn.MayBeLeftInTurn, hub_http.specs.{Serving.{Steps, Serves, MayHaveAnswered}, declared.serve.ServeFault.ServeFault}}
+use Rattle.hub_http.specs.declared.serve.{ServeFault.TheVariants.{Truncated, ReadFailed, WriteFailed, NoMemory}, Served.{Served, TheVariants.Answered}}
+use Rattle.{hub_http.specs.declared.serve.Served.TheVariants.WireRefused, hub_service.specs.Serving.HasRun}
 
 -- nothing was asked
 pub none_asked : {D : Type 0} (has : D → State → Type 0) (may_remain : D → Option State → Type 0) (old new : D) (most : ℕ) → new ≡ old → HasRun has may_remain old new most

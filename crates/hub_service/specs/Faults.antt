@@ -3,12 +3,13 @@
 use Rattle.std.specs.Prelude.{Option, None, Some, codes}
 use Rattle.iodef_tree.specs.Text.{Bytes}
 use Rattle.hub_state.specs.declared.shelf.ShelfFault.{ShelfFault}
-use Rattle.hub_state.specs.declared.shelf.ShelfFault.TheVariants as shelf
 use Rattle.hub_service.specs.declared.fault.Fault.{Fault}
-use Rattle.hub_service.specs.declared.fault.Fault.TheVariants.{BadArgument, NotOurs, WrongVersion, Failed, FileFailed, ListenFailed, ReadFailed, WriteFailed, NoMemory}
+use Rattle.hub_service.specs.declared.fault.Fault.TheVariants.{BadArgument, NotOurs, WrongVersion, Failed, FileFailed, ListenFailed, ReadFailed, WriteFailed}
+use Rattle.hub_service.specs.declared.fault.Fault.TheVariants.{NoMemory}
 use Rattle.hub_service.specs.declared.fault.Reason.{Reason}
 use Rattle.hub_service.specs.declared.fault.Reason.TheVariants.{NoSuchFile, NoPermission, SecondName, Locked, DiskFull}
 use Rattle.hub_service.specs.declared.status.Status.{Status}
+use Rattle.hub_state.specs.declared.shelf.ShelfFault.TheVariants as shelf
 use Rattle.hub_service.specs.declared.status.Status.TheVariants as status
 
 -- the name of a fault, as it is printed

@@ -1,7 +1,6 @@
 -- What a new store holds: one organisation and its administrator.
 use Rattle.std.specs.Prelude.{ℕ, List, [], ◌∷◌, true, false, codes}
 use Rattle.iodef_tree.specs.Text.{Bytes}
-use Rattle.circle.specs.Directory as circle
 use Rattle.circle.specs.declared.directory.Org.{Org}
 use Rattle.circle.specs.declared.directory.Account.{Account}
 use Rattle.circle.specs.declared.directory.Role.TheVariants.{Administrator}
@@ -9,6 +8,7 @@ use Rattle.circle.specs.declared.command.RowEdit.TheVariants.{PutOrg, PutAccount
 use Rattle.hub_core.specs.State.{State, empty}
 use Rattle.hub_state.specs.declared.edit.Edit.{Edit}
 use Rattle.hub_state.specs.declared.edit.Edit.TheVariants.{Directory}
+use Rattle.circle.specs.Directory as circle
 
 -- organisation 1, with this name
 abbrev pub first_org : Bytes → Org

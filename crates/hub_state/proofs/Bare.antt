@@ -1,18 +1,10 @@
 -- A state without its documents: what is read of it, and what edits make of it.
-use Rattle.std.proofs.Common.{◌≡◌, ◌≢◌, ℕ, ◌==◌, ◌&&◌, not, Bool, true, false, if◌then◌else◌, List, [], ◌∷◌, filter, map, length, take, Option, Some, None, refl, sym, ap, ◌∙◌, subst}
-use Rattle.std.specs.Prelude.{suc, option_map, nat_lt, find}
-use Rattle.std.specs.Str.{bytes_eq}
-use Rattle.std.specs.Ordering.{is_lt}
-use Rattle.std.specs.declared.cmp.Ordering.{Ordering}
-use Rattle.iodef_tree.specs.Text.{Bytes}
-use Rattle.circle.specs.Ordered.{put_by, by_number}
-use Rattle.circle.specs.Sound.{Differ, Each}
-use Rattle.hub_state.specs.State.{State, incident_in, incident_of, incident_named, incident_number}
-use Rattle.hub_state.specs.Edits.{edited, with_edits}
-use Rattle.hub_state.specs.Reads.{naming_of, sharing_of, shared_as, case_of, case_for, entry_of, incidents_above, entries_after}
-use Rattle.hub_state.specs.Bare.{bare, bare_incident, bare_edit, kept_edit}
+use Rattle.std.proofs.Common.{◌≡◌, ◌≢◌, ℕ, ◌==◌, ◌&&◌, not, Bool, true, false, if◌then◌else◌, List, [], ◌∷◌, filter, map, length, take, Option, Some, None}
+use Rattle.std.{proofs.Common.{refl, sym, ap, ◌∙◌, subst}, specs.{Ordering.is_lt, Prelude.{suc, option_map, nat_lt, find}, Str.bytes_eq}}
+use Rattle.{iodef_tree.specs.Text.Bytes, circle.specs.{Ordered.{put_by, by_number}, Sound.{Differ, Each}}, hub_state.specs.Bare.{bare, bare_incident}}
+use Rattle.hub_state.specs.{Bare.{bare_edit, kept_edit}, Edits.{edited, with_edits}, Reads.{naming_of, sharing_of, shared_as, case_of, case_for, entry_of}}
+use Rattle.hub_state.specs.{Reads.{incidents_above, entries_after}, State.{State, incident_of, incident_named, incident_number}, declared.edit.Edit.Edit}
 use Rattle.hub_state.specs.declared.state.Incident.{Incident}
-use Rattle.hub_state.specs.declared.edit.Edit.{Edit}
 use Rattle.hub_state.specs.declared.edit.Edit.TheVariants as edit
 
 -- ---- lists of what is made of the elements

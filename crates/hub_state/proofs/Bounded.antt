@@ -1,31 +1,17 @@
 -- In a sound state no incident has more rows than a u32 can count.
 use Rattle.std.proofs.Common.{◌≡◌, ℕ, ◌+◌, ◌-◌, ◌^◌, ◌≤◌, ◌==◌, ◌&&◌, ◌||◌, Bool, true, false, not, List, filter, length, Option, refl, ap, ◌∙◌, subst, arith}
-use Rattle.std.proofs.lemmas.Bool.{and_left, eqb-true, eq-eqb, false_from_ne_true}
-use Rattle.std.specs.Prelude.{ℤ, min, IsTrue}
-use Rattle.std.specs.List.{list_any}
-use Rattle.iodef_tree.specs.Text.{Tokens, is_root}
-use Rattle.policy.specs.declared.gate.Gate.{Gate as CaseGate}
-use Rattle.policy.specs.declared.permission.Permission.{Permission as CasePermission}
-use Rattle.circle.specs.Ordered.{put_by}
-use Rattle.circle.specs.Sound.{Each}
-use Rattle.circle.proofs.Keeping.{each_weaker, found_then}
-use Rattle.hub_state.specs.declared.TheConstants.{GATE_LIMIT, RECIPIENT_LIMIT, PERMISSION_LIMIT}
-use Rattle.hub_state.specs.Documents.{is_class_in}
-use Rattle.hub_state.specs.Edits.{edited}
-use Rattle.hub_state.specs.inner.Questions.{class_gates_among, class_gates_with, targets_beside, permissions_beside}
-use Rattle.hub_state.specs.Reads.{its_gates, its_permissions, its_recipients}
-use Rattle.hub_state.specs.Sound.{IsSound, IsIncident}
-use Rattle.hub_state.specs.State.{State, gate_cmp, recipient_cmp, permission_cmp, gate_with, permission_with, incident_in, of_incident, is_gate_at, is_recipient_being, is_permission_being, class_gates, recipients_of, permissions_of}
+use Rattle.std.{proofs.lemmas.Bool.{and_left, eqb-true, eq-eqb, false_from_ne_true}, specs.{List.list_any, Prelude.{ℤ, min, IsTrue}}}
+use Rattle.{iodef_tree.specs.Text.{Tokens, is_root}, policy.specs.declared.{gate.Gate.Gate as CaseGate, permission.Permission.Permission as CasePermission}}
+use Rattle.{circle.{proofs.Keeping.{each_weaker, found_then}, specs.{Ordered.put_by, Sound.Each}}, hub_state.proofs.Counted.{gates_counted, gates_exchanged}}
+use Rattle.hub_state.proofs.{Counted.{recipients_counted, recipients_left, permissions_counted, permissions_left}, Keeping.{never, found_any, found_passing}}
+use Rattle.hub_state.{proofs.Keeping.{count_left, count_next, count_more, count_none, at_most, some_is}, specs.{Documents.is_class_in, Edits.edited}}
+use Rattle.hub_state.specs.{Reads.{its_gates, its_permissions, its_recipients}, Sound.{IsSound, IsIncident}, State.{State, gate_cmp, recipient_cmp}}
+use Rattle.hub_state.specs.State.{permission_cmp, gate_with, permission_with, incident_in, of_incident, is_gate_at, is_recipient_being, is_permission_being}
+use Rattle.hub_state.specs.{State.{class_gates, recipients_of, permissions_of}, declared.TheConstants.{GATE_LIMIT, RECIPIENT_LIMIT, PERMISSION_LIMIT}}
+use Rattle.hub_state.specs.declared.{request.Target.Target, state.{Gate.Gate, GateKey.GateKey, Incident.Incident, Permission.Permission}}
+use Rattle.hub_state.specs.{declared.state.{PermissionKey.PermissionKey, Recipient.Recipient}, inner.Questions.{class_gates_among, class_gates_with}}
+use Rattle.hub_state.specs.inner.Questions.{targets_beside, permissions_beside}
 use Rattle.hub_state.specs.declared.edit.Edit.TheVariants as edit
-use Rattle.hub_state.specs.declared.request.Target.{Target}
-use Rattle.hub_state.specs.declared.state.Gate.{Gate}
-use Rattle.hub_state.specs.declared.state.GateKey.{GateKey}
-use Rattle.hub_state.specs.declared.state.Incident.{Incident}
-use Rattle.hub_state.specs.declared.state.Permission.{Permission}
-use Rattle.hub_state.specs.declared.state.PermissionKey.{PermissionKey}
-use Rattle.hub_state.specs.declared.state.Recipient.{Recipient}
-use Rattle.hub_state.proofs.Counted.{gates_counted, gates_exchanged, recipients_counted, recipients_left, permissions_counted, permissions_left}
-use Rattle.hub_state.proofs.Keeping.{never, found_any, found_passing, count_left, count_next, count_more, count_none, at_most, some_is}
 
 -- ---- rows belong to an incident that is there
 

@@ -1,34 +1,17 @@
 -- A test or count on the rows of one incident is a test or count on all rows of the state.
-use Rattle.std.proofs.Common.{◌≡◌, ℕ, ◌+◌, ◌==◌, ◌&&◌, ◌||◌, Bool, true, false, not, List, [], ◌∷◌, filter, map, length, if◌then◌else◌, Option, Some, None, refl, sym, ap, ◌∙◌, arith}
-use Rattle.std.specs.Prelude.{ℤ, count_by}
-use Rattle.std.specs.List.{list_any}
-use Rattle.std.proofs.lemmas.Bool.{eq-eqb}
-use Rattle.std.proofs.lemmas.List.{length-map}
-use Rattle.std.proofs.lemmas.List.Sums.{length-filter}
-use Rattle.std.specs.Option.{option_map_or}
-use Rattle.iodef_tree.specs.Pointer.{pointer_tokens}
-use Rattle.iodef_tree.specs.Text.{Bytes, Tokens, same_path, is_root}
-use Rattle.policy.specs.declared.gate.Gate.{Gate as CaseGate}
-use Rattle.policy.specs.declared.permission.Grantee.{Grantee}
-use Rattle.policy.specs.declared.permission.Permission.{Permission as CasePermission}
-use Rattle.redact.proofs.Counts.{count_by-cons}
-use Rattle.circle.specs.Ordered.{put_by}
-use Rattle.circle.proofs.Lookup.{any_having}
-use Rattle.hub_state.specs.Documents.{at_pointer}
-use Rattle.hub_state.specs.Facts.{stands_in}
-use Rattle.hub_state.specs.inner.Questions.{is_gate_among, is_target_among, is_permission_among, is_permission_among_until, is_permission_of, class_gates_among, class_gates_with, targets_beside, permissions_beside}
-use Rattle.hub_state.specs.Reads.{its_gates, its_permissions, its_recipients}
-use Rattle.hub_state.specs.State.{State, gate_cmp, gate_with, is_gate_at, is_permission_being, is_recipient_being, same_end, same_group, same_target, has_gate, has_recipient, has_permission, has_permission_until, class_gates, recipients_of, permissions_of}
-use Rattle.hub_state.specs.declared.request.Grant.{Grant}
-use Rattle.hub_state.specs.declared.request.Redistribute.{Redistribute}
+use Rattle.std.proofs.Common.{◌≡◌, ℕ, ◌+◌, ◌==◌, ◌&&◌, ◌||◌, Bool, true, false, not, List, [], ◌∷◌, filter, map, length, if◌then◌else◌, Option, Some, None}
+use Rattle.std.{proofs.{Common.{refl, sym, ap, ◌∙◌, arith}, lemmas.{Bool.eq-eqb, List.{length-map, Sums.length-filter}}}, specs.List.list_any}
+use Rattle.{std.specs.{Option.option_map_or, Prelude.{ℤ, count_by}}, iodef_tree.specs.{Pointer.pointer_tokens, Text.{Bytes, Tokens, same_path, is_root}}}
+use Rattle.policy.specs.declared.{gate.Gate.Gate as CaseGate, permission.{Grantee.Grantee, Permission.Permission as CasePermission}}
+use Rattle.{redact.proofs.Counts.count_by-cons, circle.{proofs.Lookup.any_having, specs.Ordered.put_by}, hub_state.proofs.{Indexing.and_and, Keeping.count_put}}
+use Rattle.hub_state.{proofs.Keeping.any_map, specs.{Documents.at_pointer, Facts.stands_in, Reads.{its_gates, its_permissions, its_recipients}, State.State}}
+use Rattle.hub_state.specs.State.{gate_cmp, gate_with, is_gate_at, is_permission_being, is_recipient_being, same_end, same_group, same_target, has_gate}
+use Rattle.hub_state.specs.State.{has_recipient, has_permission, has_permission_until, class_gates, recipients_of, permissions_of}
+use Rattle.hub_state.specs.declared.{request.{Grant.Grant, Redistribute.Redistribute, Target.Target, Withdraw.Withdraw}, state.Gate.Gate}
+use Rattle.hub_state.specs.{declared.state.{Permission.Permission, Recipient.Recipient}, inner.Questions.{is_gate_among, is_target_among, is_permission_among}}
+use Rattle.hub_state.specs.inner.Questions.{is_permission_among_until, is_permission_of, class_gates_among, class_gates_with, targets_beside}
+use Rattle.hub_state.specs.inner.Questions.{permissions_beside}
 use Rattle.hub_state.specs.declared.request.Request.TheVariants as ask
-use Rattle.hub_state.specs.declared.request.Target.{Target}
-use Rattle.hub_state.specs.declared.request.Withdraw.{Withdraw}
-use Rattle.hub_state.specs.declared.state.Gate.{Gate}
-use Rattle.hub_state.specs.declared.state.Permission.{Permission}
-use Rattle.hub_state.specs.declared.state.Recipient.{Recipient}
-use Rattle.hub_state.proofs.Indexing.{and_and}
-use Rattle.hub_state.proofs.Keeping.{count_put, any_map}
 
 -- two tests that agree give the same result
 pub any_same : {X : Type 0} (p q : X → Bool) (xs : List X) → ((x : X) → p x ≡ q x) → list_any p xs ≡ list_any q xs

@@ -1,28 +1,11 @@
 -- An incident found by its name, and the incidents above a number.
-use Rattle.std.proofs.Common.{◌≡◌, ◌≢◌, ℕ, ◌==◌, ◌&&◌, ◌||◌, Bool, true, false, not, List, [], ◌∷◌, filter, if◌then◌else◌, Option, Some, None, refl, sym, ap, ◌∙◌, arith}
-use Rattle.std.specs.Prelude.{option_map}
-use Rattle.std.specs.List.{list_any, find}
-use Rattle.hub_state.proofs.Indexing.{equal_then}
-use Rattle.hub_state.proofs.Ranked.{partitioned, gone_before}
-use Rattle.std.specs.Prelude.{nat_le, nat_lt, is_some, drop, length}
-use Rattle.std.specs.Str.{bytes_eq}
-use Rattle.std.specs.Ordering.{is_lt, nat_cmp}
-use Rattle.std.specs.Cmp.Lexicographic.{slice_cmp}
-use Rattle.std.specs.List.Sorted.{IsPartitionPoint, IsPartitionedBy}
-use Rattle.std.proofs.lemmas.Bool.{eqb-true, eq-eqb}
-use Rattle.std.proofs.lemmas.Bool.Decides.{nat_tests}
-use Rattle.std.proofs.lemmas.List.Elements.{filter_agree}
-use Rattle.std.proofs.lemmas.Map.Text.{is_eq-slice_cmp}
-use Rattle.std.proofs.lemmas.Slice.Eq.{bytes_eq-Decides}
-use Rattle.std.proofs.Common.{◌≤◌, true≢false}
-use Rattle.circle.specs.Sound.{Each, Differ}
-use Rattle.iodef_tree.specs.Text.{Bytes}
-use Rattle.hub_state.specs.InOrder.{IsInOrder, is_alike}
-use Rattle.hub_state.specs.Lists.{IsIndexOf}
-use Rattle.hub_state.specs.Orders.{incident_cmp, named_cmp}
-use Rattle.hub_state.specs.State.{incident_number}
-use Rattle.hub_state.specs.declared.state.Incident.{Incident}
-use Rattle.hub_state.specs.declared.rows.Named.{Named}
+use Rattle.std.proofs.Common.{◌≡◌, ◌≢◌, ℕ, ◌==◌, ◌&&◌, ◌||◌, Bool, true, false, not, List, [], ◌∷◌, filter, if◌then◌else◌, Option, Some, None, refl, sym, ap}
+use Rattle.std.proofs.{Common.{◌∙◌, arith, ◌≤◌, true≢false}, lemmas.{Bool.{eqb-true, eq-eqb, Decides.nat_tests}, List.Elements.filter_agree}}
+use Rattle.std.{proofs.lemmas.{Map.Text.is_eq-slice_cmp, Slice.Eq.bytes_eq-Decides}, specs.{Cmp.Lexicographic.slice_cmp, List.{list_any, find}}}
+use Rattle.std.specs.{List.Sorted.{IsPartitionPoint, IsPartitionedBy}, Ordering.{is_lt, nat_cmp}, Prelude.{option_map, nat_le, nat_lt, is_some, drop, length}}
+use Rattle.{std.specs.Str.bytes_eq, circle.specs.Sound.{Each, Differ}, iodef_tree.specs.Text.Bytes, hub_state.proofs.{Indexing.equal_then, Ranked.partitioned}}
+use Rattle.hub_state.{proofs.Ranked.gone_before, specs.{InOrder.{IsInOrder, is_alike}, Lists.IsIndexOf, Orders.{incident_cmp, named_cmp}}}
+use Rattle.hub_state.specs.{State.incident_number, declared.{rows.Named.Named, state.Incident.Incident}}
 
 -- ---- an incident by its name
 

@@ -1,20 +1,9 @@
 -- Rows have different keys, and the index of the incidents.
 use Rattle.std.proofs.Common.{◌≡◌, ℕ, ◌==◌, ◌&&◌, ◌||◌, Bool, true, false, not, List, [], ◌∷◌, filter, if◌then◌else◌, refl, sym, ap, ◌∙◌, arith}
-use Rattle.std.specs.declared.cmp.Ordering.{Ordering}
-use Rattle.std.specs.Ordering.{is_lt, is_eq, nat_cmp, ordering_then}
-use Rattle.std.specs.List.{list_any}
-use Rattle.std.specs.Str.{bytes_eq}
-use Rattle.std.proofs.lemmas.Bool.Decides.{Decides-like, same_from_decides, nat_tests}
-use Rattle.std.proofs.lemmas.Slice.Eq.{bytes_eq-Decides, slice_eq-Decides}
-use Rattle.iodef_tree.specs.Text.{Tokens, same_path}
-use Rattle.iodef_tree.specs.Pointer.{pointer_text}
-use Rattle.circle.specs.Ordered.{put_by}
-use Rattle.circle.proofs.Lookup.{any_having}
-use Rattle.hub_state.specs.Lists.{IsIndexOf}
-use Rattle.hub_state.specs.Orders.{incident_cmp, named_cmp, named}
-use Rattle.hub_state.specs.declared.state.Incident.{Incident}
-use Rattle.hub_state.specs.declared.rows.Named.{Named}
-use Rattle.hub_state.proofs.Keys.{one_path}
+use Rattle.std.{proofs.lemmas.{Bool.Decides.{Decides-like, same_from_decides, nat_tests}, Slice.Eq.{bytes_eq-Decides, slice_eq-Decides}}, specs.List.list_any}
+use Rattle.{std.specs.{Ordering.{is_lt, is_eq, nat_cmp, ordering_then}, Str.bytes_eq, declared.cmp.Ordering.Ordering}, iodef_tree.specs.Pointer.pointer_text}
+use Rattle.{iodef_tree.specs.Text.{Tokens, same_path}, circle.{proofs.Lookup.any_having, specs.Ordered.put_by}, hub_state.proofs.Keys.one_path}
+use Rattle.hub_state.specs.{Lists.IsIndexOf, Orders.{incident_cmp, named_cmp, named}, declared.{rows.Named.Named, state.Incident.Incident}}
 
 -- ---- the index
 

@@ -1,16 +1,8 @@
 -- Rows put and taken: what is found, filtered and counted afterwards.
-use Rattle.std.proofs.Common.{◌≡◌, ℕ, ◌+◌, ◌≤◌, ◌<◌, ◌==◌, ◌||◌, not, Bool, true, false, if◌then◌else◌, List, [], ◌∷◌, filter, Option, Some, None, refl, sym, ap, ◌∙◌, subst, arith, map}
-use Rattle.std.proofs.lemmas.Bool.{both_ways, false_from_ne_true, false≢true}
-use Rattle.std.specs.Prelude.{count_by, find, is_some}
-use Rattle.std.specs.List.{list_any, list_all}
-use Rattle.std.specs.Option.{option_map_or}
-use Rattle.std.specs.Ordering.{is_lt}
-use Rattle.std.specs.declared.cmp.Ordering.{Ordering}
-use Rattle.std.proofs.lemmas.Bool.Decides.{nat_tests}
-use Rattle.redact.proofs.Counts.{count_by-cons}
-use Rattle.circle.specs.Ordered.{put_by}
-use Rattle.circle.specs.Sound.{CountsFrom, Each}
-use Rattle.circle.proofs.Keeping.{each_weaker}
+use Rattle.std.proofs.Common.{◌≡◌, ℕ, ◌+◌, ◌≤◌, ◌<◌, ◌==◌, ◌||◌, not, Bool, true, false, if◌then◌else◌, List, [], ◌∷◌, filter, Option, Some, None, refl, sym}
+use Rattle.std.{proofs.{Common.{ap, ◌∙◌, subst, arith, map}, lemmas.Bool.{both_ways, false_from_ne_true, false≢true, Decides.nat_tests}}, specs.List.list_any}
+use Rattle.std.specs.{List.list_all, Option.option_map_or, Ordering.is_lt, Prelude.{count_by, find, is_some}, declared.cmp.Ordering.Ordering}
+use Rattle.{redact.proofs.Counts.count_by-cons, circle.{proofs.Keeping.each_weaker, specs.{Ordered.put_by, Sound.{CountsFrom, Each}}}}
 
 -- a test of what is made of the elements
 pub any_map : {X Y : Type 0} (test : Y → Bool) (f : X → Y) (xs : List X) → list_any test (map f xs) ≡ list_any (λ x. test (f x)) xs

@@ -1,22 +1,11 @@
 -- Only rows with equal keys compare as equal.
-use Rattle.std.proofs.Common.{◌≡◌, ◌≢◌, ℕ, ◌==◌, ◌&&◌, Bool, true, false, Some, refl, sym, ap, ◌∙◌, arith}
-use Rattle.std.specs.Ordering.{is_eq, nat_cmp, ordering_then}
-use Rattle.std.specs.declared.cmp.Ordering.{Ordering}
-use Rattle.std.specs.declared.cmp.Ordering.TheVariants.{Less, Equal, Greater}
-use Rattle.std.specs.Cmp.Lexicographic.{slice_cmp}
-use Rattle.std.specs.Str.{bytes_eq}
-use Rattle.std.proofs.lemmas.Map.Text.{is_eq-slice_cmp}
-use Rattle.std.proofs.lemmas.Bool.Decides.{nat_tests}
-use Rattle.iodef_tree.specs.Text.{Bytes, Tokens, same_path}
-use Rattle.iodef_tree.specs.Pointer.{pointer_text, pointer_tokens}
-use Rattle.iodef_tree.proofs.Order.{bytes_eq-refl, bytes_eq-true, same_path-refl}
-use Rattle.iodef_tree.proofs.Inverse.{pointer_tokens-pointer_text}
-use Rattle.circle.specs.Ordered.{pair_cmp}
-use Rattle.hub_state.specs.State.{path_cmp, recipient_cmp, permission_cmp, permission_key, target_key, grantee_key, same_pair, is_gate_at, is_recipient_being, is_permission_being}
-use Rattle.hub_state.specs.declared.state.Gate.{Gate}
-use Rattle.hub_state.specs.declared.state.GateKey.{GateKey}
-use Rattle.hub_state.specs.declared.state.Recipient.{Recipient}
-use Rattle.hub_state.specs.declared.state.Permission.{Permission}
+use Rattle.std.proofs.{Common.{◌≡◌, ◌≢◌, ℕ, ◌==◌, ◌&&◌, Bool, true, false, Some, refl, sym, ap, ◌∙◌, arith}, lemmas.Bool.Decides.nat_tests}
+use Rattle.std.{proofs.lemmas.Map.Text.is_eq-slice_cmp, specs.{Cmp.Lexicographic.slice_cmp, Ordering.{is_eq, nat_cmp, ordering_then}, Str.bytes_eq}}
+use Rattle.{std.specs.declared.cmp.Ordering.{Ordering, TheVariants.{Less, Equal, Greater}}, iodef_tree.proofs.Inverse.pointer_tokens-pointer_text}
+use Rattle.iodef_tree.{proofs.Order.{bytes_eq-refl, bytes_eq-true, same_path-refl}, specs.{Pointer.{pointer_text, pointer_tokens}, Text.{Bytes, Tokens}}}
+use Rattle.{iodef_tree.specs.Text.same_path, circle.specs.Ordered.pair_cmp, hub_state.specs.State.{path_cmp, recipient_cmp, permission_cmp, permission_key}}
+use Rattle.hub_state.specs.{State.{target_key, grantee_key, same_pair, is_gate_at, is_recipient_being, is_permission_being}, declared.state.Gate.Gate}
+use Rattle.hub_state.specs.declared.state.{GateKey.GateKey, Permission.Permission, Recipient.Recipient}
 
 -- ---- a path is known by its pointer
 

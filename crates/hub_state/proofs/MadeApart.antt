@@ -1,11 +1,6 @@
 -- Edits of the directory and of the other rows can be made apart.
-use Rattle.std.proofs.Common.{◌≡◌, List, [], ◌∷◌, refl, ◌∙◌}
-use Rattle.circle.specs.Directory.{Directory}
-use Rattle.circle.specs.Aftermath.{edited_row, edited_rows}
-use Rattle.hub_state.specs.State.{State}
-use Rattle.hub_state.specs.Edits.{edited, with_edits}
-use Rattle.hub_state.specs.inner.Changes.{directory_edits, row_edits}
-use Rattle.hub_state.specs.declared.edit.Edit.{Edit}
+use Rattle.{std.proofs.Common.{◌≡◌, List, [], ◌∷◌, refl, ◌∙◌}, circle.specs.{Aftermath.{edited_row, edited_rows}, Directory.Directory}}
+use Rattle.hub_state.specs.{Edits.{edited, with_edits}, State.State, declared.edit.Edit.Edit, inner.Changes.{directory_edits, row_edits}}
 use Rattle.hub_state.specs.declared.edit.Edit.TheVariants as edit
 
 -- edits of the other rows don't depend on the directory

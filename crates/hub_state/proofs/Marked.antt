@@ -1,19 +1,8 @@
 -- The markings of an incident that is found are accepted.
-use Rattle.std.proofs.Common.{◌≡◌, ℕ, ◌&&◌, ◌==◌, false, Option, Some, None, refl, sym, ◌∙◌, ap}
-use Rattle.std.specs.Prelude.{is_none, option_map}
-use Rattle.std.specs.Option.{option_map_or}
-use Rattle.iodef_tree.specs.Paths.{located}
-use Rattle.marking.specs.Marks.{first_bad_marking}
-use Rattle.policy.specs.declared.standing.Standing.{Standing}
-use Rattle.policy.specs.declared.case.Case.{Case}
-use Rattle.redact.specs.Wants.{meets}
-use Rattle.redact.specs.declared.want.Want.{Want}
-use Rattle.hub_state.specs.Documents.{Lines}
-use Rattle.hub_state.specs.State.{State, incident_of}
-use Rattle.hub_state.specs.Sound.{IsSound, IsAccepted}
-use Rattle.hub_state.specs.Reads.{meets_marked, met_by_incident}
-use Rattle.hub_state.specs.declared.state.Incident.{Incident}
-use Rattle.hub_state.proofs.Keeping.{found_each}
+use Rattle.std.{proofs.Common.{◌≡◌, ℕ, ◌&&◌, ◌==◌, false, Option, Some, None, refl, sym, ◌∙◌, ap}, specs.{Option.option_map_or, Prelude.{is_none, option_map}}}
+use Rattle.{iodef_tree.specs.Paths.located, marking.specs.Marks.first_bad_marking, policy.specs.declared.{case.Case.Case, standing.Standing.Standing}}
+use Rattle.{redact.specs.{Wants.meets, declared.want.Want.Want}, hub_state.{proofs.Keeping.found_each, specs.{Documents.Lines, Reads.meets_marked}}}
+use Rattle.hub_state.specs.{Reads.met_by_incident, Sound.{IsSound, IsAccepted}, State.{State, incident_of}, declared.state.Incident.Incident}
 
 abbrev pub IsMarked : Option Incident → Type 0
 IsMarked None = Unit {0}

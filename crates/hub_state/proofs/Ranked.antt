@@ -1,21 +1,10 @@
 -- Rows in order: at which place one goes, and how the rows of one owner are found.
-use Rattle.std.proofs.Common.{◌≡◌, ℕ, zero, suc, ◌+◌, ◌-◌, ◌≤◌, ◌<◌, ◌==◌, Bool, true, false, not, List, [], ◌∷◌, ◌++◌, filter, take, drop, length, get_or, if◌then◌else◌, refl, sym, ap, ◌∙◌, subst, arith, true≢false}
-use Rattle.std.specs.Prelude.{nat_lt}
-use Rattle.std.specs.declared.cmp.Ordering.{Ordering}
-use Rattle.std.specs.declared.cmp.Ordering.TheVariants.{Less, Equal, Greater}
-use Rattle.std.specs.Ordering.{is_lt, is_eq, ordering_reverse}
-use Rattle.std.specs.Cmp.{IsTotalOrder}
-use Rattle.std.specs.List.{AllWithin, insert}
-use Rattle.std.specs.List.Sorted.{IsPartitionedBy, IsPartitionPoint}
-use Rattle.std.proofs.lemmas.List.{get_or-drop, drop-drop}
-use Rattle.std.proofs.Common.{length-drop}
-use Rattle.std.proofs.lemmas.Bool.{not-true, not-false}
-use Rattle.std.proofs.lemmas.Bool.Decides.{nat_tests}
-use Rattle.circle.specs.Ordered.{put_by}
-use Rattle.circle.specs.Sound.{Pairwise, Each}
-use Rattle.circle.proofs.Keeping.{each_put, each_weaker, pairs_left}
-use Rattle.circle.proofs.Lookup.{filter_drop, filter_take, put_at}
-use Rattle.hub_state.specs.InOrder.{IsInOrder, IsStretch, is_alike}
+use Rattle.std.proofs.Common.{◌≡◌, ℕ, zero, suc, ◌+◌, ◌-◌, ◌≤◌, ◌<◌, ◌==◌, Bool, true, false, not, List, [], ◌∷◌, ◌++◌, filter, take, drop, length, get_or}
+use Rattle.std.proofs.{Common.{if◌then◌else◌, refl, sym, ap, ◌∙◌, subst, arith, true≢false, length-drop}, lemmas.Bool.{not-true, not-false, Decides.nat_tests}}
+use Rattle.std.{proofs.lemmas.List.{get_or-drop, drop-drop}, specs.{Cmp.IsTotalOrder, List.{AllWithin, insert, Sorted.{IsPartitionedBy, IsPartitionPoint}}}}
+use Rattle.std.specs.{Ordering.{is_lt, is_eq, ordering_reverse}, Prelude.nat_lt, declared.cmp.Ordering.{Ordering, TheVariants.{Less, Equal, Greater}}}
+use Rattle.circle.{proofs.{Keeping.{each_put, each_weaker, pairs_left}, Lookup.{filter_drop, filter_take, put_at}}, specs.{Ordered.put_by, Sound.Pairwise}}
+use Rattle.{circle.specs.Sound.Each, hub_state.specs.InOrder.{IsInOrder, IsStretch, is_alike}}
 
 -- ---- by place
 

@@ -1,30 +1,12 @@
 -- How a standing is made of the results of look-ups.
-use Rattle.std.proofs.Common.{◌≡◌, ℕ, List, ◌==◌, ◌||◌, Bool, filter, Option, None, ap, ◌∙◌}
-use Rattle.std.specs.Prelude.{ℤ, option_map}
-use Rattle.std.specs.List.{list_any}
-use Rattle.std.specs.Option.{option_map_or}
-use Rattle.circle.specs.Directory.{has_membership}
-use Rattle.circle.specs.Reads.{orgs_whose_client}
-use Rattle.circle.specs.declared.directory.Client.{Client}
-use Rattle.circle.specs.declared.directory.Person.{Person}
-use Rattle.marking.specs.declared.label.Handling.{Handling}
-use Rattle.policy.specs.declared.standing.Standing.{Standing}
-use Rattle.circle.proofs.Lookup.{any_having}
-use Rattle.hub_state.specs.Handlings.{handling_in}
-use Rattle.hub_state.specs.inner.Questions.{is_target_among}
-use Rattle.hub_state.specs.KeptReaders.{IsReader}
-use Rattle.hub_state.specs.Reads.{is_client_for, its_recipients, reader_with, shared_as, standing_for, ties_of}
-use Rattle.hub_state.specs.State.{State, has_recipient}
-use Rattle.hub_state.specs.declared.kept_reader.KeptReader.{KeptReader}
-use Rattle.hub_state.specs.declared.look_ups.Reader.{Reader}
-use Rattle.hub_state.specs.declared.look_ups.Shared.{Shared}
-use Rattle.hub_state.specs.declared.look_ups.Ties.{Ties}
-use Rattle.hub_state.specs.declared.request.Target.{Target}
+use Rattle.std.{proofs.Common.{◌≡◌, ℕ, List, ◌==◌, ◌||◌, Bool, filter, Option, None, ap, ◌∙◌}, specs.{List.list_any, Option.option_map_or, Prelude.ℤ}}
+use Rattle.{std.specs.Prelude.option_map, circle.{proofs.Lookup.any_having, specs.{Directory.has_membership, Reads.orgs_whose_client}}}
+use Rattle.{circle.specs.declared.directory.{Client.Client, Person.Person}, marking.specs.declared.label.Handling.Handling}
+use Rattle.{policy.specs.declared.standing.Standing.Standing, hub_state.proofs.{Counted.{any_same, target_among}, Keeping.any_map}}
+use Rattle.hub_state.specs.{Handlings.handling_in, KeptReaders.IsReader, Reads.{is_client_for, its_recipients, reader_with, shared_as, standing_for, ties_of}}
+use Rattle.hub_state.specs.{State.{State, has_recipient}, declared.{kept_reader.KeptReader.KeptReader, look_ups.{Reader.Reader, Shared.Shared, Ties.Ties}}}
+use Rattle.hub_state.specs.{declared.{request.Target.Target, state.{Incident.Incident, Naming.Naming}}, inner.Questions.is_target_among}
 use Rattle.hub_state.specs.declared.request.Target.TheVariants as target
-use Rattle.hub_state.specs.declared.state.Incident.{Incident}
-use Rattle.hub_state.specs.declared.state.Naming.{Naming}
-use Rattle.hub_state.proofs.Counted.{any_same, target_among}
-use Rattle.hub_state.proofs.Keeping.{any_map}
 
 -- one of the organisations whose client it is is the source or a recipient
 client_there : (s : State) (i : Incident) (org : ℕ) →

@@ -1,32 +1,15 @@
 -- The rows that a request leaves, of those that are counted for it.
-use Rattle.std.proofs.Common.{◌≡◌, ℕ, ◌+◌, ◌==◌, ◌&&◌, Bool, true, false, not, List, [], ◌∷◌, ◌++◌, filter, if◌then◌else◌, Option, Some, None, refl, ap, ◌∙◌}
-use Rattle.std.specs.Prelude.{count_by, option_map}
-use Rattle.std.specs.List.{flat_map}
-use Rattle.std.specs.Option.{option_map_or}
-use Rattle.iodef_tree.specs.Text.{Bytes, Tokens}
-use Rattle.iodef_tree.specs.Pointer.{pointer_tokens}
-use Rattle.hub_state.specs.Documents.{Lines, made_at, documents_in}
-use Rattle.hub_state.specs.State.{State, permissions_of, incident_of}
-use Rattle.hub_state.specs.Edits.{with_edits, edited}
-use Rattle.hub_state.specs.Aftermath.{next_row, put_gate, put_gates, put_next, edits_of, put_revised, put_revision}
-use Rattle.hub_state.specs.declared.counts_then.Counts.{Counts}
-use Rattle.hub_state.specs.declared.request.Distribution.{Distribution}
-use Rattle.hub_state.specs.declared.request.WantedGate.{WantedGate}
-use Rattle.hub_state.specs.declared.facts.IncidentFacts.{IncidentFacts}
-use Rattle.hub_state.specs.declared.state.Incident.{Incident}
-use Rattle.hub_state.specs.declared.state.Gate.{Gate}
-use Rattle.hub_state.specs.declared.state.Recipient.{Recipient}
-use Rattle.hub_state.specs.declared.state.Permission.{Permission}
-use Rattle.hub_state.specs.declared.edit.Edit.{Edit}
+use Rattle.std.proofs.Common.{◌≡◌, ℕ, ◌==◌, ◌&&◌, Bool, true, false, not, List, [], ◌∷◌, ◌++◌, filter, if◌then◌else◌, Option, Some, None, refl, ap, ◌∙◌}
+use Rattle.std.{proofs.lemmas.Bool.eqb-true, specs.{List.flat_map, Option.option_map_or, Prelude.{count_by, option_map}}}
+use Rattle.{iodef_tree.specs.{Pointer.pointer_tokens, Text.{Bytes, Tokens}}, circle.specs.declared.directory.Person.Person}
+use Rattle.hub_state.{proofs.{Counted.{count_agree, count_filter}, Keeping.found_is}, specs.Aftermath.{next_row, put_gate, put_gates, put_next, edits_of}}
+use Rattle.hub_state.specs.{Aftermath.{put_revised, put_revision}, Documents.{Lines, made_at, documents_in}, Edits.{with_edits, edited}}
+use Rattle.hub_state.specs.{Requests.incident_facts, State.{State, permissions_of, incident_of}, declared.{counts_then.Counts.Counts, edit.Edit.Edit}}
+use Rattle.hub_state.specs.declared.{edit.Edit.TheVariants.{PutIncident, TakeIncident, TakePolicy}, facts.IncidentFacts.IncidentFacts}
+use Rattle.hub_state.specs.declared.{request.{Distribution.Distribution, Replace.Replace, WantedGate.WantedGate}, state.{Gate.Gate, Incident.Incident}}
+use Rattle.hub_state.specs.declared.state.{Permission.Permission, Recipient.Recipient}
 use Rattle.hub_state.specs.declared.edit.Edit.TheVariants as edit
-use Rattle.hub_state.proofs.Counted.{count_agree, count_filter}
-use Rattle.circle.specs.declared.directory.Person.{Person}
-use Rattle.hub_state.proofs.Keeping.{found_is}
-use Rattle.hub_state.specs.Requests.{incident_facts}
-use Rattle.hub_state.specs.declared.edit.Edit.TheVariants.{PutIncident, TakeIncident, TakePolicy}
-use Rattle.hub_state.specs.declared.request.Replace.{Replace}
 use Rattle.hub_state.specs.declared.request.Request.TheVariants as ask
-use Rattle.std.proofs.lemmas.Bool.{eqb-true}
 
 revision_same : (community : Option ℕ) (n : ℕ) (docs : List Lines) (i : Incident) → i.naming.number ≡ n → put_revised community docs i ≡ put_revision n (incident_facts i) community docs
 revision_same community n [] i is = refl

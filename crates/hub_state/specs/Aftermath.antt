@@ -3,7 +3,6 @@ use Rattle.std.specs.Prelude.{ℕ, ℤ, ◌+◌, List, [], ◌∷◌, ◌++◌, 
 use Rattle.std.specs.List.{flat_map}
 use Rattle.std.specs.Option.{option_map_or}
 use Rattle.iodef_tree.specs.Text.{Tokens}
-use Rattle.circle.specs.Aftermath as circle
 use Rattle.circle.specs.Aftermath.{greatest, rows_of}
 use Rattle.circle.specs.declared.directory.Person.{Person}
 use Rattle.hub_state.specs.Documents.{Lines, documents_in, ident_of, made_at}
@@ -15,10 +14,12 @@ use Rattle.hub_state.specs.declared.state.Incident.{Incident}
 use Rattle.hub_state.specs.declared.state.GateKey.{GateKey}
 use Rattle.hub_state.specs.declared.state.PermissionKey.{PermissionKey}
 use Rattle.hub_state.specs.declared.edit.Edit.{Edit}
-use Rattle.hub_state.specs.declared.edit.Edit.TheVariants.{Directory, PutIncident, TakeIncident, TakePolicy, PutGate, TakeGate, PutRecipient, TakeRecipient, PutPermission, TakePermission}
+use Rattle.hub_state.specs.declared.edit.Edit.TheVariants.{Directory, PutIncident, TakeIncident, TakePolicy, PutGate, TakeGate, PutRecipient, TakeRecipient}
+use Rattle.hub_state.specs.declared.edit.Edit.TheVariants.{PutPermission, TakePermission}
 use Rattle.hub_state.specs.declared.request.WantedGate.{WantedGate}
 use Rattle.hub_state.specs.declared.request.Distribution.{Distribution}
 use Rattle.hub_state.specs.declared.request.Request.{Request}
+use Rattle.circle.specs.Aftermath as circle
 use Rattle.hub_state.specs.declared.request.Request.TheVariants as ask
 
 -- the number of the next incident: one more than the greatest, or 1

@@ -8,7 +8,8 @@ use Rattle.hub_state.specs.declared.state.Gate.{Gate}
 use Rattle.hub_state.specs.declared.state.Recipient.{Recipient}
 use Rattle.hub_state.specs.declared.state.Permission.{Permission}
 use Rattle.hub_state.specs.declared.edit.Edit.{Edit}
-use Rattle.hub_state.specs.declared.edit.Edit.TheVariants.{Directory, PutIncident, TakeIncident, TakePolicy, PutGate, TakeGate, PutRecipient, TakeRecipient, PutPermission, TakePermission}
+use Rattle.hub_state.specs.declared.edit.Edit.TheVariants.{Directory, PutIncident, TakeIncident, TakePolicy, PutGate, TakeGate, PutRecipient, TakeRecipient}
+use Rattle.hub_state.specs.declared.edit.Edit.TheVariants.{PutPermission, TakePermission}
 
 -- the state after one edit; a put inserts the row before the first one above it and replaces none
 abbrev pub edited : Edit → State → State

@@ -1,11 +1,11 @@
 -- The facts of a request: what the shelf looks up for it.
 use Rattle.std.specs.Prelude.{ℕ, Bool, true, false, min, List, [], ◌∷◌, length, Option, Some, None, is_some, option_map, if◌then◌else◌}
 use Rattle.std.specs.List.{filter_map}
-use Rattle.circle.specs.Facts as circle
 use Rattle.circle.specs.declared.command.CircleFacts.{CircleFacts}
 use Rattle.circle.specs.declared.directory.Person.{Person}
 use Rattle.hub_state.specs.Documents.{Lines, documents_in, ident_of, at_pointer}
-use Rattle.hub_state.specs.State.{State, incident_of, incident_named, has_gate, has_recipient, has_permission, has_permission_until, class_gates, recipients_of, permissions_of}
+use Rattle.hub_state.specs.State.{State, incident_of, incident_named, has_gate, has_recipient, has_permission, has_permission_until, class_gates, recipients_of}
+use Rattle.hub_state.specs.State.{permissions_of}
 use Rattle.hub_state.specs.Edits.{with_edits}
 use Rattle.hub_state.specs.Requests.{incident_asked, looked_up, known_of, has_joined_all, is_own_group, is_target, is_grantee, is_active}
 use Rattle.hub_state.specs.Aftermath.{changed}
@@ -14,6 +14,7 @@ use Rattle.hub_state.specs.declared.state.Incident.{Incident}
 use Rattle.hub_state.specs.declared.state.Recipient.{Recipient}
 use Rattle.hub_state.specs.declared.facts.Facts.{Facts}
 use Rattle.hub_state.specs.declared.request.Request.{Request}
+use Rattle.circle.specs.Facts as circle
 use Rattle.hub_state.specs.declared.request.Request.TheVariants as ask
 
 -- ---- what was posted before

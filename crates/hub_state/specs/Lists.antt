@@ -4,7 +4,6 @@ use Rattle.std.specs.List.{list_any}
 use Rattle.circle.specs.Directory.{Directory}
 use Rattle.hub_state.specs.State.{State, gate_cmp, recipient_cmp, permission_cmp}
 use Rattle.circle.specs.Aftermath.{edited_rows}
-use Rattle.circle_rows.specs.Rows as directory
 use Rattle.hub_state.specs.Edits.{edited, with_edits}
 use Rattle.hub_state.specs.inner.Changes.{row_edit}
 use Rattle.hub_state.specs.declared.change.RowChange.{RowChange}
@@ -14,6 +13,7 @@ use Rattle.hub_state.specs.declared.state.Incident.{Incident}
 use Rattle.hub_state.specs.declared.edit.Edit.{Edit}
 use Rattle.hub_state.specs.declared.rows.Named.{Named}
 use Rattle.hub_state.specs.declared.lists.Lists.{Lists}
+use Rattle.circle_rows.specs.Rows as directory
 
 -- the state that these lists are beside a directory
 abbrev pub with_directory : Directory → Lists → State

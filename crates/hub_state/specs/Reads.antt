@@ -15,7 +15,8 @@ use Rattle.redact.specs.Excerpts.{served_of}
 use Rattle.redact.specs.Wants.{meets}
 use Rattle.redact.specs.declared.want.Want.{Want}
 use Rattle.circle.specs.Directory.{Directory, has_membership}
-use Rattle.circle.specs.Reads.{person_of_key, person_of, group_of, community_of, members_of, connected_to, communities_of, memberships_in_groups, groups_joined, active_groups_joined, orgs_whose_client, share_community, are_connected, arranged as arranged_with}
+use Rattle.circle.specs.Reads.{person_of_key, person_of, group_of, community_of, members_of, connected_to, communities_of, memberships_in_groups, groups_joined}
+use Rattle.circle.specs.Reads.{active_groups_joined, orgs_whose_client, share_community, are_connected, arranged as arranged_with}
 use Rattle.circle.specs.declared.directory.Person.{Person}
 use Rattle.circle.specs.declared.directory.Client.{Client}
 use Rattle.circle.specs.declared.directory.Community.{Community}
@@ -25,7 +26,6 @@ use Rattle.hub_state.specs.Documents.{Lines}
 use Rattle.hub_state.specs.Handlings.{handling_in}
 use Rattle.hub_state.specs.State.{State, incident_of, has_recipient}
 use Rattle.hub_state.specs.declared.request.Target.{Target}
-use Rattle.hub_state.specs.declared.request.Target.TheVariants as target
 use Rattle.hub_state.specs.declared.state.Naming.{Naming}
 use Rattle.hub_state.specs.declared.state.Incident.{Incident}
 use Rattle.hub_state.specs.declared.state.Gate.{Gate}
@@ -38,6 +38,7 @@ use Rattle.hub_state.specs.declared.look_ups.IncidentSharing.{IncidentSharing}
 use Rattle.hub_state.specs.declared.reply.Entry.{Entry}
 use Rattle.hub_state.specs.declared.reply.JoinedGroup.{JoinedGroup}
 use Rattle.hub_state.specs.declared.reply.JoinedCommunity.{JoinedCommunity}
+use Rattle.hub_state.specs.declared.request.Target.TheVariants as target
 
 -- the person with this key, active or suspended
 abbrev pub person_by_key : Bytes → State → Option Person

@@ -3,7 +3,6 @@ use Rattle.std.specs.Prelude.{ℕ, Bool, true, false, ◌&&◌, Option, Some, No
 use Rattle.std.specs.List.{list_all}
 use Rattle.std.specs.Option.{option_map_or}
 use Rattle.policy.specs.declared.permission.Grantee.{Grantee}
-use Rattle.policy.specs.declared.permission.Grantee.TheVariants as grantee
 use Rattle.circle.specs.Directory.{Directory, has_org, has_person, has_community, has_membership, has_group_member}
 use Rattle.circle.specs.Reads.{person_of}
 use Rattle.circle.specs.declared.directory.Person.{Person}
@@ -11,10 +10,11 @@ use Rattle.hub_state.specs.State.{State, incident_of}
 use Rattle.hub_state.specs.declared.facts.IncidentFacts.{IncidentFacts}
 use Rattle.hub_state.specs.declared.state.Incident.{Incident}
 use Rattle.hub_state.specs.declared.request.Target.{Target}
-use Rattle.hub_state.specs.declared.request.Target.TheVariants as target
 use Rattle.hub_state.specs.declared.request.Distribution.{Distribution}
 use Rattle.hub_state.specs.declared.request.WantedGate.{WantedGate}
 use Rattle.hub_state.specs.declared.request.Request.{Request}
+use Rattle.policy.specs.declared.permission.Grantee.TheVariants as grantee
+use Rattle.hub_state.specs.declared.request.Target.TheVariants as target
 use Rattle.hub_state.specs.declared.request.Request.TheVariants as ask
 
 -- ---- the incident

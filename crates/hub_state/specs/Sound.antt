@@ -7,21 +7,22 @@ use Rattle.iodef_tree.specs.Json.{incident_id}
 use Rattle.iodef_tree.specs.Reading.{reading}
 use Rattle.marking.specs.Marks.{first_bad_marking}
 use Rattle.policy.specs.declared.permission.Grantee.{Grantee}
-use Rattle.policy.specs.declared.permission.Grantee.TheVariants as grantee
-use Rattle.circle.specs.Sound as circle
 use Rattle.circle.specs.Sound.{Pairwise, Each, Differ, Names, IsNumbered, IsOrg, IsCommunity, IsGroup}
 use Rattle.circle.specs.Directory.{Directory, account_number}
 use Rattle.circle.specs.declared.directory.Community.{Community}
 use Rattle.circle.specs.declared.directory.Group.{Group}
 use Rattle.hub_state.specs.declared.TheConstants.{INCIDENT_LIMIT, REVISION_LIMIT, GATE_LIMIT, RECIPIENT_LIMIT, PERMISSION_LIMIT}
 use Rattle.hub_state.specs.Documents.{Lines}
-use Rattle.hub_state.specs.State.{State, incident_number, gate_cmp, recipient_cmp, permission_cmp, is_class_of, is_place_of, root_gates, class_gates, recipients_of, permissions_of}
+use Rattle.hub_state.specs.State.{State, incident_number, gate_cmp, recipient_cmp, permission_cmp, is_class_of, is_place_of, root_gates, class_gates}
+use Rattle.hub_state.specs.State.{recipients_of, permissions_of}
 use Rattle.hub_state.specs.declared.request.Target.{Target}
-use Rattle.hub_state.specs.declared.request.Target.TheVariants as target
 use Rattle.hub_state.specs.declared.state.Incident.{Incident}
 use Rattle.hub_state.specs.declared.state.Gate.{Gate}
 use Rattle.hub_state.specs.declared.state.Recipient.{Recipient}
 use Rattle.hub_state.specs.declared.state.Permission.{Permission}
+use Rattle.policy.specs.declared.permission.Grantee.TheVariants as grantee
+use Rattle.circle.specs.Sound as circle
+use Rattle.hub_state.specs.declared.request.Target.TheVariants as target
 
 -- the document was read from some body, and has no bad marking
 pub record IsAccepted (doc : Lines) : Type 0 where

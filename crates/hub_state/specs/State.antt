@@ -10,19 +10,19 @@ use Rattle.std.specs.Str.{bytes_eq}
 use Rattle.iodef_tree.specs.Text.{Bytes, Tokens, same_path, is_root}
 use Rattle.iodef_tree.specs.Pointer.{pointer_text}
 use Rattle.policy.specs.declared.permission.Grantee.{Grantee}
-use Rattle.policy.specs.declared.permission.Grantee.TheVariants as grantee
 use Rattle.circle.specs.Ordered.{pair_cmp}
-use Rattle.circle.specs.Directory as circle
 use Rattle.circle.specs.Directory.{Directory}
 use Rattle.hub_state.specs.Documents.{is_class_in}
 use Rattle.hub_state.specs.declared.request.Target.{Target}
-use Rattle.hub_state.specs.declared.request.Target.TheVariants as target
 use Rattle.hub_state.specs.declared.state.Incident.{Incident}
 use Rattle.hub_state.specs.declared.state.Gate.{Gate}
 use Rattle.hub_state.specs.declared.state.GateKey.{GateKey}
 use Rattle.hub_state.specs.declared.state.Recipient.{Recipient}
 use Rattle.hub_state.specs.declared.state.Permission.{Permission}
 use Rattle.hub_state.specs.declared.state.PermissionKey.{PermissionKey}
+use Rattle.policy.specs.declared.permission.Grantee.TheVariants as grantee
+use Rattle.circle.specs.Directory as circle
+use Rattle.hub_state.specs.declared.request.Target.TheVariants as target
 
 -- the directory and the four sets that belong to incidents
 pub record State : Type 0 where

@@ -1,6 +1,7 @@
 //! What a shelf looks up in its rows.
 ghost use Rattle.std.specs.Prelude.{◌≡◌, ◌==◌, ℕ, Option, option_map, length};
-ghost use Rattle.circle.specs.Directory.{has_org as is_org, has_person as is_person, has_community as is_community, has_membership as is_membership, has_group_member as is_group_member};
+ghost use Rattle.circle.specs.Directory.{has_org as is_org, has_person as is_person, has_community as is_community, has_membership as is_membership};
+ghost use Rattle.circle.specs.Directory.{has_group_member as is_group_member};
 ghost use Rattle.circle.specs.Facts.{facts_of as directory_facts};
 ghost use Rattle.circle.specs.Reads as spec;
 ghost use Rattle.hub_state.specs.Reads.{document_of, its_gates, its_permissions, its_recipients, naming_of, reader_of, sharing_of, ties_of};

@@ -2,10 +2,10 @@
 use Rattle.std.specs.Prelude.{◌≡◌, ℕ, Option, Some, None, IsTrue}
 use Rattle.sqlite_trees.specs.Tree.{Trees}
 use Rattle.sqlite.specs.State.{State}
-use Rattle.hub_state.specs.State as core
 use Rattle.hub_state.specs.Sound.{IsSound}
 use Rattle.hub_store.specs.Layout.{newest}
 use Rattle.hub_store.specs.Means.{TreesHoldAs, HoldsAs, Holds}
+use Rattle.hub_state.specs.State as core
 
 -- The state is sound, and if the store is open, its last commit is this state in the tables of the version and nothing
 -- is underway. A shut store has any sound state.

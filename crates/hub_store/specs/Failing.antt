@@ -3,8 +3,8 @@ use Rattle.std.specs.Prelude.{◌≡◌, ◌≢◌, ◌==◌, ◌⊎◌, ℕ, fa
 use Rattle.sqlite_disk.specs.Disk.{MoreFaults}
 use Rattle.sqlite.specs.declared.error.Error.{Error}
 use Rattle.sqlite.specs.declared.error.Error.TheVariants.{SqliteFailure}
-use Rattle.sqlite.specs.declared.error.ErrorCode.TheVariants as code
 use Rattle.sqlite.specs.State.{State}
+use Rattle.sqlite.specs.declared.error.ErrorCode.TheVariants as code
 
 -- the disk failed or refused, the store was shut, or a limit on steps is set
 abbrev pub HasReason : State → State → Type 0

@@ -5,12 +5,12 @@ use Rattle.sqlite_value.specs.declared.value.Value.TheVariants.{Int, Text}
 use Rattle.sqlite_value.specs.Order.{Row}
 use Rattle.iodef_tree.specs.declared.line.Line.{Line}
 use Rattle.iodef_tree.specs.declared.line.Kind.{Kind}
-use Rattle.iodef_tree.specs.declared.line.Kind.TheVariants as kind
 use Rattle.hub_state.specs.Documents.{Lines}
 use Rattle.hub_state.specs.State.{State}
 use Rattle.hub_state.specs.declared.state.Incident.{Incident}
 use Rattle.hub_store.specs.Values.{flag}
 use Rattle.hub_store.specs.declared.item_rows.PlacedLine.{PlacedLine}
+use Rattle.iodef_tree.specs.declared.line.Kind.TheVariants as kind
 
 -- a line with its incident and its place
 pub record Item : Type 0 where

@@ -1,11 +1,11 @@
 -- What a call of the connection leaves, whatever it returns.
 use Rattle.std.specs.Prelude.{◌≡◌, ℕ, List, Result, Ok, Err, OnOk, IsTrue}
 use Rattle.sqlite_value.specs.Order.{Row}
-use Rattle.sqlite_trees.specs.declared.store.Store as store
 use Rattle.sqlite.specs.declared.error.Error.{Error}
 use Rattle.sqlite.specs.Held.{Held, state}
 use Rattle.sqlite.specs.State.{State, HasCleanDisk, KeepsCommit, IsUnchanged, Executes, ExecutesInside, Survives}
 use Rattle.hub_store.specs.Tables.{hub_schema}
+use Rattle.sqlite_trees.specs.declared.store.Store as store
 
 -- the store has the schema of the hub's newest version, as long as it is open
 abbrev pub Knows : State → Type 0

@@ -1,11 +1,11 @@
 -- What an open finds of what a stop left.
 use Rattle.std.specs.Prelude.{◌≡◌, Option, IfSome}
 use Rattle.sqlite_trees.specs.Tree.{Trees}
-use Rattle.sqlite_trees.specs.declared.store.Store as store
 use Rattle.sqlite.specs.Held.{Held, state}
 use Rattle.sqlite.specs.State.{State, IsLive, Opens}
-use Rattle.hub_state.specs.State as core
 use Rattle.hub_store.specs.Content.{Has, IsMeaning, MayLeave}
+use Rattle.sqlite_trees.specs.declared.store.Store as store
+use Rattle.hub_state.specs.State as core
 
 -- a connection that was just opened finds these trees
 pub record FindsTrees (c : State) (db : Trees) : Type 0 where

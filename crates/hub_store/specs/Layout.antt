@@ -6,9 +6,11 @@ use Rattle.sqlite_value.specs.Order.{Row}
 use Rattle.sqlite_schema.specs.declared.schema.Table.{Table}
 use Rattle.sqlite_catalog.specs.Change.{next_tree}
 use Rattle.hub_state.specs.State.{State, empty}
-use Rattle.hub_store.specs.Shapes.{hub_table, org_table, person_table, community_table, grp_table, pair_table, gate_table, recipient_table, permission_table, incident_table, item_table, incident_table_2, permission_table_3, incident_table_4}
+use Rattle.hub_store.specs.Shapes.{hub_table, org_table, person_table, community_table, grp_table, pair_table, gate_table, recipient_table, permission_table}
+use Rattle.hub_store.specs.Shapes.{incident_table, item_table, incident_table_2, permission_table_3, incident_table_4}
 use Rattle.hub_store.specs.Pairs.{rows_of_pairs}
-use Rattle.hub_store.specs.Rows.{org_row, account_row, community_row, group_row, pair_sets, gate_row, recipient_row, endless_row, permission_row, incident_row, named_row_2, named_row, without_end, without_community}
+use Rattle.hub_store.specs.Rows.{org_row, account_row, community_row, group_row, pair_sets, gate_row, recipient_row, endless_row, permission_row, incident_row}
+use Rattle.hub_store.specs.Rows.{named_row_2, named_row, without_end, without_community}
 use Rattle.hub_store.specs.Items.{items_of, item_row}
 use Rattle.hub_store.specs.Parts.{Part, schema_of}
 

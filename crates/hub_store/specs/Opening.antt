@@ -3,8 +3,6 @@ use Rattle.std.specs.Prelude.{◌≡◌, ◌≢◌, ◌⊎◌, ◌↔◌, ◌&&�
 use Rattle.sqlite_trees.specs.Tree.{Trees}
 use Rattle.sqlite.specs.Effect.{Database}
 use Rattle.sqlite.specs.State.{State, HasCleanDisk, Survives}
-use Rattle.hub_state.specs.State as core
-pub use Rattle.hub_store.specs.Layout.{newest}
 use Rattle.hub_store.specs.Means.{TreesHold}
 use Rattle.hub_store.specs.Content.{Has, HasAs, MayLeave}
 use Rattle.hub_store.specs.Fit.{AreTaken}
@@ -12,9 +10,11 @@ use Rattle.hub_store.specs.Keeps.{KeepsCommitted}
 use Rattle.hub_store.specs.Versions.{version_of}
 use Rattle.hub_store.specs.Failing.{HasReason}
 use Rattle.hub_state.specs.declared.shelf.ShelfFault.{ShelfFault}
-use Rattle.hub_state.specs.declared.shelf.ShelfFault.TheVariants as shelf
 use Rattle.hub_store.specs.declared.sql_shelf.OpenFault.{OpenFault}
 use Rattle.hub_store.specs.declared.sql_shelf.OpenFault.TheVariants.{NotOurs, WrongVersion, Failed, NoMemory}
+use Rattle.hub_state.specs.State as core
+use Rattle.hub_state.specs.declared.shelf.ShelfFault.TheVariants as shelf
+pub use Rattle.hub_store.specs.Layout.{newest}
 
 -- a version that a migration brings to the newest
 abbrev pub is_older : ℕ → Bool

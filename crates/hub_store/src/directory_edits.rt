@@ -4,7 +4,9 @@ ghost use Rattle.std.specs.Prelude.{◌≡◌, pos, [], ◌∷◌, IsTrue, OnOk}
 ghost use Rattle.sqlite_value.specs.declared.value.Value.TheVariants.{Int, Text};
 ghost use Rattle.sqlite.specs.State.{HasCleanDisk};
 ghost use Rattle.sqlite.specs.Held.{state};
-ghost use Rattle.circle.specs.declared.command.RowEdit.TheVariants.{PutOrg, PutAccount, Suspend, PutClient, TakeClient, PutCommunity, PutMembership, TakeMembership, PutConnection, TakeConnection, PutGroup, PutGroupMember, TakeGroupMember, SetGroupActive, PutArrangement, TakeArrangement, SetNominated, SetKey};
+ghost use Rattle.circle.specs.declared.command.RowEdit.TheVariants.{PutOrg, PutAccount, Suspend, PutClient, TakeClient, PutCommunity, PutMembership};
+ghost use Rattle.circle.specs.declared.command.RowEdit.TheVariants.{TakeMembership, PutConnection, TakeConnection, PutGroup, PutGroupMember, TakeGroupMember};
+ghost use Rattle.circle.specs.declared.command.RowEdit.TheVariants.{SetGroupActive, PutArrangement, TakeArrangement, SetNominated, SetKey};
 ghost use Rattle.hub_state.specs.State.{State};
 ghost use Rattle.hub_state.specs.Edits.{edited};
 ghost use Rattle.hub_state.specs.declared.edit.Edit.TheVariants.{Directory};

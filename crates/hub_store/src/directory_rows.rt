@@ -1,7 +1,8 @@
 //! The elements of the directory's sets as rows.
 
 ghost use Rattle.std.specs.Prelude.{◌≡◌, IfOk};
-ghost use Rattle.hub_store.specs.inner.Adds.{org_shown, account_shown, community_shown, client_shown, membership_shown, connection_shown, group_member_shown, arrangement_shown};
+ghost use Rattle.hub_store.specs.inner.Adds.{org_shown, account_shown, community_shown, client_shown, membership_shown, connection_shown, group_member_shown};
+ghost use Rattle.hub_store.specs.inner.Adds.{arrangement_shown};
 ghost use Rattle.hub_store.specs.inner.Shown.{IsShownBy};
 
 use crate::from_row::{FromRow, STRANGE};

@@ -3,7 +3,8 @@
 ghost use Rattle.std.specs.Prelude.{◌≡◌, ◌==◌, not, false};
 ghost use Rattle.std.specs.Option.{option_map_or};
 ghost use Rattle.sqlite.specs.Held.{state};
-ghost use Rattle.circle.specs.Directory.{has_org_named, has_community_named, has_group_named, has_key, has_suspended, has_nominated, has_person_of, has_group_of, has_group_being, same_flag};
+ghost use Rattle.circle.specs.Directory.{has_org_named, has_community_named, has_group_named, has_key, has_suspended, has_nominated, has_person_of};
+ghost use Rattle.circle.specs.Directory.{has_group_of, has_group_being, same_flag};
 ghost use Rattle.hub_store.specs.inner.Queries.{IsReadInside};
 
 use crate::any_row::is_any;

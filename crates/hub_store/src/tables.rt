@@ -3,7 +3,8 @@
 
 ghost use Rattle.std.specs.Prelude.{◌≡◌};
 ghost use Rattle.sqlite.specs.Held.{state};
-ghost use Rattle.hub_store.specs.Tables.{no_schema, up_to_hub, up_to_org, up_to_person, up_to_community, up_to_grp, up_to_pair, up_to_gate, up_to_recipient, up_to_permission, schema_by};
+ghost use Rattle.hub_store.specs.Tables.{no_schema, up_to_hub, up_to_org, up_to_person, up_to_community, up_to_grp, up_to_pair, up_to_gate, up_to_recipient};
+ghost use Rattle.hub_store.specs.Tables.{up_to_permission, schema_by};
 ghost use Rattle.hub_store.specs.inner.Makes.{Creates, HasEmpty};
 
 use crate::statement::run;

@@ -1,16 +1,11 @@
 -- The lines of a document's tree are an outline.
-use Rattle.std.proofs.Common.{◌≡◌, ℕ, suc, ◌+◌, ◌≤◌, ◌<◌, Bool, true, List, ◌∷◌, refl, sym, ◌∙◌, subst, arith, if◌then◌else◌, Option, Some, None, is_some, nat_le}
-use Rattle.std.proofs.lemmas.Bool.{lt-ltb, and_parts, and_from, or_left, or_right, le-leb}
-use Rattle.json_pointer.specs.Text.{Bytes}
-use Rattle.iodef_tree.specs.Texts.{HasTexts}
-use Rattle.iodef_tree.specs.Tree.{Content, Forest, end, leaf, branch, kind_of, leaf_line, class_line, lines, height}
-use Rattle.iodef_tree.specs.Paths.{is_class_kind}
-use Rattle.iodef_tree.specs.Sound.{SiblingPlace, may_stand, IsOrderedBehind, counted, class_height, IsSound}
-use Rattle.iodef_tree.specs.Outline.{deepest, last_sibling, may_follow, is_within_depth, is_sound_line, may_come, is_outline_after, is_outline, back_onto}
-use Rattle.iodef_tree.specs.declared.TheConstants.{DEPTH_LIMIT, LINE_LIMIT}
-use Rattle.iodef_tree.specs.declared.line.Line.{Line}
-use Rattle.iodef_tree.proofs.Outlines.{outline_after-append, back_onto-append}
-use Rattle.iodef_tree.proofs.Sounds.{as_sibling, sibling_skip, sibling_here, sibling_below, counted-back_onto}
+use Rattle.std.proofs.Common.{◌≡◌, ℕ, suc, ◌+◌, ◌≤◌, ◌<◌, Bool, true, List, ◌∷◌, refl, sym, ◌∙◌, subst, arith, if◌then◌else◌, Option, Some, None, is_some}
+use Rattle.{std.proofs.{Common.nat_le, lemmas.Bool.{lt-ltb, and_parts, and_from, or_left, or_right, le-leb}}, json_pointer.specs.Text.Bytes}
+use Rattle.iodef_tree.proofs.{Outlines.{outline_after-append, back_onto-append}, Sounds.{as_sibling, sibling_skip, sibling_here, sibling_below}}
+use Rattle.iodef_tree.{proofs.Sounds.counted-back_onto, specs.Outline.{deepest, last_sibling, may_follow, is_within_depth, is_sound_line, may_come}}
+use Rattle.iodef_tree.specs.{Outline.{is_outline_after, is_outline, back_onto}, Paths.is_class_kind, Sound.{SiblingPlace, may_stand, IsOrderedBehind, counted}}
+use Rattle.iodef_tree.specs.{Sound.{class_height, IsSound}, Texts.HasTexts, Tree.{Content, Forest, end, leaf, branch, kind_of, leaf_line, class_line, lines}}
+use Rattle.iodef_tree.specs.{Tree.height, declared.{TheConstants.{DEPTH_LIMIT, LINE_LIMIT}, line.Line.Line}}
 
 -- a line that may be behind a sibling follows the sibling's line
 follows : (o : Option SiblingPlace) (name : Bytes) (place : Option ℕ) → may_stand o name place ≡ true → may_follow (as_sibling o) (record { name = name; in_array = is_some place }) ≡ true

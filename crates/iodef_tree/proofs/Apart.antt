@@ -1,15 +1,10 @@
 -- Siblings are apart, since their names ascend and the elements of an array are numbered.
-use Rattle.std.proofs.Common.{◌≡◌, ℕ, suc, ◌+◌, ◌^◌, ◌<◌, ◌≤◌, List, ◌∷◌, ◌++◌, true, false, not, cond, ◌&&◌, decimal, refl, ◌∙◌, ap, arith, ◌⊎◌, inl, inr, Option, Some, None, is_some, bytes_eq}
-use Rattle.std.proofs.lemmas.Bool.{and_parts, and_left, and_right, false≢true, eqb-true}
-use Rattle.std.proofs.lemmas.List.Sums.{sum_by-cons, sum_by-append}
-use Rattle.std.proofs.lemmas.Grind.{common_steps}
-use Rattle.json_pointer.specs.Text.{Bytes, Tokens, bytes_lt, is_prefix}
-use Rattle.iodef_tree.specs.Tree.{Leaf, Forest, end, leaf, branch, steps, lines, leaf_line, class_line}
-use Rattle.iodef_tree.specs.Sound.{SiblingPlace, may_stand, may_stand_behind, IsOrderedBehind, is_label_line, counted, IsSound}
-use Rattle.iodef_tree.specs.Laws.{AllSiblings, AreApart, HasApart}
-use Rattle.iodef_tree.specs.declared.line.Line.{Line}
-use Rattle.iodef_tree.proofs.Order.{bytes_eq-true, bytes_lt-trans, bytes_lt-ne, bytes_lt-ne_back, decimals_differ}
-use Rattle.iodef_tree.proofs.Siblings.{siblings-map}
+use Rattle.std.proofs.Common.{◌≡◌, ℕ, suc, ◌+◌, ◌^◌, ◌<◌, ◌≤◌, List, ◌∷◌, ◌++◌, true, false, not, cond, ◌&&◌, decimal, refl, ◌∙◌, ap, arith, ◌⊎◌, inl, inr}
+use Rattle.std.proofs.{Common.{Option, Some, None, is_some, bytes_eq}, lemmas.{Bool.{and_parts, and_left, and_right, false≢true, eqb-true}, Grind.common_steps}}
+use Rattle.{std.proofs.lemmas.List.Sums.{sum_by-cons, sum_by-append}, json_pointer.specs.Text.{Bytes, Tokens, bytes_lt, is_prefix}}
+use Rattle.iodef_tree.proofs.{Order.{bytes_eq-true, bytes_lt-trans, bytes_lt-ne, bytes_lt-ne_back, decimals_differ}, Siblings.siblings-map}
+use Rattle.iodef_tree.specs.{Laws.{AllSiblings, AreApart, HasApart}, Sound.{SiblingPlace, may_stand, may_stand_behind, IsOrderedBehind, is_label_line, counted}}
+use Rattle.iodef_tree.specs.{Sound.IsSound, Tree.{Leaf, Forest, end, leaf, branch, steps, lines, leaf_line, class_line}, declared.line.Line.Line}
 
 -- ---- places are small
 

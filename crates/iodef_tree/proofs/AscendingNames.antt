@@ -1,16 +1,9 @@
 -- Members whose names ascend make an ordered tree.
 use Rattle.std.proofs.Common.{◌≡◌, ℕ, suc, List, [], ◌∷◌, true, Option, Some, None, String, Global, string_bytes, string_cmp, Less, ap, arith, is_lt}
-use Rattle.std.specs.List.{AllByRecursion}
-use Rattle.std.specs.List.Sorted.{IsStrictlySortedBy}
-use Rattle.std.specs.Map.{keys_of}
-use Rattle.std.proofs.lemmas.Bool.Decides.{nat_tests}
-use Rattle.json_pointer.specs.Text.{Bytes, bytes_lt}
-use Rattle.iodef_tree.specs.Tree.{Forest, Body, holds, says, Bodies, one, many, in_front, elements}
-use Rattle.iodef_tree.specs.Sound.{SiblingPlace, may_stand, IsOrderedBehind}
-use Rattle.iodef_tree.specs.inner.FitValues.{IsBodyOrdered, AreBodiesOrdered}
-use Rattle.iodef_tree.specs.View.{forest_of_members}
-use Rattle.iodef_tree.proofs.FromValues.{MapEntry, given_members}
-use Rattle.iodef_tree.proofs.Order.{bytes_eq-refl}
+use Rattle.{std.{proofs.lemmas.Bool.Decides.nat_tests, specs.{List.{AllByRecursion, Sorted.IsStrictlySortedBy}, Map.keys_of}}, json_pointer.specs.Text.Bytes}
+use Rattle.{json_pointer.specs.Text.bytes_lt, iodef_tree.{proofs.{FromValues.{MapEntry, given_members}, Order.bytes_eq-refl}, specs.Sound.SiblingPlace}}
+use Rattle.iodef_tree.specs.{Sound.{may_stand, IsOrderedBehind}, Tree.{Forest, Body, holds, says, Bodies, one, many, in_front, elements}}
+use Rattle.iodef_tree.specs.{View.forest_of_members, inner.FitValues.{IsBodyOrdered, AreBodiesOrdered}}
 
 abbrev pub AreAbove : Bytes → List (Bytes × Bodies) → Type 0
 AreAbove name ms = AllByRecursion (λ m. bytes_lt name m.0 ≡ true) ms

@@ -1,19 +1,11 @@
 -- The lines below the path of each class are those of its members.
-use Rattle.std.proofs.Common.{◌≡◌, ℕ, suc, List, [], ◌∷◌, ◌++◌, Bool, true, false, filter, refl, sym, ◌∙◌, ap, subst, append-nil, append_assoc, ◌⊎◌, inl, inr, Option, arith}
-use Rattle.std.specs.List.{AllByRecursion}
-use Rattle.std.proofs.lemmas.Bool.{cond-true, cond-false}
-use Rattle.std.proofs.lemmas.List.Elements.{filter-append}
-use Rattle.json_pointer.specs.Text.{Bytes, Tokens, is_under}
-use Rattle.iodef_tree.specs.Tree.{Forest, end, leaf, branch, steps, lines}
-use Rattle.iodef_tree.specs.Paths.{LocatedLine, placed, located_after, located, below}
-use Rattle.iodef_tree.specs.Sound.{IsSound}
-use Rattle.iodef_tree.specs.Walk.{walk, IsBlock, AreBlocks}
-use Rattle.iodef_tree.specs.Laws.{AllSiblings, AreApart, HasApart}
+use Rattle.std.proofs.Common.{◌≡◌, ℕ, suc, List, [], ◌∷◌, ◌++◌, Bool, true, false, filter, refl, sym, ◌∙◌, ap, subst, append-nil, append_assoc, ◌⊎◌, inl, inr}
+use Rattle.std.{proofs.{Common.{Option, arith}, lemmas.{Bool.{cond-true, cond-false}, List.Elements.filter-append}}, specs.List.AllByRecursion}
+use Rattle.{json_pointer.specs.Text.{Bytes, Tokens, is_under}, iodef_tree.proofs.{Apart.sound-apart, Located.located-lines, Order.is_under-common}}
+use Rattle.iodef_tree.proofs.{Order.{is_under-self, is_under-is_prefix, is_under-weaker, is_under-steps}, Siblings.{filter-none, filter-all, siblings-all}}
+use Rattle.iodef_tree.{proofs.Siblings.{siblings-map, walk-all}, specs.{Laws.{AllSiblings, AreApart, HasApart}, Paths.{LocatedLine, placed, located_after}}}
+use Rattle.iodef_tree.specs.{Paths.{located, below}, Sound.IsSound, Tree.{Forest, end, leaf, branch, steps, lines}, Walk.{walk, IsBlock, AreBlocks}}
 use Rattle.iodef_tree.specs.declared.line.Line.{Line}
-use Rattle.iodef_tree.proofs.Apart.{sound-apart}
-use Rattle.iodef_tree.proofs.Located.{located-lines}
-use Rattle.iodef_tree.proofs.Order.{is_under-common, is_under-self, is_under-is_prefix, is_under-weaker, is_under-steps}
-use Rattle.iodef_tree.proofs.Siblings.{filter-none, filter-all, siblings-all, siblings-map, walk-all}
 
 -- ---- filters of filters
 

@@ -1,23 +1,13 @@
 -- If nothing in a body is refused, its Incidents fit their documents.
 use Rattle.std.proofs.Common.{◌≡◌, ℕ, ◌+◌, ◌≤◌, List, true, false, ◌&&◌, Option, Some, Result, Ok, option_and_then, refl, ap, subst, arith, codes}
-use Rattle.std.proofs.lemmas.Bool.{and_parts, or_from, or_parts}
-use Rattle.std.proofs.lemmas.Option.{cond_some, some_pair_parts}
+use Rattle.{std.proofs.lemmas.{Bool.{and_parts, or_from, or_parts}, Option.{cond_some, some_pair_parts}}, serde_json.specs.{Data.{Data, put}, Find.get_member}}
+use Rattle.{serde_json.specs.{Find.{as_array, as_object}, Written.{has_float, items_have_float, members_have_float}}, iodef_tree.proofs.Each.{IsEach, put-each}}
+use Rattle.iodef_tree.proofs.{Each.get-each, Exchanged.put_twice, Fitness.{whole, IsPlain, plain_ok}, Flat.{plain-flat, flats}, Shallow.{tallest, low_members}}
+use Rattle.iodef_tree.{proofs.Shallow.{heights, tallest_le}, specs.Reading.{◌>>=◌, or_fault, if_incidents, incidents_of, documents, parsed, all_complete}}
+use Rattle.iodef_tree.specs.{Reading.{all_fit, reading}, Tree.height, Values.{items_of_data, forest_of_data, body_of_data}, declared.TheConstants.DEPTH_LIMIT}
+use Rattle.iodef_tree.specs.{declared.fault.ReadFault.{ReadFault, TheVariants.NotDocument}, inner.FitValues.{AreFit, taken, is_element_flat, are_flat}}
+use Rattle.iodef_tree.specs.inner.FitValues.{are_members_flat}
 use Rattle.serde_json.specs.Data as json
-use Rattle.serde_json.specs.Data.{Data, put}
-use Rattle.serde_json.specs.Find.{get_member, as_array, as_object}
-use Rattle.serde_json.specs.Written.{has_float, items_have_float, members_have_float}
-use Rattle.iodef_tree.specs.inner.FitValues.{AreFit, taken, is_element_flat, are_flat, are_members_flat}
-use Rattle.iodef_tree.specs.Reading.{◌>>=◌, or_fault, if_incidents, incidents_of, documents, parsed, all_complete, all_fit, reading}
-use Rattle.iodef_tree.specs.Tree.{height}
-use Rattle.iodef_tree.specs.Values.{items_of_data, forest_of_data, body_of_data}
-use Rattle.iodef_tree.specs.declared.TheConstants.{DEPTH_LIMIT}
-use Rattle.iodef_tree.specs.declared.fault.ReadFault.{ReadFault}
-use Rattle.iodef_tree.specs.declared.fault.ReadFault.TheVariants.{NotDocument}
-use Rattle.iodef_tree.proofs.Exchanged.{put_twice}
-use Rattle.iodef_tree.proofs.Fitness.{whole, IsPlain, plain_ok}
-use Rattle.iodef_tree.proofs.Flat.{plain-flat, flats}
-use Rattle.iodef_tree.proofs.Shallow.{tallest, low_members, heights, tallest_le}
-use Rattle.iodef_tree.proofs.Each.{IsEach, put-each, get-each}
 
 floatless : IsEach (λ d. has_float d ≡ false) (λ ms. members_have_float ms ≡ false)
 floatless = grind (arith, or_from, or_parts)

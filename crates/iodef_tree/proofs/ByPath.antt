@@ -1,20 +1,13 @@
 -- The look-up by a path finds the class whose lines are below the path.
-use Rattle.std.proofs.Common.{◌≡◌, ℕ, suc, ◌+◌, ◌^◌, ◌<◌, ◌≤◌, List, [], ◌∷◌, ◌++◌, Bool, true, false, cond, ◌&&◌, ◌||◌, length, decimal, refl, sym, ◌∙◌, ap, arith, append-nil, append_assoc, true≢false, Option, Some, None, is_some, option_map, bytes_eq}
-use Rattle.std.specs.Option.{option_map_or}
-use Rattle.std.specs.List.{AllByRecursion, slice_get}
-use Rattle.std.proofs.lemmas.Bool.{and_left, and_right, cond-true, cond-false, cond_both}
-use Rattle.std.proofs.lemmas.List.Folds.{list_any-append}
-use Rattle.json_pointer.specs.Text.{Bytes, Tokens, same_path, is_root, is_prefix}
-use Rattle.iodef_tree.specs.Tree.{Content, Forest, end, leaf, branch, Body, Bodies, elements, member_front, steps, kind_of}
-use Rattle.iodef_tree.specs.Paths.{LocatedLine, is_class_kind, is_class, placed, located_after, located, has_class}
-use Rattle.iodef_tree.specs.Walk.{walk}
-use Rattle.iodef_tree.specs.Laws.{AllSiblings, AreApart, HasApart}
-use Rattle.iodef_tree.specs.inner.Lookup.{past, class_at, object_in, element_at, part_at}
-use Rattle.iodef_tree.specs.declared.line.Line.{Line}
-use Rattle.iodef_tree.proofs.Distinct.{apart-differ}
-use Rattle.iodef_tree.proofs.Order.{is_false, bytes_eq-refl, bytes_eq-true, decimals_differ, same_path-refl, same_path-true, same_path-common, same_path-is_prefix, same_path-longer, is_prefix-append}
-use Rattle.iodef_tree.proofs.Siblings.{siblings-all, siblings-map, walk-all}
-use Rattle.std.proofs.Math.Bool.{or-false}
+use Rattle.std.proofs.Common.{◌≡◌, ℕ, suc, ◌+◌, ◌^◌, ◌<◌, ◌≤◌, List, [], ◌∷◌, ◌++◌, Bool, true, false, cond, ◌&&◌, ◌||◌, length, decimal, refl, sym, ◌∙◌, ap}
+use Rattle.std.proofs.{Common.{arith, append-nil, append_assoc, true≢false, Option, Some, None, is_some, option_map, bytes_eq}, Math.Bool.or-false}
+use Rattle.std.{proofs.lemmas.{Bool.{and_left, and_right, cond-true, cond-false, cond_both}, List.Folds.list_any-append}, specs.List.AllByRecursion}
+use Rattle.{std.specs.{List.slice_get, Option.option_map_or}, json_pointer.specs.Text.{Bytes, Tokens, same_path, is_root, is_prefix}}
+use Rattle.iodef_tree.proofs.{Distinct.apart-differ, Order.{is_false, bytes_eq-refl, bytes_eq-true, decimals_differ, same_path-refl, same_path-true}}
+use Rattle.iodef_tree.proofs.{Order.{same_path-common, same_path-is_prefix, same_path-longer, is_prefix-append}, Siblings.{siblings-all, siblings-map}}
+use Rattle.iodef_tree.{proofs.Siblings.walk-all, specs.{Laws.{AllSiblings, AreApart, HasApart}, Paths.{LocatedLine, is_class_kind, is_class, placed}}}
+use Rattle.iodef_tree.specs.{Paths.{located_after, located, has_class}, Tree.{Content, Forest, end, leaf, branch, Body, Bodies, elements, member_front, steps}}
+use Rattle.iodef_tree.specs.{Tree.kind_of, Walk.walk, declared.line.Line.Line, inner.Lookup.{past, class_at, object_in, element_at, part_at}}
 
 -- ---- what is left of a path
 

@@ -1,14 +1,8 @@
 -- The paths of the classes, member by member.
-use Rattle.std.proofs.Common.{◌≡◌, ℕ, suc, List, [], ◌∷◌, ◌++◌, map, filter, refl, ◌∙◌, ap, append_assoc, cond, arith}
-use Rattle.std.proofs.lemmas.List.{map-append}
-use Rattle.std.proofs.lemmas.List.Elements.{filter-append}
-use Rattle.json_pointer.specs.Text.{Tokens}
-use Rattle.iodef_tree.specs.Tree.{Content, text, value, Forest, end, leaf, branch, steps, kind_of, lines}
-use Rattle.iodef_tree.specs.Paths.{LocatedLine, is_class_kind, is_class, class_paths, classes_of}
-use Rattle.iodef_tree.specs.Sound.{IsSound}
-use Rattle.iodef_tree.specs.Walk.{leaf_entry, walk, classes_below}
-use Rattle.iodef_tree.proofs.Located.{located-lines}
-use Rattle.iodef_tree.proofs.Fronts.{append}
+use Rattle.std.proofs.{Common.{◌≡◌, ℕ, suc, List, [], ◌∷◌, ◌++◌, map, filter, refl, ◌∙◌, ap, append_assoc, cond, arith}, lemmas.List.map-append}
+use Rattle.{std.proofs.lemmas.List.Elements.filter-append, json_pointer.specs.Text.Tokens, iodef_tree.proofs.{Fronts.append, Located.located-lines}}
+use Rattle.iodef_tree.specs.{Paths.{LocatedLine, is_class_kind, is_class, class_paths, classes_of}, Sound.IsSound, Tree.{Content, text, value, Forest, end}}
+use Rattle.iodef_tree.specs.{Tree.{leaf, branch, steps, kind_of, lines}, Walk.{leaf_entry, walk, classes_below}}
 
 -- ---- the lines and the walk
 

@@ -1,27 +1,12 @@
 -- The conversion of a JSON value, level by level.
-use Rattle.std.proofs.Common.{◌≡◌, ◌==◌, List, [], ◌++◌, length, map, false, None, Vec, Global, string_cmp, sym, ◌∙◌, subst}
-use Rattle.std.specs.List.{AllByRecursion}
-use Rattle.std.specs.List.Sorted.{IsStrictlySortedBy}
-use Rattle.std.specs.Map.{keys_of}
+use Rattle.std.{proofs.Common.{◌≡◌, ◌==◌, List, [], ◌++◌, length, map, false, None, Vec, Global, string_cmp, sym, ◌∙◌, subst}, specs.List.AllByRecursion}
+use Rattle.{std.specs.{List.Sorted.IsStrictlySortedBy, Map.keys_of}, serde_json.specs.{View.{items_view, members_view}, declared.value.Value.Value}}
+use Rattle.{json_pointer.specs.declared.text.Text.Text as Bytes, iodef_tree.proofs.{AscendingNames.{Ascend, ascend_given, ordered_members}, Filled.made-filled}}
+use Rattle.iodef_tree.proofs.{Filled.many-filled, FromValues.{MapEntry, given_members, all_given, members_done, many_done, some_given}}
+use Rattle.iodef_tree.{proofs.{ValueTexts.texts-members, Views.{bodies-Many, forest-made}}, specs.{Filled.IsMemberFilled, Sound.IsOrdered, Texts.HasTexts}}
+use Rattle.iodef_tree.specs.{View.{body, named}, declared.object.{Item.Item, Member.{Member, TheVariants.Many}, Object.roll-Object}, inner.Converted.IsObjectOf}
+use Rattle.iodef_tree.specs.inner.{Converted.{IsMemberOf, AreItemsOf}, FitValues.{AreBodiesOrdered, HaveTexts}}
 use Rattle.serde_json.specs.Data as json
-use Rattle.serde_json.specs.View.{items_view, members_view}
-use Rattle.serde_json.specs.declared.value.Value.{Value}
-use Rattle.json_pointer.specs.declared.text.Text.{Text as Bytes}
-use Rattle.iodef_tree.specs.inner.Converted.{IsObjectOf, IsMemberOf, AreItemsOf}
-use Rattle.iodef_tree.specs.Filled.{IsMemberFilled}
-use Rattle.iodef_tree.specs.inner.FitValues.{AreBodiesOrdered, HaveTexts}
-use Rattle.iodef_tree.specs.Sound.{IsOrdered}
-use Rattle.iodef_tree.specs.Texts.{HasTexts}
-use Rattle.iodef_tree.specs.View.{body, named}
-use Rattle.iodef_tree.specs.declared.object.Object.{roll-Object}
-use Rattle.iodef_tree.specs.declared.object.Member.{Member}
-use Rattle.iodef_tree.specs.declared.object.Member.TheVariants.{Many}
-use Rattle.iodef_tree.specs.declared.object.Item.{Item}
-use Rattle.iodef_tree.proofs.AscendingNames.{Ascend, ascend_given, ordered_members}
-use Rattle.iodef_tree.proofs.Filled.{made-filled, many-filled}
-use Rattle.iodef_tree.proofs.FromValues.{MapEntry, given_members, all_given, members_done, many_done, some_given}
-use Rattle.iodef_tree.proofs.ValueTexts.{texts-members}
-use Rattle.iodef_tree.proofs.Views.{bodies-Many, forest-made}
 
 pub many_member : (v : Vec Item Global) (vs : List Value) → (length vs == 0) ≡ false → AreItemsOf (items_view vs) v.items → IsMemberOf (json.array (items_view vs)) (Many v)
 many_member v vs some h = record {

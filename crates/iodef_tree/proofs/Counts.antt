@@ -1,10 +1,7 @@
 -- How many lines the parts of a tree have.
-use Rattle.std.proofs.Common.{◌≡◌, ℕ, suc, ◌+◌, List, [], ◌∷◌, length, sum_by, refl, ap, arith, length-append}
-use Rattle.std.proofs.lemmas.List.Sums.{sum_by-cons}
-use Rattle.std.proofs.lemmas.Grind.{common_steps}
-use Rattle.json_pointer.specs.Text.{Bytes}
-use Rattle.iodef_tree.specs.Tree.{Forest, end, leaf, branch, Body, Bodies, elements, member_front, lines}
-use Rattle.iodef_tree.specs.inner.FitValues.{line_count, body_count, bodies_count}
+use Rattle.std.proofs.{Common.{◌≡◌, ℕ, suc, ◌+◌, List, [], ◌∷◌, length, sum_by, refl, ap, arith, length-append}, lemmas.Grind.common_steps}
+use Rattle.{std.proofs.lemmas.List.Sums.sum_by-cons, json_pointer.specs.Text.Bytes, iodef_tree.specs.Tree.{Forest, end, leaf, branch, Body, Bodies, elements}}
+use Rattle.iodef_tree.specs.{Tree.{member_front, lines}, inner.FitValues.{line_count, body_count, bodies_count}}
 
 line_count-elements : (name : Bytes) (k : ℕ) (bs : List Body) (rest : Forest) → line_count (elements name k bs rest) ≡ sum_by body_count bs + line_count rest
 line_count-elements name k [] rest = omega arith

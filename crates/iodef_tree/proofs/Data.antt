@@ -1,30 +1,15 @@
 -- A tree as data, member by member.
-use Rattle.std.proofs.Common.{◌≡◌, ℕ, suc, ◌+◌, ◌<◌, Bool, true, false, List, [], ◌∷◌, map, length, drop, drop-cons, get_or, refl, sym, ◌∙◌, ap, subst, arith, true≢false, Greater, Option, Some, None, is_some, ◌==◌, bytes_eq}
-use Rattle.std.specs.List.{AllByRecursion}
-use Rattle.std.specs.Ordering.{nat_cmp, ordering_reverse}
-use Rattle.std.specs.Cmp.Lexicographic.{slice_cmp}
-use Rattle.std.proofs.lemmas.Bool.{and_parts}
-use Rattle.std.proofs.lemmas.Cmp.{nat_list_cmp_total}
-use Rattle.std.proofs.lemmas.Grind.{common_steps}
+use Rattle.std.proofs.Common.{◌≡◌, ℕ, suc, ◌+◌, ◌<◌, Bool, true, false, List, [], ◌∷◌, map, length, drop, drop-cons, get_or, refl, sym, ◌∙◌, ap, subst, arith}
+use Rattle.std.proofs.{Common.{true≢false, Greater, Option, Some, None, is_some, ◌==◌, bytes_eq}, lemmas.{Bool.and_parts, Cmp.nat_list_cmp_total}}
+use Rattle.std.{proofs.lemmas.Grind.common_steps, specs.{Cmp.Lexicographic.slice_cmp, List.AllByRecursion, Ordering.{nat_cmp, ordering_reverse}}}
+use Rattle.{serde_json.specs.{Data.{Data, put}, View.{view, members_view, items_of as listed}, declared.value.Value.Value}, json_pointer.specs.Text.Bytes}
+use Rattle.{json_pointer.specs.{Text.bytes_lt, declared.text.Text.Text}, iodef_tree.proofs.{Filled.has_elements, FromValues.MapEntry, Members.members-next}}
+use Rattle.iodef_tree.{proofs.{Order.{bytes_eq-true, bytes_lt-less, bytes_lt-trans}, Views.forest-members}, specs.{Json.content_data, Sound.SiblingPlace}}
+use Rattle.iodef_tree.specs.{Sound.{may_stand, IsOrderedBehind, IsOrdered}, Tree.{Forest, end, leaf, branch, Body, Bodies, one, many, in_front, elements}}
+use Rattle.iodef_tree.specs.{Tree.member_front, View.{forest, forest_of_members, bodies, named, members_forest}, declared.object.{Member.Member, Object.Object}}
+use Rattle.iodef_tree.specs.inner.{FitValues.{IsBodyOrdered, AreBodiesOrdered}, Written.{placed_member, placed_item, members_of, items_of, body_data}}
+use Rattle.iodef_tree.specs.inner.Written.{bodies_data, put_all}
 use Rattle.serde_json.specs.Data as json
-use Rattle.serde_json.specs.Data.{Data, put}
-use Rattle.serde_json.specs.View.{view, members_view, items_of as listed}
-use Rattle.serde_json.specs.declared.value.Value.{Value}
-use Rattle.iodef_tree.specs.inner.FitValues.{IsBodyOrdered, AreBodiesOrdered}
-use Rattle.iodef_tree.specs.Sound.{SiblingPlace, may_stand, IsOrderedBehind, IsOrdered}
-use Rattle.json_pointer.specs.Text.{Bytes, bytes_lt}
-use Rattle.iodef_tree.specs.Tree.{Forest, end, leaf, branch, Body, Bodies, one, many, in_front, elements, member_front}
-use Rattle.iodef_tree.specs.View.{forest, forest_of_members, bodies, named, members_forest}
-use Rattle.iodef_tree.specs.Json.{content_data}
-use Rattle.iodef_tree.specs.inner.Written.{placed_member, placed_item, members_of, items_of, body_data, bodies_data, put_all}
-use Rattle.json_pointer.specs.declared.text.Text.{Text}
-use Rattle.iodef_tree.specs.declared.object.Member.{Member}
-use Rattle.iodef_tree.specs.declared.object.Object.{Object}
-use Rattle.iodef_tree.proofs.Filled.{has_elements}
-use Rattle.iodef_tree.proofs.Order.{bytes_eq-true, bytes_lt-less, bytes_lt-trans}
-use Rattle.iodef_tree.proofs.FromValues.{MapEntry}
-use Rattle.iodef_tree.proofs.Members.{members-next}
-use Rattle.iodef_tree.proofs.Views.{forest-members}
 
 -- ---- one member in front
 

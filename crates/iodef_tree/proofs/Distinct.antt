@@ -1,18 +1,9 @@
 -- No two lines of a sound document have the same path.
 use Rattle.std.proofs.Common.{◌≡◌, ℕ, suc, List, [], ◌∷◌, ◌++◌, Bool, false, map, filter, sym, subst, append-nil, append_assoc, Option, arith}
-use Rattle.std.specs.List.{AllByRecursion, IsDistinct}
-use Rattle.std.proofs.lemmas.Bool.{cond_both}
-use Rattle.std.proofs.lemmas.List.{map-append}
-use Rattle.json_pointer.specs.Text.{Bytes, Tokens, same_path}
-use Rattle.iodef_tree.specs.Tree.{Forest, end, leaf, branch, steps, lines}
-use Rattle.iodef_tree.specs.Paths.{LocatedLine, is_class, located, classes_of}
-use Rattle.iodef_tree.specs.Sound.{IsSound}
-use Rattle.iodef_tree.specs.Walk.{walk}
-use Rattle.iodef_tree.specs.Laws.{AllSiblings, AreApart, HasApart}
-use Rattle.iodef_tree.proofs.Apart.{sound-apart}
-use Rattle.iodef_tree.proofs.Located.{located-lines}
-use Rattle.iodef_tree.proofs.Order.{is_false, same_path-true, same_path-common, same_path-longer, is_prefix-append}
-use Rattle.iodef_tree.proofs.Siblings.{all-append, all-map, siblings-all, siblings-map, walk-all}
+use Rattle.{std.{proofs.lemmas.{Bool.cond_both, List.map-append}, specs.List.{AllByRecursion, IsDistinct}}, json_pointer.specs.Text.{Bytes, Tokens, same_path}}
+use Rattle.iodef_tree.proofs.{Apart.sound-apart, Located.located-lines, Order.{is_false, same_path-true, same_path-common, same_path-longer, is_prefix-append}}
+use Rattle.iodef_tree.{proofs.Siblings.{all-append, all-map, siblings-all, siblings-map, walk-all}, specs.Laws.{AllSiblings, AreApart, HasApart}}
+use Rattle.iodef_tree.specs.{Paths.{LocatedLine, is_class, located, classes_of}, Sound.IsSound, Tree.{Forest, end, leaf, branch, steps, lines}, Walk.walk}
 
 abbrev path_of : LocatedLine → Tokens
 path_of e = e.path

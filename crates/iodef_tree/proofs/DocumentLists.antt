@@ -1,20 +1,11 @@
 -- A list of documents, behind those that are already made.
-use Rattle.std.proofs.Common.{◌≡◌, ◌+◌, ◌≤◌, ◌<◌, ℕ, List, [], ◌∷◌, ◌++◌, Bool, true, false, not, Option, Result, Ok, Err, refl, sym, subst, ◌∙◌, append_assoc, arith, IfSome, IfNone, is_some, IsErrAnd}
-use Rattle.iodef_tree.specs.inner.FitValues.{line_count, IsFit, AreFit}
+use Rattle.std.proofs.Common.{◌≡◌, ◌+◌, ◌≤◌, ◌<◌, ℕ, List, [], ◌∷◌, ◌++◌, Bool, true, false, not, Option, Result, Ok, Err, refl, sym, subst, ◌∙◌, append_assoc}
+use Rattle.std.proofs.{Common.{arith, IfSome, IfNone, is_some, IsErrAnd}, lemmas.{Bool.{le-ltb, lt-ltb}, List.Sums.count_by-le-length}}
+use Rattle.{serde_json.specs.{View.{view, items_view}, declared.value.Value.Value}, iodef_tree.{proofs.Counts.length-lines, specs.Reading.{◌>>=◌, if_short}}}
+use Rattle.iodef_tree.specs.{Reading.{document_of, documents, Fails, Returns}, Sound.{IsOrdered, IsSound, class_height}, Texts.HasTexts, Tree.{Forest, end}}
+use Rattle.iodef_tree.specs.{Tree.{leaf, branch, lines, height}, declared.{TheConstants.{DEPTH_LIMIT, LINE_LIMIT}, fault.ReadFault.ReadFault}}
+use Rattle.iodef_tree.specs.{declared.{fault.ReadFault.TheVariants.TooManyLines, line.Line.Line}, inner.FitValues.{line_count, IsFit, AreFit}}
 use Rattle.serde_json.specs.Data as json
-use Rattle.serde_json.specs.View.{view, items_view}
-use Rattle.serde_json.specs.declared.value.Value.{Value}
-use Rattle.std.proofs.lemmas.List.Sums.{count_by-le-length}
-use Rattle.iodef_tree.specs.Reading.{◌>>=◌, if_short, document_of, documents, Fails, Returns}
-use Rattle.iodef_tree.specs.Sound.{IsOrdered, IsSound, class_height}
-use Rattle.iodef_tree.specs.Texts.{HasTexts}
-use Rattle.iodef_tree.specs.Tree.{Forest, end, leaf, branch, lines, height}
-use Rattle.iodef_tree.specs.declared.TheConstants.{DEPTH_LIMIT, LINE_LIMIT}
-use Rattle.iodef_tree.specs.declared.line.Line.{Line}
-use Rattle.iodef_tree.specs.declared.fault.ReadFault.{ReadFault}
-use Rattle.iodef_tree.specs.declared.fault.ReadFault.TheVariants.{TooManyLines}
-use Rattle.iodef_tree.proofs.Counts.{length-lines}
-use Rattle.std.proofs.lemmas.Bool.{le-ltb, lt-ltb}
 
 abbrev pub with_front : {A : Type 0} → List A → Result (List A) ReadFault → Result (List A) ReadFault
 with_front front r = r >>= λ x. Ok (front ++ x)

@@ -1,11 +1,7 @@
 -- A property of an object's members that holds if it holds of each of them.
-use Rattle.std.proofs.Common.{◌≡◌, Ordering, Less, Equal, Greater, Some, subst}
-use Rattle.std.specs.Ordering.{nat_cmp, match_ordering}
-use Rattle.std.specs.Cmp.Lexicographic.{slice_cmp}
+use Rattle.std.{proofs.Common.{◌≡◌, Ordering, Less, Equal, Greater, Some, subst}, specs.{Cmp.Lexicographic.slice_cmp, Ordering.{nat_cmp, match_ordering}}}
+use Rattle.{serde_json.specs.{Data.{Data, put}, Find.get_member}, json_pointer.specs.Text.Bytes}
 use Rattle.serde_json.specs.Data as json
-use Rattle.serde_json.specs.Data.{Data, put}
-use Rattle.serde_json.specs.Find.{get_member}
-use Rattle.json_pointer.specs.Text.{Bytes}
 
 pub record IsEach (P : Data → Type 0) (Q : json.Members → Type 0) : Type 0 where
   pub made : (k : Bytes) (d : Data) (ms : json.Members) → P d → Q ms → Q (json.member k d ms)

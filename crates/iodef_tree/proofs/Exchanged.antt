@@ -1,20 +1,11 @@
 -- A root whose member `Incident` is exchanged.
-use Rattle.std.proofs.Common.{◌≡◌, ℕ, List, [], ◌∷◌, Option, Some, None, option_map, option_and_then, Vec, String, BTreeMap, Global, Ordering, Equal, string_bytes, string_cmp, nat_cmp, refl, sym, ap, ◌∙◌, rules, codes, arith}
-use Rattle.std.specs.List.{AllZip}
-use Rattle.std.specs.Map.{lookup}
-use Rattle.std.specs.Ordering.{match_ordering}
-use Rattle.std.specs.BTreeMap.{insert_entry, is_at}
-use Rattle.std.specs.Cmp.Lexicographic.{slice_cmp}
-use Rattle.std.proofs.lemmas.Cmp.{nat_list_cmp_total, tied_itself}
+use Rattle.std.proofs.Common.{◌≡◌, ℕ, List, [], ◌∷◌, Option, Some, None, option_map, option_and_then, Vec, String, BTreeMap, Global, Ordering, Equal}
+use Rattle.std.proofs.{Common.{string_bytes, string_cmp, nat_cmp, refl, sym, ap, ◌∙◌, rules, codes, arith}, lemmas.Cmp.{nat_list_cmp_total, tied_itself}}
+use Rattle.std.specs.{BTreeMap.{insert_entry, is_at}, Cmp.Lexicographic.slice_cmp, List.AllZip, Map.lookup, Ordering.match_ordering}
+use Rattle.serde_json.{proofs.Views.{view-Array, view-Object, view-lookup, members_view-insert_entry}, specs.{Data.{Data, put}, Find.{as_array, get_member}}}
+use Rattle.{serde_json.specs.{View.{view, members_view}, declared.value.Value.{Value, Null, Array, Object, the_lemmas}}, iodef_tree.proofs.FromValues.MapEntry}
+use Rattle.iodef_tree.specs.{Reading.with_incident, inner.FitValues.taken}
 use Rattle.serde_json.specs.Data as json
-use Rattle.serde_json.specs.Data.{Data, put}
-use Rattle.serde_json.specs.Find.{as_array, get_member}
-use Rattle.serde_json.specs.View.{view, members_view}
-use Rattle.serde_json.specs.declared.value.Value.{Value, Null, Array, Object, the_lemmas}
-use Rattle.serde_json.proofs.Views.{view-Array, view-Object, view-lookup, members_view-insert_entry}
-use Rattle.iodef_tree.specs.inner.FitValues.{taken}
-use Rattle.iodef_tree.specs.Reading.{with_incident}
-use Rattle.iodef_tree.proofs.FromValues.{MapEntry}
 
 same_text : (xs : List ℕ) → slice_cmp nat_cmp xs xs ≡ Equal
 same_text xs = tied_itself nat_list_cmp_total xs

@@ -1,19 +1,11 @@
 -- No array is empty, level by level.
 use Rattle.std.proofs.Common.{◌≡◌, ℕ, suc, ◌<◌, Bool, true, ◌&&◌, List, [], ◌∷◌, map, length, get_or, refl, sym, ◌∙◌, ap, subst, Vec, Global, rules, arith}
-use Rattle.std.specs.List.{AllByRecursion, list_all}
-use Rattle.std.proofs.lemmas.Bool.{and_parts, and_from}
-use Rattle.iodef_tree.specs.Tree.{Forest, Body, Bodies, one, many}
-use Rattle.iodef_tree.specs.View.{item_step, member_step, object_step, forest, bodies, body}
-use Rattle.iodef_tree.specs.Filled.{has_some, item_filled, member_filled, object_filled, is_object_filled, is_member_filled, is_item_filled, IsFilled, IsMemberFilled, IsItemFilled}
-use Rattle.json_pointer.specs.declared.text.Text.{Text as Bytes}
-use Rattle.iodef_tree.specs.declared.object.Object.{Object, roll-Object, the_lemmas}
-use Rattle.iodef_tree.specs.declared.object.Member.{Member}
-use Rattle.iodef_tree.specs.declared.object.Member.TheVariants.{One, Many}
-use Rattle.iodef_tree.specs.declared.object.Item.{Item}
-use Rattle.iodef_tree.specs.declared.object.Item.TheVariants.{Class, Text, Value}
-use Rattle.iodef_tree.specs.declared.object.Item.TheFolds.{fold_out-Member, map-Member}
-use Rattle.iodef_tree.specs.declared.object.Item.TheOpen.{Member-F}
-use Rattle.iodef_tree.specs.declared.object.Item.TheViews.{out-Member}
+use Rattle.{std.{proofs.lemmas.Bool.{and_parts, and_from}, specs.List.{AllByRecursion, list_all}}, json_pointer.specs.declared.text.Text.Text as Bytes}
+use Rattle.iodef_tree.specs.Filled.{has_some, item_filled, member_filled, object_filled, is_object_filled, is_member_filled, is_item_filled, IsFilled}
+use Rattle.iodef_tree.specs.{Filled.{IsMemberFilled, IsItemFilled}, Tree.{Forest, Body, Bodies, one, many}, View.{item_step, member_step, object_step, forest}}
+use Rattle.iodef_tree.specs.{View.{bodies, body}, declared.object.Item.{Item, TheFolds.{fold_out-Member, map-Member}, TheOpen.Member-F, TheVariants.Class}}
+use Rattle.iodef_tree.specs.declared.object.{Item.{TheVariants.{Text, Value}, TheViews.out-Member}, Member.{Member, TheVariants.{One, Many}}, Object.Object}
+use Rattle.iodef_tree.specs.declared.object.Object.{roll-Object, the_lemmas}
 
 pub filled-Class : (o : Object) → is_item_filled (Class o) ≡ is_object_filled o
 filled-Class o = search (rules, the_lemmas)

@@ -1,16 +1,10 @@
 -- What is known of a body in which nothing is refused.
-use Rattle.std.proofs.Common.{◌≡◌, ℕ, suc, List, [], ◌∷◌, ◌++◌, Bool, false, Option, None, Result, Ok, refl, sym, ◌∙◌, decimal, arith}
-use Rattle.std.proofs.lemmas.Bool.{or_from, or_parts}
+use Rattle.std.proofs.{Common.{◌≡◌, ℕ, suc, List, [], ◌∷◌, ◌++◌, Bool, false, Option, None, Result, Ok, refl, sym, ◌∙◌, decimal, arith}, lemmas.Bool.or_from}
+use Rattle.{std.proofs.lemmas.Bool.or_parts, serde_json.specs.{Data.Data, Written.{has_float, items_have_float, members_have_float}}}
+use Rattle.{json_pointer.specs.Text.Bytes, iodef_tree.{proofs.Seeking.any_at-beneath, specs.{Reading.{unless, ◌>>=◌, all_fit}, Values.{Surrounded, Node}}}}
+use Rattle.iodef_tree.specs.Values.{node, beneath, nodes, item_nodes, member_nodes, first_at, is_not_whole, is_nested_class, is_too_deep}
+use Rattle.iodef_tree.specs.{declared.fault.ReadFault.{ReadFault, TheVariants.{NotWhole, NestedClass, TooDeep}}, inner.FitValues.{any_at, is_refused}}
 use Rattle.serde_json.specs.Data as json
-use Rattle.serde_json.specs.Data.{Data}
-use Rattle.serde_json.specs.Written.{has_float, items_have_float, members_have_float}
-use Rattle.iodef_tree.specs.inner.FitValues.{any_at, is_refused}
-use Rattle.json_pointer.specs.Text.{Bytes}
-use Rattle.iodef_tree.specs.Values.{Surrounded, Node, node, beneath, nodes, item_nodes, member_nodes, first_at, is_not_whole, is_nested_class, is_too_deep}
-use Rattle.iodef_tree.specs.Reading.{unless, ◌>>=◌, all_fit}
-use Rattle.iodef_tree.specs.declared.fault.ReadFault.{ReadFault}
-use Rattle.iodef_tree.specs.declared.fault.ReadFault.TheVariants.{NotWhole, NestedClass, TooDeep}
-use Rattle.iodef_tree.proofs.Seeking.{any_at-beneath}
 
 -- no value of the list is refused
 abbrev pub AreClear : List Node → Type 0

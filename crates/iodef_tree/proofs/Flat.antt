@@ -1,16 +1,9 @@
 -- If nothing is refused, no array inside an array holds an object.
 use Rattle.std.proofs.Common.{◌≡◌, ◌≤◌, ℕ, suc, ◌+◌, ◌-◌, [], true, false, not, ◌&&◌, ◌||◌, refl, ap, arith, true≢false, decimal, nat_lt}
-use Rattle.std.proofs.lemmas.Bool.{and_parts, lt-ltb, and_from}
-use Rattle.std.proofs.lemmas.Bool.Decides.{nat_tests}
+use Rattle.{std.proofs.lemmas.Bool.{and_parts, lt-ltb, and_from, Decides.nat_tests}, serde_json.specs.{Data.Data, Find.is_float}, iodef_tree.proofs.Each.IsEach}
+use Rattle.iodef_tree.{proofs.Fitness.{AreClear, IsPlain, clear-apart, head}, specs.{Texts.{is_plain, are_plain}, Values.{node, nodes, item_nodes}}}
+use Rattle.iodef_tree.specs.{Values.member_nodes, declared.TheConstants.DEPTH_LIMIT, inner.FitValues.{is_flat, is_element_flat, are_flat, are_members_flat}}
 use Rattle.serde_json.specs.Data as json
-use Rattle.serde_json.specs.Data.{Data}
-use Rattle.serde_json.specs.Find.{is_float}
-use Rattle.iodef_tree.specs.inner.FitValues.{is_flat, is_element_flat, are_flat, are_members_flat}
-use Rattle.iodef_tree.specs.Texts.{is_plain, are_plain}
-use Rattle.iodef_tree.specs.Values.{node, nodes, item_nodes, member_nodes}
-use Rattle.iodef_tree.specs.declared.TheConstants.{DEPTH_LIMIT}
-use Rattle.iodef_tree.proofs.Fitness.{AreClear, IsPlain, clear-apart, head}
-use Rattle.iodef_tree.proofs.Each.{IsEach}
 
 whole-number : (x : json.Num) (o a : ℕ) → AreClear (nodes o a (json.number x)) → not (is_float x) ≡ true
 whole-number x o a h = ap not (head (node o a (json.number x)) [] h).0.whole

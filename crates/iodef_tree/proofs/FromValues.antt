@@ -1,14 +1,8 @@
 -- The values of `serde_json` as the lists that the loops go over.
-use Rattle.std.proofs.Common.{◌≡◌, ◌==◌, List, [], ◌∷◌, ◌++◌, length, map, true, false, String, Global, string_bytes, refl, sym, ap, ◌∙◌, subst, append-nil, true≢false}
-use Rattle.serde_json.specs.Data.{array}
-use Rattle.serde_json.specs.View.{view, items_view, members_view}
-use Rattle.serde_json.specs.declared.value.Value.{Value}
-use Rattle.json_pointer.specs.Text.{Bytes}
-use Rattle.iodef_tree.specs.Tree.{Body, Bodies, many}
-use Rattle.iodef_tree.specs.Values.{forest_of_data, bodies_of_data, items_of_data}
-use Rattle.iodef_tree.specs.Filled.{has_some}
-use Rattle.iodef_tree.specs.View.{body, forest_of_members}
-use Rattle.iodef_tree.specs.declared.object.Item.{Item}
+use Rattle.std.proofs.Common.{◌≡◌, ◌==◌, List, [], ◌∷◌, ◌++◌, length, map, true, false, String, Global, string_bytes, refl, sym, ap, ◌∙◌, subst, append-nil}
+use Rattle.{std.proofs.Common.true≢false, serde_json.specs.{Data.array, View.{view, items_view, members_view}, declared.value.Value.Value}}
+use Rattle.{json_pointer.specs.Text.Bytes, iodef_tree.specs.{Filled.has_some, Tree.{Body, Bodies, many}, Values.{forest_of_data, bodies_of_data}}}
+use Rattle.iodef_tree.specs.{Values.items_of_data, View.{body, forest_of_members}, declared.object.Item.Item}
 
 abbrev pub MapEntry : Type 0
 MapEntry = String Global × Value

@@ -1,11 +1,7 @@
 -- A member in front of others: its result is joined with theirs.
 use Rattle.std.proofs.Common.{◌≡◌, ℕ, suc, ◌+◌, ◌<◌, max, List, [], ◌∷◌, ◌++◌, length, get_or, drop, refl, ◌∙◌, ap, append_assoc, arith}
-use Rattle.json_pointer.specs.Text.{Bytes}
-use Rattle.iodef_tree.specs.Tree.{Forest, end, leaf, branch, Body, Bodies, elements, member_front, leaf_line, lines, height}
-use Rattle.iodef_tree.specs.View.{bodies, members_forest}
-use Rattle.json_pointer.specs.declared.text.Text.{Text}
-use Rattle.iodef_tree.specs.declared.object.Member.{Member}
-use Rattle.iodef_tree.proofs.Members.{members-next}
+use Rattle.{json_pointer.specs.{Text.Bytes, declared.text.Text.Text}, iodef_tree.{proofs.Members.members-next, specs.Tree.{Forest, end, leaf, branch, Body}}}
+use Rattle.iodef_tree.specs.{Tree.{Bodies, elements, member_front, leaf_line, lines, height}, View.{bodies, members_forest}, declared.object.Member.Member}
 
 -- ---- one forest behind another
 

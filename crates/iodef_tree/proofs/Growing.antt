@@ -1,24 +1,12 @@
 -- Members that are put behind others.
-use Rattle.std.proofs.Common.{◌≡◌, ℕ, suc, ◌+◌, ◌-◌, Bool, true, false, not, ◌==◌, ◌&&◌, List, [], ◌∷◌, ◌++◌, map, length, refl, sym, ◌∙◌, ap, subst, arith, Vec, Global, Option, Some, None, bytes_eq}
-use Rattle.std.specs.List.{AllByRecursion}
-use Rattle.std.proofs.lemmas.List.{map-append}
-use Rattle.std.proofs.lemmas.Bool.{eq-eqb}
-use Rattle.std.proofs.lemmas.Grind.{common_steps}
-use Rattle.json_pointer.specs.Text.{Bytes}
-use Rattle.iodef_tree.specs.Tree.{Forest, end, leaf, branch, Body, Bodies, many, in_front, elements, member_front, place_of, lines}
-use Rattle.iodef_tree.specs.Sound.{SiblingPlace}
-use Rattle.iodef_tree.specs.View.{forest_of_members, body, bodies, named, members_forest}
-use Rattle.iodef_tree.specs.Built.{is_numbered, IsNumberedBehind, IsBodyNumbered, last_place, IsGrown, Grows}
-use Rattle.iodef_tree.specs.Filled.{has_some, IsMemberFilled, IsItemFilled}
-use Rattle.json_pointer.specs.declared.text.Text.{Text}
-use Rattle.iodef_tree.specs.declared.object.Item.{Item}
-use Rattle.iodef_tree.specs.declared.object.Member.{Member}
-use Rattle.iodef_tree.specs.declared.object.Member.TheVariants.{One, Many}
-use Rattle.iodef_tree.proofs.Filled.{filled-One, has_some-map, many-filled, many-kept}
-use Rattle.iodef_tree.proofs.Siblings.{all-append, all-split}
-use Rattle.iodef_tree.proofs.Views.{bodies-One, bodies-Many}
-use Rattle.iodef_tree.proofs.Order.{bytes_eq-refl}
-use Rattle.iodef_tree.proofs.Fronts.{append, append-assoc, lines-append, member-append}
+use Rattle.std.proofs.Common.{◌≡◌, ℕ, suc, ◌+◌, ◌-◌, Bool, true, false, not, ◌==◌, ◌&&◌, List, [], ◌∷◌, ◌++◌, map, length, refl, sym, ◌∙◌, ap, subst, arith}
+use Rattle.std.proofs.{Common.{Vec, Global, Option, Some, None, bytes_eq}, lemmas.{Bool.eq-eqb, Grind.common_steps, List.map-append}}
+use Rattle.{std.specs.List.AllByRecursion, json_pointer.specs.{Text.Bytes, declared.text.Text.Text}, iodef_tree.proofs.Filled.{filled-One, has_some-map}}
+use Rattle.iodef_tree.proofs.{Filled.{many-filled, many-kept}, Fronts.{append, append-assoc, lines-append, member-append}, Order.bytes_eq-refl}
+use Rattle.iodef_tree.{proofs.{Siblings.{all-append, all-split}, Views.{bodies-One, bodies-Many}}, specs.Built.{is_numbered, IsNumberedBehind, IsBodyNumbered}}
+use Rattle.iodef_tree.specs.{Built.{last_place, IsGrown, Grows}, Filled.{has_some, IsMemberFilled, IsItemFilled}, Sound.SiblingPlace, Tree.{Forest, end, leaf}}
+use Rattle.iodef_tree.specs.{Tree.{branch, Body, Bodies, many, in_front, elements, member_front, place_of, lines}, View.{forest_of_members, body, bodies}}
+use Rattle.iodef_tree.specs.{View.{named, members_forest}, declared.object.{Item.Item, Member.{Member, TheVariants.{One, Many}}}}
 
 -- ---- the last of members
 

@@ -1,17 +1,9 @@
 -- A body that can be read has a document, and each of its documents has an IncidentID.
 use Rattle.std.proofs.Common.{◌≡◌, Bool, true, false, List, [], ◌∷◌, Option, None, option_map, option_and_then, ap, ◌∙◌, is_some, is_none, Ok, codes, arith}
-use Rattle.std.specs.List.{AllByRecursion}
+use Rattle.{std.specs.List.AllByRecursion, serde_json.{proofs.Views.get_member-put, specs.{Data.Data, Find.get, Written.compact_text}}}
+use Rattle.{json_pointer.specs.Text.Bytes, iodef_tree.{proofs.{Passed.passed, ReadBack.{IsRoot, HasLines, means, each-document}}, specs.Json.{zeroth, id_in}}}
+use Rattle.iodef_tree.specs.{Json.incident_id, Reading.{reading, are_incidents, lacking, documents}, declared.line.Line.Line}
 use Rattle.serde_json.specs.Data as json
-use Rattle.serde_json.specs.Data.{Data}
-use Rattle.serde_json.specs.Find.{get}
-use Rattle.serde_json.specs.Written.{compact_text}
-use Rattle.serde_json.proofs.Views.{get_member-put}
-use Rattle.iodef_tree.specs.Json.{zeroth, id_in, incident_id}
-use Rattle.iodef_tree.specs.Reading.{reading, are_incidents, lacking, documents}
-use Rattle.json_pointer.specs.Text.{Bytes}
-use Rattle.iodef_tree.specs.declared.line.Line.{Line}
-use Rattle.iodef_tree.proofs.Passed.{passed}
-use Rattle.iodef_tree.proofs.ReadBack.{IsRoot, HasLines, means, each-document}
 
 abbrev id_name : Bytes
 id_name = codes "IncidentID"

@@ -1,14 +1,10 @@
 -- The fold over a tree gives its members.
 use Rattle.std.proofs.Common.{◌≡◌, ℕ, zero, suc, Bool, true, false, [], refl, sym, ◌∙◌, ap, arith, if◌then◌else◌, ◌==◌, Option, Some, None, is_some, bytes_eq}
-use Rattle.std.proofs.lemmas.Bool.{cond-true, cond-false, and_parts, false≢true}
+use Rattle.{std.proofs.lemmas.Bool.{cond-true, cond-false, and_parts, false≢true}, serde_json.specs.Data.Data, json_pointer.specs.Text.Bytes}
+use Rattle.iodef_tree.{proofs.Order.{bytes_lt-ne, bytes_eq-refl, bytes_eq-true}, specs.Json.{content_data, element_front, json_front, json_of}}
+use Rattle.iodef_tree.specs.{Sound.{SiblingPlace, may_stand, may_stand_behind, IsOrderedBehind}, Tree.{Forest, end, leaf, branch}, inner.Written.is_later_place}
+use Rattle.iodef_tree.specs.inner.Written.{goes_on, placed_member, placed_item, members_of, items_of}
 use Rattle.serde_json.specs.Data as json
-use Rattle.serde_json.specs.Data.{Data}
-use Rattle.json_pointer.specs.Text.{Bytes}
-use Rattle.iodef_tree.specs.Tree.{Forest, end, leaf, branch}
-use Rattle.iodef_tree.specs.Json.{content_data, element_front, json_front, json_of}
-use Rattle.iodef_tree.specs.Sound.{SiblingPlace, may_stand, may_stand_behind, IsOrderedBehind}
-use Rattle.iodef_tree.specs.inner.Written.{is_later_place, goes_on, placed_member, placed_item, members_of, items_of}
-use Rattle.iodef_tree.proofs.Order.{bytes_lt-ne, bytes_eq-refl, bytes_eq-true}
 
 abbrev pub is_element : Option SiblingPlace → Bool
 is_element None = false

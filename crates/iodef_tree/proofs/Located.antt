@@ -1,17 +1,12 @@
 -- The located lines of a document are those that a walk down its tree meets.
-use Rattle.std.proofs.Common.{◌≡◌, ℕ, zero, suc, ◌+◌, ◌<◌, List, [], ◌∷◌, ◌++◌, Bool, true, false, not, cond, ◌==◌, take, count_by, refl, sym, ◌∙◌, ap, subst, append-nil, append_assoc, arith, Option, Some, None, is_some, find, bytes_eq}
-use Rattle.std.specs.Option.{option_map_or}
-use Rattle.std.specs.List.{before_first, prefix_len}
-use Rattle.std.proofs.lemmas.Bool.{and_parts, and_left, and_right, and_from, false≢true, eqb-true, eq-eqb, ne_eqb}
-use Rattle.std.proofs.lemmas.List.Sums.{sum_by-cons}
-use Rattle.std.proofs.lemmas.Grind.{common_steps}
-use Rattle.json_pointer.specs.Text.{Bytes, Tokens, bytes_lt}
-use Rattle.iodef_tree.specs.Tree.{Forest, end, leaf, branch, lines, leaf_line, class_line}
-use Rattle.iodef_tree.specs.Paths.{LocatedLine, is_one_less_deep, parent_path, is_like, place_among, entry_at, placed, located_after, located}
-use Rattle.iodef_tree.specs.Sound.{SiblingPlace, may_stand, may_stand_behind, may_stand_first, IsOrderedBehind, IsSound}
-use Rattle.iodef_tree.specs.Walk.{leaf_entry, class_entry, walk}
+use Rattle.std.proofs.Common.{◌≡◌, ℕ, zero, suc, ◌+◌, ◌<◌, List, [], ◌∷◌, ◌++◌, Bool, true, false, not, cond, ◌==◌, take, count_by, refl, sym, ◌∙◌, ap, subst}
+use Rattle.std.proofs.{Common.{append-nil, append_assoc, arith, Option, Some, None, is_some, find, bytes_eq}, lemmas.Bool.{and_parts, and_left, and_right}}
+use Rattle.std.{proofs.lemmas.{Bool.{and_from, false≢true, eqb-true, eq-eqb, ne_eqb}, Grind.common_steps, List.Sums.sum_by-cons}, specs.List.before_first}
+use Rattle.{std.specs.{List.prefix_len, Option.option_map_or}, json_pointer.specs.Text.{Bytes, Tokens, bytes_lt}, iodef_tree.proofs.Order.bytes_eq-true}
+use Rattle.iodef_tree.{proofs.Order.{bytes_lt-trans, bytes_lt-ne}, specs.Paths.{LocatedLine, is_one_less_deep, parent_path, is_like, place_among, entry_at}}
+use Rattle.iodef_tree.specs.{Paths.{placed, located_after, located}, Sound.{SiblingPlace, may_stand, may_stand_behind, may_stand_first, IsOrderedBehind}}
+use Rattle.iodef_tree.specs.{Sound.IsSound, Tree.{Forest, end, leaf, branch, lines, leaf_line, class_line}, Walk.{leaf_entry, class_entry, walk}}
 use Rattle.iodef_tree.specs.declared.line.Line.{Line}
-use Rattle.iodef_tree.proofs.Order.{bytes_eq-true, bytes_lt-trans, bytes_lt-ne}
 
 -- ---- one more line before
 

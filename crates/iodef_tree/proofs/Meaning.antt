@@ -1,28 +1,15 @@
 -- The text of a tree is that of the JSON object that its lines mean.
-use Rattle.std.proofs.Common.{◌≡◌, ℕ, zero, suc, ◌<◌, Bool, true, false, ◌&&◌, List, [], ◌∷◌, ◌++◌, refl, sym, ◌∙◌, ap, append_assoc, append-nil, arith, if◌then◌else◌, true≢false, Option, Some, None, is_some, unwrap_or, bytes_eq}
-use Rattle.std.specs.Option.{option_map_or}
-use Rattle.std.proofs.lemmas.Bool.{cond-true, cond-false, and_parts, and_right}
-use Rattle.std.proofs.lemmas.Slice.Eq.{bytes_eq-Decides}
-use Rattle.json.specs.Print.{quoted}
+use Rattle.std.proofs.Common.{◌≡◌, ℕ, zero, suc, ◌<◌, Bool, true, false, ◌&&◌, List, [], ◌∷◌, ◌++◌, refl, sym, ◌∙◌, ap, append_assoc, append-nil, arith}
+use Rattle.std.proofs.{Common.{if◌then◌else◌, true≢false, Option, Some, None, is_some, unwrap_or, bytes_eq}, lemmas.Bool.{cond-true, cond-false, and_parts}}
+use Rattle.{std.{proofs.lemmas.{Bool.and_right, Slice.Eq.bytes_eq-Decides}, specs.Option.option_map_or}, json.specs.Print.quoted, serde_json.specs.Data.Data}
+use Rattle.{serde_json.specs.Written.{comma_if, compact_text, items_text, members_text}, json_pointer.specs.Text.Bytes, iodef_tree.proofs.JsonOf.json-ordered}
+use Rattle.iodef_tree.proofs.{JsonOf.{starts, alone-behind}, Order.bytes_lt-ne, Outlines.{above-line, at-line, past-line}, Sounds.as_sibling, TreeBack.skip}
+use Rattle.iodef_tree.{proofs.{TreeBack.{Stops, stops-below, tree-ordered}, Writing.named-front}, specs.Json.{content_data, json_of, data_of}}
+use Rattle.iodef_tree.specs.{Outline.sibling, Sound.{SiblingPlace, may_stand, IsOrderedBehind, IsSound}, Texts.{may_be_value, may_be_text, HasTexts}}
+use Rattle.iodef_tree.specs.{Tree.{Content, Forest, end, leaf, branch, kind_of, text_of, leaf_line, class_line, lines}, declared.line.Line.Line}
+use Rattle.iodef_tree.specs.{declared.shape.Sibling.Sibling, inner.{FlatJson.{continues, datum, members_from, items_from, flat_data}, Written.content_text}}
+use Rattle.iodef_tree.specs.inner.Written.{front_text, is_later_place, goes_on, close_text, written, placed_member, placed_item, members_of, items_of}
 use Rattle.serde_json.specs.Data as json
-use Rattle.serde_json.specs.Data.{Data}
-use Rattle.serde_json.specs.Written.{comma_if, compact_text, items_text, members_text}
-use Rattle.json_pointer.specs.Text.{Bytes}
-use Rattle.iodef_tree.specs.Texts.{may_be_value, may_be_text, HasTexts}
-use Rattle.iodef_tree.specs.Tree.{Content, Forest, end, leaf, branch, kind_of, text_of, leaf_line, class_line, lines}
-use Rattle.iodef_tree.specs.Sound.{SiblingPlace, may_stand, IsOrderedBehind, IsSound}
-use Rattle.iodef_tree.specs.Outline.{sibling}
-use Rattle.iodef_tree.specs.Json.{content_data, json_of, data_of}
-use Rattle.iodef_tree.specs.inner.FlatJson.{continues, datum, members_from, items_from, flat_data}
-use Rattle.iodef_tree.specs.inner.Written.{content_text, front_text, is_later_place, goes_on, close_text, written, placed_member, placed_item, members_of, items_of}
-use Rattle.iodef_tree.specs.declared.line.Line.{Line}
-use Rattle.iodef_tree.specs.declared.shape.Sibling.{Sibling}
-use Rattle.iodef_tree.proofs.Order.{bytes_lt-ne}
-use Rattle.iodef_tree.proofs.JsonOf.{json-ordered, starts, alone-behind}
-use Rattle.iodef_tree.proofs.Sounds.{as_sibling}
-use Rattle.iodef_tree.proofs.TreeBack.{skip, Stops, stops-below, tree-ordered}
-use Rattle.iodef_tree.proofs.Writing.{named-front}
-use Rattle.iodef_tree.proofs.Outlines.{above-line, at-line, past-line}
 
 -- ---- the text of the value that a tree is
 

@@ -1,16 +1,8 @@
 -- A member of an object, and those behind it.
-use Rattle.std.proofs.Common.{◌≡◌, ℕ, ◌+◌, ◌<◌, List, ◌∷◌, length, get_or, drop, Bor, true, false, Option, None, option_map, sym, ◌∙◌, ap, is_some, bytes_eq, arith}
-use Rattle.std.specs.Option.{option_map_or}
-use Rattle.std.proofs.lemmas.List.{at_drop_more}
-use Rattle.std.proofs.lemmas.Grind.{common_steps}
-use Rattle.json_pointer.specs.Text.{Bytes, Tokens}
-use Rattle.iodef_tree.specs.Tree.{Body, member_front}
-use Rattle.iodef_tree.specs.inner.Lookup.{class_at, object_in, part_at}
-use Rattle.iodef_tree.specs.View.{body, bodies, members_forest}
-use Rattle.json_pointer.specs.declared.text.Text.{Text}
-use Rattle.iodef_tree.specs.declared.object.Item.{Item}
-use Rattle.iodef_tree.specs.declared.object.Member.{Member}
-use Rattle.iodef_tree.proofs.ByPath.{class_at-here, class_at-other}
+use Rattle.std.proofs.Common.{◌≡◌, ℕ, ◌+◌, ◌<◌, List, ◌∷◌, length, get_or, drop, Bor, true, false, Option, None, option_map, sym, ◌∙◌, ap, is_some, bytes_eq}
+use Rattle.{std.{proofs.{Common.arith, lemmas.{Grind.common_steps, List.at_drop_more}}, specs.Option.option_map_or}, json_pointer.specs.Text.{Bytes, Tokens}}
+use Rattle.{json_pointer.specs.declared.text.Text.Text, iodef_tree.{proofs.ByPath.{class_at-here, class_at-other}, specs.Tree.{Body, member_front}}}
+use Rattle.iodef_tree.specs.{View.{body, bodies, members_forest}, declared.object.{Item.Item, Member.Member}, inner.Lookup.{class_at, object_in, part_at}}
 
 pub members-next : (ms : List (Text × Member)) (i : ℕ) (m : Text × Member) → i < length ms → m ≡ get_or ms i m →
     members_forest (drop i ms) ≡ member_front m.0 (bodies m.1) (members_forest (drop (i + 1) ms))

@@ -1,33 +1,14 @@
 -- The member of a name, and the IncidentID.
-use Rattle.std.proofs.Common.{◌≡◌, ℕ, ◌+◌, ◌<◌, Bool, true, false, if◌then◌else◌, List, [], ◌∷◌, map, length, drop, get_or, sym, ◌∙◌, ap, subst, true≢false, Ordering, is_eq, Option, Some, None, is_some, option_map, option_and_then, codes, bytes_eq, arith}
-use Rattle.std.specs.List.{AllByRecursion}
-use Rattle.std.specs.Ordering.{nat_cmp, match_ordering}
-use Rattle.std.specs.Cmp.Lexicographic.{slice_cmp}
-use Rattle.std.proofs.lemmas.Map.Text.{is_eq-slice_cmp}
-use Rattle.std.proofs.lemmas.Grind.{common_steps}
+use Rattle.std.proofs.Common.{◌≡◌, ℕ, ◌+◌, ◌<◌, Bool, true, false, if◌then◌else◌, List, [], ◌∷◌, map, length, drop, get_or, sym, ◌∙◌, ap, subst, true≢false}
+use Rattle.std.proofs.{Common.{Ordering, is_eq, Option, Some, None, is_some, option_map, option_and_then, codes, bytes_eq, arith}, lemmas.Grind.common_steps}
+use Rattle.std.{proofs.lemmas.Map.Text.is_eq-slice_cmp, specs.{Cmp.Lexicographic.slice_cmp, List.AllByRecursion, Ordering.{nat_cmp, match_ordering}}}
+use Rattle.{serde_json.specs.{Data.Data, Find.{get_member, as_object}, Written.compact_text}, json_pointer.specs.{Text.Bytes, declared.text.Text.Text}}
+use Rattle.iodef_tree.proofs.{Data.{members-each, no-items, member-data}, Filled.has_elements, Meaning.data-is, Members.members-next, Order.is_false}
+use Rattle.iodef_tree.{proofs.{Order.{bytes_eq-true, bytes_eq-refl}, Views.forest-members}, specs.{Json.{zeroth, id_in, incident_id}, Sound.SiblingPlace}}
+use Rattle.iodef_tree.specs.{Sound.{IsOrderedBehind, IsSound}, Texts.HasTexts, Tree.{Forest, Body, Bodies, one, many, in_front, lines}, View.{forest, bodies}}
+use Rattle.iodef_tree.specs.{View.{named, members_forest}, declared.{line.Line.Line, object.{Member.Member, Object.Object}}, inner.FitValues.IsBodyOrdered}
+use Rattle.iodef_tree.specs.inner.{FitValues.AreBodiesOrdered, SoundParts.{IsKept, IsBodyKept, AreKept}, Written.{members_of, bodies_data}}
 use Rattle.serde_json.specs.Data as json
-use Rattle.serde_json.specs.Data.{Data}
-use Rattle.serde_json.specs.Find.{get_member, as_object}
-use Rattle.serde_json.specs.Written.{compact_text}
-use Rattle.iodef_tree.specs.inner.FitValues.{IsBodyOrdered, AreBodiesOrdered}
-use Rattle.iodef_tree.specs.Json.{zeroth, id_in, incident_id}
-use Rattle.iodef_tree.specs.inner.SoundParts.{IsKept, IsBodyKept, AreKept}
-use Rattle.iodef_tree.specs.Sound.{SiblingPlace, IsOrderedBehind, IsSound}
-use Rattle.json_pointer.specs.Text.{Bytes}
-use Rattle.iodef_tree.specs.Texts.{HasTexts}
-use Rattle.iodef_tree.specs.Tree.{Forest, Body, Bodies, one, many, in_front, lines}
-use Rattle.iodef_tree.specs.View.{forest, bodies, named, members_forest}
-use Rattle.iodef_tree.specs.inner.Written.{members_of, bodies_data}
-use Rattle.iodef_tree.specs.declared.line.Line.{Line}
-use Rattle.json_pointer.specs.declared.text.Text.{Text}
-use Rattle.iodef_tree.specs.declared.object.Member.{Member}
-use Rattle.iodef_tree.specs.declared.object.Object.{Object}
-use Rattle.iodef_tree.proofs.Data.{members-each, no-items, member-data}
-use Rattle.iodef_tree.proofs.Filled.{has_elements}
-use Rattle.iodef_tree.proofs.Meaning.{data-is}
-use Rattle.iodef_tree.proofs.Members.{members-next}
-use Rattle.iodef_tree.proofs.Order.{is_false, bytes_eq-true, bytes_eq-refl}
-use Rattle.iodef_tree.proofs.Views.{forest-members}
 
 -- ---- the first member of a name
 

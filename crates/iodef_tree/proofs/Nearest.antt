@@ -1,22 +1,12 @@
 -- The parent of a line is the longest class above its path.
-use Rattle.std.proofs.Common.{◌≡◌, ℕ, suc, List, [], ◌∷◌, ◌++◌, Bool, true, false, ◌&&◌, ◌||◌, refl, sym, ◌∙◌, ap, append-nil, true≢false, ◌⊎◌, inl, inr, decimal, Option, Some, None, is_some, bytes_eq, arith}
-use Rattle.std.specs.List.{AllByRecursion}
-use Rattle.std.proofs.lemmas.Bool.{and_parts, and_right, cond-false, cond_both, or_left, or_right}
-use Rattle.std.proofs.lemmas.List.Folds.{list_any-append}
-use Rattle.json_pointer.specs.Text.{Bytes, Tokens, same_path, is_root, is_prefix, is_under}
-use Rattle.iodef_tree.specs.Tree.{Forest, end, leaf, branch, steps, lines}
-use Rattle.iodef_tree.specs.Paths.{LocatedLine, is_class, located, has_class, below}
+use Rattle.std.proofs.Common.{◌≡◌, ℕ, suc, List, [], ◌∷◌, ◌++◌, Bool, true, false, ◌&&◌, ◌||◌, refl, sym, ◌∙◌, ap, append-nil, true≢false, ◌⊎◌, inl, inr}
+use Rattle.std.proofs.{Common.{decimal, Option, Some, None, is_some, bytes_eq, arith}, lemmas.Bool.{and_parts, and_right, cond-false, cond_both, or_left}}
+use Rattle.{std.{proofs.lemmas.{Bool.or_right, List.Folds.list_any-append}, specs.List.AllByRecursion}, json_pointer.specs.Text.{Bytes, Tokens, same_path}}
+use Rattle.{json_pointer.specs.Text.{is_root, is_prefix, is_under}, iodef_tree.proofs.{Apart.sound-apart, Blocks.{blocks, all-below}, ByPath.has_class-walk}}
+use Rattle.iodef_tree.proofs.{Located.located-lines, Onward.has_class-below, Order.{bytes_eq-true, same_path-refl, is_under-steps}, Siblings.all-append}
+use Rattle.iodef_tree.{proofs.Siblings.siblings-map, specs.{Laws.{AllSiblings, AreApart, HasApart, IsNearestClass}, Paths.{LocatedLine, is_class, located}}}
+use Rattle.iodef_tree.specs.{Paths.{has_class, below}, Sound.IsSound, Tree.{Forest, end, leaf, branch, steps, lines}, Walk.{walk, AreBlocks, leaf_entry}}
 use Rattle.iodef_tree.specs.inner.Lookup.{past, class_at}
-use Rattle.iodef_tree.specs.Sound.{IsSound}
-use Rattle.iodef_tree.specs.Walk.{walk, AreBlocks, leaf_entry}
-use Rattle.iodef_tree.specs.Laws.{AllSiblings, AreApart, HasApart, IsNearestClass}
-use Rattle.iodef_tree.proofs.Apart.{sound-apart}
-use Rattle.iodef_tree.proofs.Blocks.{blocks, all-below}
-use Rattle.iodef_tree.proofs.ByPath.{has_class-walk}
-use Rattle.iodef_tree.proofs.Located.{located-lines}
-use Rattle.iodef_tree.proofs.Order.{bytes_eq-true, same_path-refl, is_under-steps}
-use Rattle.iodef_tree.proofs.Siblings.{all-append, siblings-map}
-use Rattle.iodef_tree.proofs.Onward.{has_class-below}
 
 -- ---- the paths above a line's path
 

@@ -1,21 +1,12 @@
 -- No part of a document means a float.
-use Rattle.std.proofs.Common.{◌≡◌, ℕ, Bool, true, false, ◌&&◌, ◌||◌, List, [], ◌∷◌, map, refl, sym, true≢false, Option, Some, None, unwrap_or, bytes_eq, ◌-◌, nat_lt, arith}
-use Rattle.std.specs.List.{AllByRecursion}
-use Rattle.std.specs.Option.{option_map_or}
-use Rattle.std.proofs.lemmas.Bool.{and_parts, or_from, not-true}
-use Rattle.serde_json.specs.Data as json
-use Rattle.serde_json.specs.Data.{Data}
-use Rattle.serde_json.specs.Read.{read}
-use Rattle.serde_json.specs.View.{items_of as listed}
-use Rattle.serde_json.specs.Written.{compact_text, has_float, items_have_float, members_have_float}
-use Rattle.iodef_tree.specs.inner.SoundParts.{IsBodyKept, AreKept}
-use Rattle.json_pointer.specs.Text.{Bytes}
-use Rattle.iodef_tree.specs.Texts.{may_be_value, may_be_text, HasTexts, is_plain, are_plain, is_empty}
-use Rattle.iodef_tree.specs.Tree.{Content, text, value, Forest, end, leaf, branch, Body, holds, says, Bodies, one, many, kind_of, text_of}
-use Rattle.iodef_tree.specs.Json.{content_data}
+use Rattle.std.proofs.Common.{◌≡◌, ℕ, Bool, true, false, ◌&&◌, ◌||◌, List, [], ◌∷◌, map, refl, sym, true≢false, Option, Some, None, unwrap_or, bytes_eq, ◌-◌}
+use Rattle.std.{proofs.{Common.{nat_lt, arith}, lemmas.Bool.{and_parts, or_from, not-true}}, specs.{List.AllByRecursion, Option.option_map_or}}
+use Rattle.serde_json.specs.{Data.Data, Find.is_float, Read.read, View.items_of as listed, Written.{compact_text, has_float, items_have_float}}
+use Rattle.{serde_json.specs.Written.members_have_float, json_pointer.specs.Text.Bytes, iodef_tree.specs.{Json.content_data, Texts.{may_be_value, may_be_text}}}
+use Rattle.iodef_tree.specs.{Texts.{HasTexts, is_plain, are_plain, is_empty}, Tree.{Content, text, value, Forest, end, leaf, branch, Body, holds, says, Bodies}}
+use Rattle.iodef_tree.specs.{Tree.{one, many, kind_of, text_of}, declared.TheConstants.DEPTH_LIMIT, inner.SoundParts.{IsBodyKept, AreKept}}
 use Rattle.iodef_tree.specs.inner.Written.{placed_member, placed_item, members_of, items_of, body_data, bodies_data}
-use Rattle.serde_json.specs.Find.{is_float}
-use Rattle.iodef_tree.specs.declared.TheConstants.{DEPTH_LIMIT}
+use Rattle.serde_json.specs.Data as json
 
 -- ---- a value
 

@@ -1,30 +1,18 @@
 -- A value read from a text has its names in order and its numbers in range, and its own text is read as the same
 -- value.
-use Rattle.std.proofs.Common.{◌≡◌, ℕ, zero, suc, ◌^◌, ◌<◌, ◌≤◌, List, [], Bool, true, false, drop, refl, sym, ◌∙◌, ap, subst, arith, append-nil, Option, Some, option_map, option_and_then, negsuc}
-use Rattle.std.proofs.lemmas.Bool.{and_parts, cond_both, ltb-true, leb-true, or_parts}
-use Rattle.std.proofs.lemmas.Option.{cond_some, option_and_then_some, same_Some}
-use Rattle.std.proofs.lemmas.Cmp.{nat_list_cmp_total}
-use Rattle.fast_float.specs.Text.{Parts, scan, with_sign}
-use Rattle.json.specs.Token.{Token}
-use Rattle.json.specs.Lex.{tokens}
-use Rattle.json.specs.Print.{IsNumber}
+use Rattle.std.proofs.Common.{◌≡◌, ℕ, zero, suc, ◌^◌, ◌<◌, ◌≤◌, List, [], Bool, true, false, drop, refl, sym, ◌∙◌, ap, subst, arith, append-nil, Option, Some}
+use Rattle.std.proofs.{Common.{option_map, option_and_then, negsuc}, lemmas.{Bool.{and_parts, cond_both, ltb-true, leb-true, or_parts}, Cmp.nat_list_cmp_total}}
+use Rattle.{std.proofs.lemmas.Option.{cond_some, option_and_then_some, same_Some}, fast_float.specs.Text.{Parts, scan, with_sign}}
+use Rattle.json.proofs.Printed.{Decimals.{IsNumber-decimal, IsNumber-signed_decimal}, Tokens.tokens-print, Trees.{value-json_tokens, ArePrintable-json_tokens}}
+use Rattle.json.specs.{Lex.tokens, Print.IsNumber, Token.Token, Tree.{json_tokens, HasNumbers, ItemsHaveNumbers, MembersHaveNumbers}}
+use Rattle.serde_json.{proofs.{Numbers.{number_of-decimal, number_of-negative}, Texts.print-outline}, specs.Data.{Data, Num, put, depth, items_depth}}
+use Rattle.serde_json.specs.{Data.members_depth, Find.is_float, Read.{float_of, number_from, number_of, of_json, of_items, of_members, read, max_depth}}
+use Rattle.serde_json.specs.Written.{number_text, outline, items_outline, members_outline, has_float, items_have_float, members_have_float, compact_text}
+use Rattle.{json_pointer.specs.Text.{Bytes, bytes_lt}, iodef_tree.proofs.{Data.{AreAfter, Ascend, after-trans, put-ascending}, Each.{IsEach, put-each}}}
+use Rattle.iodef_tree.specs.inner.Written.{put_all}
 use Rattle.json.specs.Json as tree
 use Rattle.json.specs.Tree as sized
-use Rattle.json.specs.Tree.{json_tokens, HasNumbers, ItemsHaveNumbers, MembersHaveNumbers}
-use Rattle.json.proofs.Printed.Decimals.{IsNumber-decimal, IsNumber-signed_decimal}
-use Rattle.json.proofs.Printed.Tokens.{tokens-print}
-use Rattle.json.proofs.Printed.Trees.{value-json_tokens, ArePrintable-json_tokens}
 use Rattle.serde_json.specs.Data as json
-use Rattle.serde_json.specs.Data.{Data, Num, put, depth, items_depth, members_depth}
-use Rattle.serde_json.specs.Find.{is_float}
-use Rattle.serde_json.specs.Read.{float_of, number_from, number_of, of_json, of_items, of_members, read, max_depth}
-use Rattle.serde_json.specs.Written.{number_text, outline, items_outline, members_outline, has_float, items_have_float, members_have_float, compact_text}
-use Rattle.serde_json.proofs.Numbers.{number_of-decimal, number_of-negative}
-use Rattle.serde_json.proofs.Texts.{print-outline}
-use Rattle.json_pointer.specs.Text.{Bytes, bytes_lt}
-use Rattle.iodef_tree.specs.inner.Written.{put_all}
-use Rattle.iodef_tree.proofs.Data.{AreAfter, Ascend, after-trans, put-ascending}
-use Rattle.iodef_tree.proofs.Each.{IsEach, put-each}
 
 -- ---- numbers
 

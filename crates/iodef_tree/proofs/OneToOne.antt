@@ -1,14 +1,10 @@
 -- Two sound trees with the same lines are the same tree.
-use Rattle.std.proofs.Common.{◌≡◌, ℕ, zero, suc, ◌≤◌, List, [], ◌∷◌, ◌++◌, true, ◌==◌, refl, sym, ◌∙◌, ap, subst, arith, true≢false, Option, Some, None, is_some, bytes_eq}
-use Rattle.std.specs.List.{AllByRecursion}
-use Rattle.std.proofs.lemmas.Bool.{and_parts, false≢true, eqb-true}
-use Rattle.json_pointer.specs.Text.{Bytes, bytes_lt}
-use Rattle.iodef_tree.specs.Tree.{Content, Leaf, Forest, end, leaf, branch, kind_of, text_of, leaf_line, class_line, lines}
-use Rattle.iodef_tree.specs.Sound.{SiblingPlace, may_stand, IsOrderedBehind, IsSound}
+use Rattle.std.proofs.Common.{◌≡◌, ℕ, zero, suc, ◌≤◌, List, [], ◌∷◌, ◌++◌, true, ◌==◌, refl, sym, ◌∙◌, ap, subst, arith, true≢false, Option, Some, None}
+use Rattle.{std.{proofs.{Common.{is_some, bytes_eq}, lemmas.Bool.{and_parts, false≢true, eqb-true}}, specs.List.AllByRecursion}, json_pointer.specs.Text.Bytes}
+use Rattle.{json_pointer.specs.Text.bytes_lt, iodef_tree.{proofs.{Order.bytes_lt-ne, Siblings.all-append}, specs.Sound.{SiblingPlace, may_stand}}}
+use Rattle.iodef_tree.specs.{Sound.{IsOrderedBehind, IsSound}, Tree.{Content, Leaf, Forest, end, leaf, branch, kind_of, text_of, leaf_line, class_line, lines}}
 use Rattle.iodef_tree.specs.declared.line.Line.{Line}
 use Rattle.iodef_tree.specs.declared.line.Kind.TheVariants as kind
-use Rattle.iodef_tree.proofs.Order.{bytes_lt-ne}
-use Rattle.iodef_tree.proofs.Siblings.{all-append}
 
 -- ---- where the members of a class end
 

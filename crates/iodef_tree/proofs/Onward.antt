@@ -1,20 +1,11 @@
 -- The look-up from a class, or from the root, finds the class whose lines are below the whole path.
-use Rattle.std.proofs.Common.{◌≡◌, List, [], ◌∷◌, ◌++◌, Bool, true, false, cond, ◌&&◌, ◌||◌, refl, sym, ◌∙◌, ap, subst, append-nil, true≢false, Bor, ℕ, suc, append_assoc, Option, Some, None, is_some, option_map, IfSome, arith}
-use Rattle.std.specs.Option.{option_map_or}
-use Rattle.std.proofs.lemmas.Bool.{and_right, cond-true, cond-false}
-use Rattle.json_pointer.specs.Text.{Bytes, Tokens, same_path, is_root, is_under}
-use Rattle.iodef_tree.specs.Tree.{Forest, end, leaf, branch, steps, lines}
-use Rattle.iodef_tree.specs.Paths.{LocatedLine, is_class, located, has_class, below}
-use Rattle.iodef_tree.specs.Sound.{IsSound}
-use Rattle.iodef_tree.specs.View.{forest}
-use Rattle.iodef_tree.specs.Walk.{AreBlocks}
-use Rattle.iodef_tree.specs.Laws.{HasApart, StandsAt}
-use Rattle.iodef_tree.specs.inner.Lookup.{past, class_at, object_at}
-use Rattle.iodef_tree.specs.declared.object.Object.{Object}
-use Rattle.iodef_tree.proofs.Apart.{sound-apart}
-use Rattle.iodef_tree.proofs.Blocks.{below-weaker, blocks-in, root-block}
-use Rattle.iodef_tree.proofs.ByPath.{has_class-walk, past-some}
-use Rattle.iodef_tree.proofs.Order.{is_false, is_under-steps, same_path-true}
+use Rattle.std.proofs.Common.{◌≡◌, List, [], ◌∷◌, ◌++◌, Bool, true, false, cond, ◌&&◌, ◌||◌, refl, sym, ◌∙◌, ap, subst, append-nil, true≢false, Bor, ℕ, suc}
+use Rattle.std.proofs.{Common.{append_assoc, Option, Some, None, is_some, option_map, IfSome, arith}, lemmas.Bool.{and_right, cond-true, cond-false}}
+use Rattle.{std.specs.Option.option_map_or, json_pointer.specs.Text.{Bytes, Tokens, same_path, is_root, is_under}, iodef_tree.proofs.Apart.sound-apart}
+use Rattle.iodef_tree.proofs.{Blocks.{below-weaker, blocks-in, root-block}, ByPath.{has_class-walk, past-some}, Order.{is_false, is_under-steps}}
+use Rattle.iodef_tree.{proofs.Order.same_path-true, specs.{Laws.{HasApart, StandsAt}, Paths.{LocatedLine, is_class, located, has_class, below}, Sound.IsSound}}
+use Rattle.iodef_tree.specs.{Tree.{Forest, end, leaf, branch, steps, lines}, View.forest, Walk.AreBlocks, declared.object.Object.Object, inner.Lookup.past}
+use Rattle.iodef_tree.specs.inner.Lookup.{class_at, object_at}
 
 -- the class at a longer path is among the lines below the shorter one
 pub has_class-below : (es : List LocatedLine) (p : Tokens) (x : Bytes) (z : Tokens) → has_class es (p ++ x ∷ z) ≡ has_class (below p es) (p ++ x ∷ z)

@@ -1,15 +1,9 @@
 -- The order of texts, and prefixes of paths.
-use Rattle.std.proofs.Common.{◌≡◌, ℕ, ◌^◌, ◌<◌, [], ◌∷◌, ◌++◌, true, false, ◌&&◌, decimal, refl, sym, ◌∙◌, ap, append-nil, Ordering, Less, is_eq, true≢false, arith, Option, bytes_eq, nat_cmp, is_lt}
-use Rattle.std.specs.Cmp.Lexicographic.{slice_cmp}
-use Rattle.std.proofs.lemmas.Bool.{and_parts, false≢true}
+use Rattle.std.proofs.Common.{◌≡◌, ℕ, ◌^◌, ◌<◌, [], ◌∷◌, ◌++◌, true, false, ◌&&◌, decimal, refl, sym, ◌∙◌, ap, append-nil, Ordering, Less, is_eq, true≢false}
+use Rattle.std.proofs.{Common.{arith, Option, bytes_eq, nat_cmp, is_lt}, lemmas.{Bool.{and_parts, false≢true}, Cmp.nat_list_cmp_total, Fmt.decimal_injective}}
+use Rattle.std.{proofs.lemmas.{Grind.common_steps, Map.Text.is_eq-slice_cmp, Slice.Eq.bytes_eq-Decides}, specs.Cmp.Lexicographic.slice_cmp}
+use Rattle.{json_pointer.specs.Text.{Bytes, Tokens, bytes_lt, same_path, is_prefix, is_under}, iodef_tree.specs.Tree.steps}
 pub use Rattle.std.proofs.lemmas.Bool.{false_from_ne_true as is_false}
-use Rattle.std.proofs.lemmas.Cmp.{nat_list_cmp_total}
-use Rattle.std.proofs.lemmas.Fmt.{decimal_injective}
-use Rattle.std.proofs.lemmas.Map.Text.{is_eq-slice_cmp}
-use Rattle.std.proofs.lemmas.Slice.Eq.{bytes_eq-Decides}
-use Rattle.std.proofs.lemmas.Grind.{common_steps}
-use Rattle.json_pointer.specs.Text.{Bytes, Tokens, bytes_lt, same_path, is_prefix, is_under}
-use Rattle.iodef_tree.specs.Tree.{steps}
 
 -- ---- texts
 

@@ -1,17 +1,11 @@
 -- Outlines that grow by one line at a time.
-use Rattle.std.proofs.Common.{◌≡◌, ℕ, suc, ◌+◌, ◌-◌, ◌<◌, ◌≤◌, Bool, true, false, ◌&&◌, List, [], ◌∷◌, ◌++◌, length, take, drop, drop-cons, get_or, refl, sym, ◌∙◌, ap, arith, if◌then◌else◌, ◌==◌, Some, None, nat_lt, nat_le, slice_get}
+use Rattle.std.proofs.Common.{◌≡◌, ℕ, suc, ◌+◌, ◌-◌, ◌<◌, ◌≤◌, Bool, true, false, ◌&&◌, List, [], ◌∷◌, ◌++◌, length, take, drop, drop-cons, get_or, refl, sym}
+use Rattle.std.proofs.{Common.{◌∙◌, ap, arith, if◌then◌else◌, ◌==◌, Some, None, nat_lt, nat_le, slice_get}, Math.Bool.{and-true, and_assoc, and_comm}}
 use Rattle.std.proofs.lemmas.Bool.{cond-true, cond-false, ne_eqb, eq-eqb, lt-ltb, le-ltb, cases_lt, and_parts, and_right, leb-true, ltb-true}
-use Rattle.std.proofs.lemmas.List.{take_more, take-append-drop}
-use Rattle.std.proofs.lemmas.List.Sums.{sum_by-cons}
-use Rattle.iodef_tree.specs.Sound.{counted}
-use Rattle.iodef_tree.specs.Outline.{sibling, deepest, last_sibling, may_follow, is_sound_line, is_short, may_come, is_outline_after, is_outline, is_outline_back, edge, back_onto, back}
-use Rattle.iodef_tree.specs.Shown.{counted_with, if_short, fits_edge, Shows}
-use Rattle.iodef_tree.specs.declared.TheConstants.{LINE_LIMIT}
-use Rattle.iodef_tree.specs.declared.line.Line.{Line}
-use Rattle.iodef_tree.specs.declared.shape.Shape.{Shape}
-use Rattle.std.proofs.Math.Bool.{and-true, and_assoc, and_comm}
-use Rattle.std.proofs.lemmas.Option.{cond_some, slice_get_past}
-use Rattle.std.proofs.lemmas.Grind.{common_steps}
+use Rattle.std.proofs.lemmas.{Grind.common_steps, List.{take_more, take-append-drop, Sums.sum_by-cons}, Option.{cond_some, slice_get_past}}
+use Rattle.iodef_tree.specs.Outline.{sibling, deepest, last_sibling, may_follow, is_sound_line, is_short, may_come, is_outline_after, is_outline}
+use Rattle.iodef_tree.specs.{Outline.{is_outline_back, edge, back_onto, back}, Shown.{counted_with, if_short, fits_edge, Shows}, Sound.counted}
+use Rattle.iodef_tree.specs.declared.{TheConstants.LINE_LIMIT, line.Line.Line, shape.Shape.Shape}
 
 -- ---- lists of lines, appended and reversed
 

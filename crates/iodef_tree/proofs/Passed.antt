@@ -1,19 +1,10 @@
 -- The tests that a body that can be read has passed.
 use Rattle.std.proofs.Common.{◌≡◌, ◌≤◌, List, true, length, nat_lt, sym, ◌∙◌, ap, subst, Option, Some, Ok, Err, option_and_then, codes, arith}
-use Rattle.std.proofs.lemmas.Bool.{cond_both, ltb-false}
-use Rattle.std.proofs.lemmas.Option.{cond_some}
+use Rattle.{std.proofs.lemmas.{Bool.{cond_both, ltb-false}, Option.cond_some}, serde_json.specs.{Data.Data, Find.{get_member, as_array, as_object}, Read.read}}
+use Rattle.{json_pointer.specs.Text.Bytes, iodef_tree.{proofs.{Bodies.found_array, Fitness.{IsPlain, bind-ok, plain_ok}}, specs.Reading.{or_fault, parsed}}}
+use Rattle.iodef_tree.specs.Reading.{are_incidents, if_incidents, incidents_of, all_complete, all_fit, if_short, documents, reading}
+use Rattle.iodef_tree.specs.declared.{TheConstants.LINE_LIMIT, fault.ReadFault.{ReadFault, TheVariants.{NotDocument, TooManyLines}}, line.Line.Line}
 use Rattle.serde_json.specs.Data as json
-use Rattle.serde_json.specs.Data.{Data}
-use Rattle.serde_json.specs.Find.{get_member, as_array, as_object}
-use Rattle.serde_json.specs.Read.{read}
-use Rattle.iodef_tree.specs.Reading.{or_fault, parsed, are_incidents, if_incidents, incidents_of, all_complete, all_fit, if_short, documents, reading}
-use Rattle.json_pointer.specs.Text.{Bytes}
-use Rattle.iodef_tree.specs.declared.TheConstants.{LINE_LIMIT}
-use Rattle.iodef_tree.specs.declared.fault.ReadFault.{ReadFault}
-use Rattle.iodef_tree.specs.declared.fault.ReadFault.TheVariants.{NotDocument, TooManyLines}
-use Rattle.iodef_tree.specs.declared.line.Line.{Line}
-use Rattle.iodef_tree.proofs.Bodies.{found_array}
-use Rattle.iodef_tree.proofs.Fitness.{IsPlain, bind-ok, plain_ok}
 
 or-ok : {A : Type 0} (e : ReadFault) (o : Option A) (x : A) → or_fault e o ≡ Ok x → o ≡ Some x
 or-ok e o x h = grind arith

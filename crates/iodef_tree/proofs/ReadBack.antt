@@ -1,40 +1,21 @@
 -- The text of a document that was read is read as that one document.
-use Rattle.std.proofs.Common.{◌≡◌, ℕ, suc, ◌≤◌, List, [], ◌∷◌, true, false, ◌&&◌, map, nat_lt, nat_le, refl, sym, ◌∙◌, ap, subst, arith, Some, None, Ok, is_some, option_and_then, unwrap_or, codes, decimal}
-use Rattle.std.specs.List.{AllByRecursion}
-use Rattle.std.specs.Str.{is_utf8}
-use Rattle.std.proofs.lemmas.Bool.{and_parts, cond-true, or_parts}
-use Rattle.serde_json.specs.Data as json
-use Rattle.serde_json.specs.Data.{Data, put, depth, items_depth, members_depth}
-use Rattle.serde_json.specs.Events.{items_len}
-use Rattle.serde_json.specs.Find.{as_array, as_object}
-use Rattle.serde_json.specs.Read.{read, max_depth}
-use Rattle.serde_json.specs.View.{items_of as listed}
-use Rattle.serde_json.specs.Written.{has_float, items_have_float, members_have_float, compact_text}
-use Rattle.serde_json.proofs.Nesting.{depth-read}
-use Rattle.serde_json.proofs.Views.{get_member-put}
-use Rattle.iodef_tree.specs.inner.FitValues.{IsBodyOrdered, AreBodiesOrdered, IsFit, AreFit}
-use Rattle.iodef_tree.specs.Json.{data_of}
-use Rattle.iodef_tree.specs.Reading.{◌>>=◌, or_fault, unless, parsed, all_objects, are_incidents, if_incidents, incidents_of, lacking, all_complete, all_fit, incident_at, with_incident, document_of, if_short, documents, reading}
-use Rattle.iodef_tree.specs.Sound.{IsOrdered}
-use Rattle.json_pointer.specs.Text.{Bytes}
-use Rattle.iodef_tree.specs.Tree.{Body, Bodies, member_front, lines}
+use Rattle.std.proofs.Common.{◌≡◌, ℕ, suc, ◌≤◌, List, [], ◌∷◌, true, false, ◌&&◌, map, nat_lt, nat_le, refl, sym, ◌∙◌, ap, subst, arith, Some, None, Ok}
+use Rattle.std.{proofs.{Common.{is_some, option_and_then, unwrap_or, codes, decimal}, lemmas.Bool.{and_parts, cond-true, or_parts}}, specs.List.AllByRecursion}
+use Rattle.{std.specs.Str.is_utf8, serde_json.{proofs.{Nesting.depth-read, Views.get_member-put}, specs.Data.{Data, depth, items_depth, members_depth}}}
+use Rattle.serde_json.specs.{Events.items_len, Find.{as_array, as_object}, Read.{read, max_depth}, View.items_of as listed, Written.has_float}
+use Rattle.{serde_json.specs.Written.{items_have_float, members_have_float, compact_text}, json_pointer.specs.Text.Bytes}
+use Rattle.iodef_tree.proofs.{AscendingNames.{AreAbove, ordered_members}, Bodies.fit_object, Data.{AreAfter, Ascend, member-data, no-items}, Each.IsEach}
+use Rattle.iodef_tree.proofs.{Each.{put-each, get-each}, Exchanged.put_twice, Filled.has_elements, Fitness.{AreClear, clear-apart, clear-joined, bind-ok}}
+use Rattle.iodef_tree.proofs.{Fitness.{none_if_ok, plain_at_once}, Meaning.data-ordered, Normal.{IsNormal, AreNormal, AreMembersNormal, put-normal}}
+use Rattle.iodef_tree.{proofs.{Normal.{read-normal, read-compact, normals}, Passed.{short-ok, Passed, passed}}, specs.{Json.data_of, Reading.{◌>>=◌, or_fault}}}
+use Rattle.iodef_tree.specs.Reading.{unless, parsed, all_objects, are_incidents, if_incidents, incidents_of, lacking, all_complete, all_fit, incident_at}
+use Rattle.iodef_tree.specs.{Reading.{with_incident, document_of, if_short, documents, reading}, Sound.IsOrdered, Tree.{Body, Bodies, member_front, lines}}
 use Rattle.iodef_tree.specs.Values.{nodes, item_nodes, member_nodes, one_or_many, forest_of_data, body_of_data, elements_of_data, items_of_data, bodies_of_data}
-use Rattle.iodef_tree.specs.View.{forest_of_members}
-use Rattle.iodef_tree.specs.inner.Written.{members_of, items_of, body_data, bodies_data}
-use Rattle.iodef_tree.specs.declared.line.Line.{Line}
-use Rattle.iodef_tree.specs.declared.fault.ReadFault.TheVariants.{NotJson, Missing}
-use Rattle.iodef_tree.specs.declared.TheConstants.{REPORT_INCIDENT_LIMIT}
-use Rattle.iodef_tree.proofs.Bodies.{fit_object}
-use Rattle.iodef_tree.proofs.Data.{AreAfter, Ascend, member-data, no-items}
-use Rattle.iodef_tree.proofs.Exchanged.{put_twice}
-use Rattle.iodef_tree.proofs.Filled.{has_elements}
-use Rattle.iodef_tree.proofs.Fitness.{AreClear, clear-apart, clear-joined, bind-ok, none_if_ok, plain_at_once}
-use Rattle.iodef_tree.proofs.Meaning.{data-ordered}
-use Rattle.iodef_tree.proofs.Normal.{IsNormal, AreNormal, AreMembersNormal, put-normal, read-normal, read-compact, normals}
+use Rattle.iodef_tree.specs.{View.forest_of_members, declared.{TheConstants.REPORT_INCIDENT_LIMIT, fault.ReadFault.TheVariants.{NotJson, Missing}}}
+use Rattle.iodef_tree.specs.{declared.line.Line.Line, inner.{FitValues.{IsBodyOrdered, AreBodiesOrdered, IsFit, AreFit}, Written.{members_of, items_of}}}
+use Rattle.iodef_tree.specs.inner.Written.{body_data, bodies_data}
+use Rattle.serde_json.specs.Data as json
 use Rattle.iodef_tree.proofs.AscendingNames as ordered
-use Rattle.iodef_tree.proofs.AscendingNames.{AreAbove, ordered_members}
-use Rattle.iodef_tree.proofs.Each.{IsEach, put-each, get-each}
-use Rattle.iodef_tree.proofs.Passed.{short-ok, Passed, passed}
 
 -- ---- the members that the lines mean are those that were read
 

@@ -1,29 +1,15 @@
 -- The lines of a document that was read are those of a sound tree.
-use Rattle.std.proofs.Common.{◌≡◌, ◌≤◌, List, Bool, true, false, ◌&&◌, refl, sym, ◌∙◌, ap, subst, arith, Ok, bytes_eq}
-use Rattle.std.specs.List.{AllByRecursion}
-use Rattle.std.specs.Option.{option_map_or}
-use Rattle.std.proofs.lemmas.Bool.{and_parts, or_parts}
+use Rattle.std.proofs.{Common.{◌≡◌, ◌≤◌, List, Bool, true, false, ◌&&◌, refl, sym, ◌∙◌, ap, subst, arith, Ok, bytes_eq}, lemmas.Bool.{and_parts, or_parts}}
+use Rattle.{std.specs.{List.AllByRecursion, Option.option_map_or}, serde_json.specs.{Data.{Data, depth, items_depth, members_depth}, Read.max_depth}}
+use Rattle.{serde_json.specs.Written.{has_float, items_have_float, members_have_float, compact_text}, json_pointer.specs.Text.Bytes}
+use Rattle.iodef_tree.proofs.{Counts.length-lines, DocumentLists.sound, Normal.{IsNormal, AreNormal, AreMembersNormal, read-compact}, Order.bytes_eq-refl}
+use Rattle.iodef_tree.proofs.{Passed.{passed, short-ok, short-few}, ReadBack.{as_list, as-list, body-order, IsRoot, HasLines, normal-one, low-one}}
+use Rattle.iodef_tree.{proofs.{ReadBack.each-document, ValueTexts.texts-members}, specs.{Laws.IsDocument, Reading.{with_incident, document_of, reading}}}
+use Rattle.iodef_tree.specs.{Texts.{is_plain, may_be_value, may_be_text, HasTexts}, Tree.lines, Values.{body_of_data, items_of_data, bodies_of_data}}
+use Rattle.iodef_tree.specs.{declared.{TheConstants.DEPTH_LIMIT, line.Line.Line}, inner.FitValues.{HasBodyTexts, HaveTexts, is_flat, is_element_flat, are_flat}}
+use Rattle.iodef_tree.specs.inner.FitValues.{are_members_flat}
 use Rattle.serde_json.specs.Data as json
-use Rattle.serde_json.specs.Data.{Data, depth, items_depth, members_depth}
-use Rattle.serde_json.specs.Read.{max_depth}
-use Rattle.serde_json.specs.Written.{has_float, items_have_float, members_have_float, compact_text}
-use Rattle.json_pointer.specs.Text.{Bytes}
-use Rattle.iodef_tree.specs.inner.FitValues.{HasBodyTexts, HaveTexts, is_flat, is_element_flat, are_flat, are_members_flat}
-use Rattle.iodef_tree.specs.Laws.{IsDocument}
-use Rattle.iodef_tree.specs.Reading.{with_incident, document_of, reading}
-use Rattle.iodef_tree.specs.Texts.{is_plain, may_be_value, may_be_text, HasTexts}
-use Rattle.iodef_tree.specs.Tree.{lines}
-use Rattle.iodef_tree.specs.Values.{body_of_data, items_of_data, bodies_of_data}
-use Rattle.iodef_tree.specs.declared.TheConstants.{DEPTH_LIMIT}
 use Rattle.iodef_tree.specs.declared.line.Kind.TheVariants as kind
-use Rattle.iodef_tree.specs.declared.line.Line.{Line}
-use Rattle.iodef_tree.proofs.Counts.{length-lines}
-use Rattle.iodef_tree.proofs.DocumentLists.{sound}
-use Rattle.iodef_tree.proofs.Normal.{IsNormal, AreNormal, AreMembersNormal, read-compact}
-use Rattle.iodef_tree.proofs.Order.{bytes_eq-refl}
-use Rattle.iodef_tree.proofs.Passed.{passed, short-ok, short-few}
-use Rattle.iodef_tree.proofs.ReadBack.{as_list, as-list, body-order, IsRoot, HasLines, normal-one, low-one, each-document}
-use Rattle.iodef_tree.proofs.ValueTexts.{texts-members}
 
 -- ---- the texts of its plain lines
 

@@ -1,9 +1,6 @@
 -- The first of some values that passes a test, with the values inside one value before the others.
-use Rattle.std.proofs.Common.{◌≡◌, List, [], ◌∷◌, ◌++◌, Bool, ◌||◌, Some, None, refl, arith}
-use Rattle.std.proofs.lemmas.Grind.{common_steps}
-use Rattle.iodef_tree.specs.inner.FitValues.{any_at}
-use Rattle.json_pointer.specs.Text.{Bytes, Tokens}
-use Rattle.iodef_tree.specs.Values.{Surrounded, Node, beneath, first_at}
+use Rattle.{std.proofs.{Common.{◌≡◌, List, [], ◌∷◌, ◌++◌, Bool, ◌||◌, Some, None, refl, arith}, lemmas.Grind.common_steps}, json_pointer.specs.Text.Bytes}
+use Rattle.{json_pointer.specs.Text.Tokens, iodef_tree.specs.{Values.{Surrounded, Node, beneath, first_at}, inner.FitValues.any_at}}
 
 pub first_at-none : (f : Surrounded → Bool) (t : Bytes) (a b : List Node) → first_at f a ≡ None → first_at f (beneath t a ++ b) ≡ first_at f b
 first_at-none f t [] b e = refl

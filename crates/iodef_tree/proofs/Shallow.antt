@@ -1,15 +1,10 @@
 -- If no value is too deep, the trees are low.
-use Rattle.std.proofs.Common.{◌≡◌, ℕ, suc, ◌+◌, ◌≤◌, max, List, [], ◌∷◌, nat_lt, ◌&&◌, arith, decimal, is_some}
-use Rattle.serde_json.specs.Data as json
-use Rattle.serde_json.specs.Data.{Data}
-use Rattle.serde_json.specs.Find.{as_array}
-use Rattle.json_pointer.specs.Text.{Bytes}
-use Rattle.iodef_tree.specs.Tree.{Forest, Body, holds, says, Bodies, one, many, elements, member_front, height}
-use Rattle.iodef_tree.specs.Values.{Node, node, nodes, item_nodes, member_nodes, one_or_many, bodies_of_data, body_of_data, elements_of_data, items_of_data, forest_of_data}
+use Rattle.std.proofs.{Common.{◌≡◌, ℕ, suc, ◌+◌, ◌≤◌, max, List, [], ◌∷◌, nat_lt, ◌&&◌, arith, decimal, is_some}, lemmas.Bool.{ltb-false, or_parts}}
+use Rattle.{serde_json.specs.{Data.Data, Find.as_array}, json_pointer.specs.Text.Bytes, iodef_tree.proofs.{Each.IsEach, Fitness.{AreClear, clear-apart, head}}}
+use Rattle.iodef_tree.specs.{Tree.{Forest, Body, holds, says, Bodies, one, many, elements, member_front, height}, Values.{Node, node, nodes, item_nodes}}
+use Rattle.iodef_tree.specs.Values.{member_nodes, one_or_many, bodies_of_data, body_of_data, elements_of_data, items_of_data, forest_of_data}
 use Rattle.iodef_tree.specs.declared.TheConstants.{DEPTH_LIMIT}
-use Rattle.iodef_tree.proofs.Fitness.{AreClear, clear-apart, head}
-use Rattle.std.proofs.lemmas.Bool.{ltb-false, or_parts}
-use Rattle.iodef_tree.proofs.Each.{IsEach}
+use Rattle.serde_json.specs.Data as json
 
 abbrev pub body_height : Body → ℕ
 body_height (holds kids) = suc (height kids)

@@ -1,12 +1,7 @@
 -- Properties of siblings, and so of all lines at or below them.
 use Rattle.std.proofs.Common.{◌≡◌, ℕ, suc, List, [], ◌∷◌, ◌++◌, Bool, true, false, map, filter, refl, sym, ◌∙◌, ap, subst, append-nil, append_assoc, Option}
-use Rattle.std.specs.List.{AllByRecursion}
-use Rattle.std.proofs.lemmas.Bool.{cond-true, cond-false}
-use Rattle.json_pointer.specs.Text.{Bytes, Tokens}
-use Rattle.iodef_tree.specs.Tree.{Forest, end, leaf, branch, steps}
-use Rattle.iodef_tree.specs.Paths.{LocatedLine}
-use Rattle.iodef_tree.specs.Walk.{walk}
-use Rattle.iodef_tree.specs.Laws.{AllSiblings}
+use Rattle.{std.{proofs.lemmas.Bool.{cond-true, cond-false}, specs.List.AllByRecursion}, json_pointer.specs.Text.{Bytes, Tokens}}
+use Rattle.iodef_tree.specs.{Laws.AllSiblings, Paths.LocatedLine, Tree.{Forest, end, leaf, branch, steps}, Walk.walk}
 
 -- ---- lists
 

@@ -1,19 +1,12 @@
 -- A numbered tree whose lines are an outline is that of a document.
 use Rattle.std.proofs.Common.{◌≡◌, ℕ, suc, ◌+◌, ◌≤◌, ◌<◌, true, List, [], ◌∷◌, refl, sym, ◌∙◌, ap, arith, if◌then◌else◌, Option, Some, None, is_some, nat_le}
-use Rattle.std.proofs.lemmas.Bool.{and_parts, leb-true}
-use Rattle.std.proofs.lemmas.List.Sums.{sum_by-cons}
-use Rattle.std.proofs.lemmas.Grind.{common_steps}
-use Rattle.json_pointer.specs.Text.{Bytes}
-use Rattle.iodef_tree.specs.Texts.{HasTexts}
-use Rattle.iodef_tree.specs.Tree.{Content, Forest, end, leaf, branch, kind_of, leaf_line, class_line, lines, height}
-use Rattle.iodef_tree.specs.Paths.{is_class_kind}
-use Rattle.iodef_tree.specs.Sound.{SiblingPlace, may_stand, IsOrderedBehind, counted, class_height, IsSound}
-use Rattle.iodef_tree.specs.Outline.{sibling, last_sibling, may_follow, is_within_depth, is_sound_line, may_come, is_outline_after, is_outline, is_outline_back, back_onto, back}
-use Rattle.iodef_tree.specs.Built.{is_numbered, IsNumberedBehind, IsNumbered}
-use Rattle.iodef_tree.specs.declared.TheConstants.{DEPTH_LIMIT, LINE_LIMIT}
-use Rattle.iodef_tree.specs.declared.line.Line.{Line}
-use Rattle.iodef_tree.specs.declared.shape.Sibling.{Sibling}
+use Rattle.{std.proofs.lemmas.{Bool.{and_parts, leb-true}, Grind.common_steps, List.Sums.sum_by-cons}, json_pointer.specs.Text.Bytes}
 use Rattle.iodef_tree.proofs.Outlines.{outline_after-append, back_onto-append, outline-back, Came, came, above-line, at-line, past-line}
+use Rattle.iodef_tree.specs.{Built.{is_numbered, IsNumberedBehind, IsNumbered}, Outline.{sibling, last_sibling, may_follow, is_within_depth, is_sound_line}}
+use Rattle.iodef_tree.specs.{Outline.{may_come, is_outline_after, is_outline, is_outline_back, back_onto, back}, Paths.is_class_kind, Sound.SiblingPlace}
+use Rattle.iodef_tree.specs.{Sound.{may_stand, IsOrderedBehind, counted, class_height, IsSound}, Texts.HasTexts, Tree.{Content, Forest, end, leaf, branch}}
+use Rattle.iodef_tree.specs.{Tree.{kind_of, leaf_line, class_line, lines, height}, declared.{TheConstants.{DEPTH_LIMIT, LINE_LIMIT}, line.Line.Line}}
+use Rattle.iodef_tree.specs.declared.shape.Sibling.{Sibling}
 
 -- ---- the siblings of a tree among its lines
 

@@ -1,28 +1,12 @@
 -- The open classes of a document under construction.
 use Rattle.std.proofs.Common.{◌≡◌, ℕ, suc, ◌+◌, ◌-◌, Bool, true, List, [], ◌∷◌, ◌++◌, length, refl, sym, ◌∙◌, ap, subst, append_assoc, arith, is_some}
-use Rattle.std.specs.List.{AllByRecursion}
-use Rattle.std.proofs.lemmas.Bool.{and_parts}
-use Rattle.std.proofs.lemmas.List.{append-nil, length_push}
-use Rattle.std.proofs.lemmas.Grind.{common_steps}
-use Rattle.json_pointer.specs.Text.{Bytes}
-use Rattle.iodef_tree.specs.Texts.{may_be_text, is_empty_text}
-use Rattle.iodef_tree.specs.Tree.{Content, text, value, Forest, end, Body, holds, says, in_front, place_of, class_line, kind_of, text_of, lines}
-use Rattle.iodef_tree.specs.Sound.{IsSound}
-use Rattle.iodef_tree.specs.Filled.{IsFilled}
-use Rattle.iodef_tree.specs.Outline.{deepest, back, may_come, is_outline, is_within_depth}
-use Rattle.iodef_tree.specs.View.{forest, body}
-use Rattle.iodef_tree.specs.Built.{IsGrown, Grows, open_line, lines_down, lines_of, IsOpenGrown, IsSpineGrown, Extends, HasLine}
-use Rattle.iodef_tree.specs.declared.line.Line.{Line}
-use Rattle.iodef_tree.specs.declared.line.Kind.{Kind}
+use Rattle.{std.{proofs.lemmas.{Bool.and_parts, Grind.common_steps, List.{append-nil, length_push}}, specs.List.AllByRecursion}, json_pointer.specs.Text.Bytes}
+use Rattle.iodef_tree.proofs.{Filled.object-filled, Outlines.{came, back-push}, Siblings.{all-append, all-split}, Sounds.outline-sound, Views.forest-members}
+use Rattle.iodef_tree.{proofs.Views.body-Class, specs.Built.{IsGrown, Grows, open_line, lines_down, lines_of, IsOpenGrown, IsSpineGrown, Extends, HasLine}}
+use Rattle.iodef_tree.specs.{Filled.IsFilled, Outline.{deepest, back, may_come, is_outline, is_within_depth}, Sound.IsSound, Texts.{may_be_text, is_empty_text}}
+use Rattle.iodef_tree.specs.{Tree.{Content, text, value, Forest, end, Body, holds, says, in_front, place_of, class_line, kind_of, text_of, lines}, View.forest}
+use Rattle.iodef_tree.specs.{View.body, declared.{builder.{Open.Open, Spine.Spine}, line.{Kind.Kind, Line.Line}, object.Item.TheVariants.Class}}
 use Rattle.iodef_tree.specs.declared.line.Kind.TheVariants as kind
-use Rattle.iodef_tree.specs.declared.object.Item.TheVariants.{Class}
-use Rattle.iodef_tree.specs.declared.builder.Open.{Open}
-use Rattle.iodef_tree.specs.declared.builder.Spine.{Spine}
-use Rattle.iodef_tree.proofs.Views.{forest-members, body-Class}
-use Rattle.iodef_tree.proofs.Outlines.{came, back-push}
-use Rattle.iodef_tree.proofs.Filled.{object-filled}
-use Rattle.iodef_tree.proofs.Siblings.{all-append, all-split}
-use Rattle.iodef_tree.proofs.Sounds.{outline-sound}
 
 one-longer : (xs : List Open) (x : Open) → length (xs ++ x ∷ []) ≡ suc (length xs)
 one-longer xs x = search (arith, length_push)

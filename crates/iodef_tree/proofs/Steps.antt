@@ -1,20 +1,10 @@
 -- The lemmas that a function's goals follow from, by its name.
-use Rattle.std.proofs.lemmas.Grind.{common_steps}
-use Rattle.std.proofs.lemmas.Bool.{eqb-true, not-true}
-use Rattle.std.proofs.lemmas.Bool.Decides.{nat_tests}
-use Rattle.std.proofs.lemmas.List.{take_all, nil_from_length}
-use Rattle.std.proofs.lemmas.Result.{IfOk-weaker}
-use Rattle.serde_json.proofs.Views.{view-Object, items_len-items_view}
-use Rattle.iodef_tree.proofs.Accepted.{lines-outline}
-use Rattle.iodef_tree.proofs.ByPath.{has_class-root}
-use Rattle.iodef_tree.proofs.ClassesBelow.{classes-lines}
-use Rattle.iodef_tree.proofs.DocumentLists.{fit_parts, failed_front, gives_err, failed_last, last_done, room_lacks, too_long, room_kept, sound, short_enough}
-use Rattle.iodef_tree.proofs.Exchanged.{taken_none, taken_some}
-use Rattle.iodef_tree.proofs.Fitness.{plain_at_once}
-use Rattle.iodef_tree.proofs.Meaning.{text-is, data-is}
-use Rattle.iodef_tree.proofs.MembersByName.{id-found, kept-ordered}
-use Rattle.iodef_tree.proofs.NoFloat.{kept-whole, value-no_float}
-use Rattle.iodef_tree.proofs.Outlines.{no-outline, back-upto, upto, outline-back}
+use Rattle.std.proofs.lemmas.{Bool.{eqb-true, not-true, Decides.nat_tests}, Grind.common_steps, List.{take_all, nil_from_length}, Result.IfOk-weaker}
+use Rattle.{serde_json.proofs.Views.{view-Object, items_len-items_view}, iodef_tree.proofs.{Accepted.lines-outline, ByPath.has_class-root}}
+use Rattle.iodef_tree.proofs.{ClassesBelow.classes-lines, DocumentLists.{fit_parts, failed_front, gives_err, failed_last, last_done, room_lacks, too_long}}
+use Rattle.iodef_tree.proofs.{DocumentLists.{room_kept, sound, short_enough}, Exchanged.{taken_none, taken_some}, Fitness.plain_at_once, Meaning.text-is}
+use Rattle.iodef_tree.proofs.{Meaning.data-is, MembersByName.{id-found, kept-ordered}, NoFloat.{kept-whole, value-no_float}, Outlines.{no-outline, back-upto}}
+use Rattle.iodef_tree.proofs.Outlines.{upto, outline-back}
 
 pub ruleset from_outline_steps = (common_steps, no-outline, back-upto, upto, outline-back, take_all)
 

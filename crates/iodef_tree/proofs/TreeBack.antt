@@ -1,17 +1,10 @@
 -- The tree of a tree's lines is that tree.
-use Rattle.std.proofs.Common.{◌≡◌, ℕ, zero, suc, ◌<◌, true, false, List, [], ◌∷◌, ◌++◌, refl, sym, ◌∙◌, ap, append_assoc, append-nil, arith, ◌==◌, Option, Some, None, is_some, bytes_eq}
-use Rattle.std.proofs.lemmas.Bool.{cond-true, cond-false, eqb-true, and_parts, false≢true}
-use Rattle.json_pointer.specs.Text.{Bytes, bytes_lt}
-use Rattle.iodef_tree.specs.Tree.{Content, text, value, Forest, end, leaf, branch, Body, holds, says, in_front, place_of, kind_of, text_of, leaf_line, class_line, lines}
-use Rattle.iodef_tree.specs.TreeOf.{body_of_line, next_place, tree_from, tree_of}
-use Rattle.iodef_tree.specs.Paths.{located}
-use Rattle.iodef_tree.specs.Laws.{IsDocument}
-use Rattle.iodef_tree.specs.Sound.{SiblingPlace, may_stand, IsOrderedBehind, IsSound}
-use Rattle.iodef_tree.specs.Walk.{walk, walked}
-use Rattle.iodef_tree.specs.declared.line.Line.{Line}
-use Rattle.iodef_tree.proofs.Located.{located-lines}
-use Rattle.iodef_tree.proofs.Order.{bytes_lt-ne}
-use Rattle.iodef_tree.proofs.Outlines.{above-line, at-line, past-line}
+use Rattle.std.proofs.Common.{◌≡◌, ℕ, zero, suc, ◌<◌, true, List, [], ◌∷◌, ◌++◌, refl, sym, ◌∙◌, ap, append_assoc, append-nil, arith, ◌==◌, Option, Some, None}
+use Rattle.{std.proofs.{Common.{is_some, bytes_eq}, lemmas.Bool.{cond-true, cond-false, eqb-true, and_parts, false≢true}}, json_pointer.specs.Text.Bytes}
+use Rattle.iodef_tree.{proofs.{Located.located-lines, Order.bytes_lt-ne, Outlines.{above-line, at-line, past-line}}, specs.{Laws.IsDocument, Paths.located}}
+use Rattle.iodef_tree.specs.{Sound.{SiblingPlace, may_stand, IsOrderedBehind, IsSound}, Tree.{Content, text, value, Forest, end, leaf, branch, Body, holds}}
+use Rattle.iodef_tree.specs.{Tree.{says, in_front, place_of, kind_of, text_of, leaf_line, class_line, lines}, TreeOf.{body_of_line, next_place, tree_from}}
+use Rattle.iodef_tree.specs.{TreeOf.tree_of, Walk.{walk, walked}, declared.line.Line.Line}
 
 -- ---- deeper lines change nothing
 

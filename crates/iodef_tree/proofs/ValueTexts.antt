@@ -1,22 +1,11 @@
 -- The texts of a tree that is made of JSON values.
-use Rattle.std.proofs.Common.{◌≡◌, ◌≤◌, ℕ, suc, ◌-◌, Bool, true, false, ◌&&◌, ◌||◌, List, [], ◌∷◌, refl, sym, ap, ◌∙◌, arith, true≢false, Option, Some, None, is_some, nat_lt, bytes_eq}
-use Rattle.std.specs.List.{AllByRecursion}
-use Rattle.std.specs.Option.{option_map_or}
-use Rattle.std.proofs.lemmas.Bool.{and_parts, ltb-true}
-use Rattle.std.proofs.lemmas.Slice.Eq.{bytes_eq-Decides}
+use Rattle.std.proofs.Common.{◌≡◌, ◌≤◌, ℕ, suc, ◌-◌, Bool, true, false, ◌&&◌, ◌||◌, List, [], ◌∷◌, refl, sym, ap, ◌∙◌, arith, true≢false, Option, Some, None}
+use Rattle.std.{proofs.{Common.{is_some, nat_lt, bytes_eq}, lemmas.{Bool.{and_parts, ltb-true}, Slice.Eq.bytes_eq-Decides}}, specs.List.AllByRecursion}
+use Rattle.{std.specs.Option.option_map_or, serde_json.specs.{Data.{Data, depth, items_depth}, Read.{max_depth, read}, View.view, Written.compact_text}}
+use Rattle.{serde_json.specs.declared.value.Value.Value, json_pointer.specs.Text.Bytes, iodef_tree.specs.Texts.{is_plain, are_plain, is_empty, may_be_value}}
+use Rattle.iodef_tree.specs.{Texts.{may_be_text, HasTexts}, Tree.{Forest, Body, says, value, Bodies, one, many, in_front, elements}, Values.bodies_of_data}
+use Rattle.iodef_tree.specs.{Values.body_of_data, View.forest_of_members, declared.TheConstants.DEPTH_LIMIT, inner.FitValues.{HasBodyTexts, HaveTexts}}
 use Rattle.serde_json.specs.Data as json
-use Rattle.serde_json.specs.Data.{Data, depth, items_depth}
-use Rattle.serde_json.specs.Read.{max_depth, read}
-use Rattle.serde_json.specs.View.{view}
-use Rattle.serde_json.specs.Written.{compact_text}
-use Rattle.serde_json.specs.declared.value.Value.{Value}
-use Rattle.iodef_tree.specs.inner.FitValues.{HasBodyTexts, HaveTexts}
-use Rattle.json_pointer.specs.Text.{Bytes}
-use Rattle.iodef_tree.specs.Texts.{is_plain, are_plain, is_empty, may_be_value, may_be_text, HasTexts}
-use Rattle.iodef_tree.specs.Tree.{Forest, Body, says, value, Bodies, one, many, in_front, elements}
-use Rattle.iodef_tree.specs.Values.{bodies_of_data, body_of_data}
-use Rattle.iodef_tree.specs.View.{forest_of_members}
-use Rattle.iodef_tree.specs.declared.TheConstants.{DEPTH_LIMIT}
 use Rattle.iodef_tree.specs.declared.line.Kind.TheVariants as kind
 
 -- ---- a tree, member by member

@@ -1,13 +1,7 @@
 -- An object, level by level.
-use Rattle.std.proofs.Common.{◌≡◌, map, Vec, Global, rules}
-use Rattle.iodef_tree.specs.Tree.{text, value, holds, says, one, many}
-use Rattle.iodef_tree.specs.View.{forest, bodies, body, members_forest}
-use Rattle.json_pointer.specs.declared.text.Text.{Text as Bytes}
-use Rattle.iodef_tree.specs.declared.object.Object.{Object, roll-Object, the_lemmas}
-use Rattle.iodef_tree.specs.declared.object.Member.{Member}
-use Rattle.iodef_tree.specs.declared.object.Member.TheVariants.{One, Many}
-use Rattle.iodef_tree.specs.declared.object.Item.{Item}
-use Rattle.iodef_tree.specs.declared.object.Item.TheVariants.{Class, Text, Value}
+use Rattle.{std.proofs.Common.{◌≡◌, map, Vec, Global, rules}, json_pointer.specs.declared.text.Text.Text as Bytes, iodef_tree.specs.Tree.{text, value, holds}}
+use Rattle.iodef_tree.specs.{Tree.{says, one, many}, View.{forest, bodies, body, members_forest}, declared.object.Item.{Item, TheVariants.{Class, Text, Value}}}
+use Rattle.iodef_tree.specs.declared.object.{Member.{Member, TheVariants.{One, Many}}, Object.{Object, roll-Object, the_lemmas}}
 
 pub body-Class : (o : Object) → body (Class o) ≡ holds (forest o)
 body-Class o = search (rules, the_lemmas)

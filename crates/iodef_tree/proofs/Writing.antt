@@ -1,16 +1,9 @@
 -- The text of a tree, member by member.
-use Rattle.std.proofs.Common.{◌≡◌, ℕ, suc, ◌+◌, ◌<◌, Bool, true, false, List, [], ◌∷◌, ◌++◌, length, drop, get_or, refl, ap, append_assoc, if◌then◌else◌, Some, None, arith}
-use Rattle.std.proofs.lemmas.Grind.{common_steps}
-use Rattle.json.specs.Print.{quoted}
-use Rattle.serde_json.specs.Written.{comma_if}
-use Rattle.json_pointer.specs.Text.{Bytes}
-use Rattle.iodef_tree.specs.Tree.{Forest, Body, Bodies, one, many, in_front, elements, member_front}
-use Rattle.iodef_tree.specs.View.{forest_of_members, bodies, members_forest}
-use Rattle.json_pointer.specs.declared.text.Text.{Text}
-use Rattle.iodef_tree.specs.declared.object.Member.{Member}
-use Rattle.iodef_tree.proofs.Filled.{has_elements}
-use Rattle.iodef_tree.specs.inner.Written.{goes_on, close_text, written, array_text, member_text}
-use Rattle.iodef_tree.proofs.Members.{members-next}
+use Rattle.std.proofs.Common.{◌≡◌, ℕ, suc, ◌+◌, ◌<◌, Bool, true, false, List, [], ◌∷◌, ◌++◌, length, drop, get_or, refl, ap, append_assoc, if◌then◌else◌, Some}
+use Rattle.{std.proofs.{Common.{None, arith}, lemmas.Grind.common_steps}, json.specs.Print.quoted, serde_json.specs.Written.comma_if}
+use Rattle.{json_pointer.specs.{Text.Bytes, declared.text.Text.Text}, iodef_tree.{proofs.{Filled.has_elements, Members.members-next}, specs.Tree.Forest}}
+use Rattle.iodef_tree.specs.{Tree.{Body, Bodies, one, many, in_front, elements, member_front}, View.{forest_of_members, bodies, members_forest}}
+use Rattle.iodef_tree.specs.{declared.object.Member.Member, inner.Written.{goes_on, close_text, written, array_text, member_text}}
 
 -- an array from its second element on
 written-elements : (n : Bytes) (k : ℕ) (bs : List Body) (rest : Forest) → goes_on rest ≡ false →

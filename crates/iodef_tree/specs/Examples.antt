@@ -1,7 +1,6 @@
 -- Three small bodies by their JSON values, and the lines of the one document of each; and the lines of a document, with
 -- its JSON object and its paths. The definitions compute them.
 use Rattle.std.specs.Prelude.{◌≡◌, ℕ, List, [], ◌∷◌, map, Bool, true, false, codes}
-use Rattle.serde_json.specs.Data as json
 use Rattle.serde_json.specs.Data.{Data, string, number, unsigned, array, object, no_items, no_members}
 use Rattle.json_pointer.specs.Pointer.{pointer_text}
 use Rattle.json_pointer.specs.Text.{Bytes}
@@ -12,6 +11,7 @@ use Rattle.iodef_tree.specs.Values.{forest_of_data}
 use Rattle.iodef_tree.specs.Walk.{walked}
 use Rattle.iodef_tree.specs.declared.line.Line.{Line}
 use Rattle.iodef_tree.specs.declared.line.Kind.{Kind}
+use Rattle.serde_json.specs.Data as json
 use Rattle.iodef_tree.specs.declared.line.Kind.TheVariants as kind
 
 -- a line made of its parts

@@ -1,7 +1,6 @@
 -- The JSON object that a document is (RFC 8727 section 2): a fold over its tree.
 use Rattle.std.specs.Prelude.{ℕ, List, if◌then◌else◌, Option, Some, None, unwrap_or, option_map, option_and_then, codes}
 use Rattle.std.specs.Str.{bytes_eq}
-use Rattle.serde_json.specs.Data as json
 use Rattle.serde_json.specs.Data.{Data}
 use Rattle.serde_json.specs.Find.{get, get_member, get_item}
 use Rattle.serde_json.specs.Read.{read}
@@ -10,6 +9,7 @@ use Rattle.json_pointer.specs.Text.{Bytes}
 use Rattle.iodef_tree.specs.Tree.{Content, text, value, Forest, end, leaf, branch}
 use Rattle.iodef_tree.specs.TreeOf.{tree_of}
 use Rattle.iodef_tree.specs.declared.line.Line.{Line}
+use Rattle.serde_json.specs.Data as json
 
 -- the JSON value of a plain content; a text of a value that can't be read counts as null
 abbrev pub content_data : Content → Data

@@ -1,7 +1,7 @@
 -- The result of reading a body: a document for each Incident, or the first fault.
-use Rattle.std.specs.Prelude.{ℕ, suc, ◌≡◌, List, [], ◌∷◌, length, Bool, true, ◌&&◌, nat_lt, nat_le, if◌then◌else◌, Option, Some, None, option_and_then, is_none, is_some, Result, Ok, Err, codes, decimal}
+use Rattle.std.specs.Prelude.{ℕ, suc, ◌≡◌, List, [], ◌∷◌, length, Bool, true, ◌&&◌, nat_lt, nat_le, if◌then◌else◌, Option, Some, None, option_and_then, is_none}
+use Rattle.std.specs.Prelude.{is_some, Result, Ok, Err, codes, decimal}
 use Rattle.std.specs.Str.{is_utf8}
-use Rattle.serde_json.specs.Data as json
 use Rattle.serde_json.specs.Data.{Data, put}
 use Rattle.serde_json.specs.Find.{get, get_member, as_array, as_object}
 use Rattle.serde_json.specs.Events.{items_len}
@@ -14,6 +14,7 @@ use Rattle.iodef_tree.specs.declared.line.Line.{Line}
 use Rattle.iodef_tree.specs.declared.fault.ReadFault.{ReadFault}
 use Rattle.iodef_tree.specs.declared.fault.ReadFault.TheVariants.{NotJson, NotDocument, Missing, NotWhole, NestedClass, TooDeep, TooManyLines, NoMemory}
 use Rattle.iodef_tree.specs.declared.fault.Required.{Required}
+use Rattle.serde_json.specs.Data as json
 use Rattle.iodef_tree.specs.declared.fault.Required.TheVariants as required
 
 -- ---- the names

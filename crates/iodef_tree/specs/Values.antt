@@ -1,12 +1,13 @@
 -- The values that `serde_json` reads: as the tree of a document, and value by value.
-use Rattle.std.specs.Prelude.{ℕ, suc, List, [], ◌∷◌, ◌++◌, Bool, false, ◌&&◌, ◌||◌, nat_lt, if◌then◌else◌, Option, Some, None, is_some, option_map, unwrap_or, decimal}
-use Rattle.serde_json.specs.Data as json
+use Rattle.std.specs.Prelude.{ℕ, suc, List, [], ◌∷◌, ◌++◌, Bool, false, ◌&&◌, ◌||◌, nat_lt, if◌then◌else◌, Option, Some, None, is_some, option_map, unwrap_or}
+use Rattle.std.specs.Prelude.{decimal}
 use Rattle.serde_json.specs.Data.{Data}
 use Rattle.serde_json.specs.Find.{as_array, as_number, as_object, is_float}
 use Rattle.serde_json.specs.Written.{compact_text}
 use Rattle.json_pointer.specs.Text.{Bytes, Tokens}
 use Rattle.iodef_tree.specs.Tree.{Forest, end, Body, holds, says, Bodies, one, many, text, value, member_front}
 use Rattle.iodef_tree.specs.declared.TheConstants.{DEPTH_LIMIT}
+use Rattle.serde_json.specs.Data as json
 
 -- ---- the tree of a document
 

@@ -2,13 +2,8 @@
 //! program between. Each example is the contract of a function that does nothing.
 #![tactic(auto, unfolding(crate::proofs::Computed::computed))]
 
-ghost use Rattle.iodef_tree.specs.Examples.{
-  ArraysAreSpread,
-  ClassesStandInFrontOfTheirMembers,
-  ElementsFollowOneAnother,
-  ElementsJoinTheirArray,
-  PathsAreFound,
-};
+ghost use Rattle.iodef_tree.specs.Examples.{ArraysAreSpread, ClassesStandInFrontOfTheirMembers, ElementsFollowOneAnother, ElementsJoinTheirArray};
+ghost use Rattle.iodef_tree.specs.Examples.{PathsAreFound};
 
 /// The lines of a document with arrays of classes, texts and values; one of the arrays is empty.
 pub fn arrays_are_spread()

@@ -4,20 +4,9 @@
 
 ghost use Rattle.std.specs.Prelude.{◌≡◌};
 ghost use Rattle.iodef_tree.specs.declared.TheConstants.{DEPTH_LIMIT, LINE_LIMIT, REPORT_INCIDENT_LIMIT};
-ghost use Rattle.iodef_tree.specs.Laws.{
-  EntriesAreTheWalk,
-  TreesComeBack,
-  PathsAreWalked,
-  SiblingsStandApart,
-  ClassesAreBlocks,
-  PathsAreDistinct,
-  ClassPathsAreDistinct,
-  OutlineIsOneToOne,
-  LinesAreAnOutline,
-  ParentsAreNearestClasses,
-  TextsReadBack,
-  ReadingsAreDocuments,
-};
+ghost use Rattle.iodef_tree.specs.Laws.{EntriesAreTheWalk, TreesComeBack, PathsAreWalked, SiblingsStandApart, ClassesAreBlocks, PathsAreDistinct};
+ghost use Rattle.iodef_tree.specs.Laws.{ClassPathsAreDistinct, OutlineIsOneToOne, LinesAreAnOutline, ParentsAreNearestClasses, TextsReadBack};
+ghost use Rattle.iodef_tree.specs.Laws.{ReadingsAreDocuments};
 
 /// The lines of an outline, each with its path and its parent's path, are those that a walk down the tree meets.
 pub fn entries_are_the_walk()

@@ -17,13 +17,7 @@ ghost use Rattle.std.specs.Prelude.{
 ghost use Rattle.std.specs.Option.{option_map_or};
 ghost use Rattle.std.specs.List.{AllByRecursion};
 ghost use Rattle.iodef_tree.specs.Filled.{IsFilled, IsMemberFilled, IsItemFilled};
-ghost use Rattle.iodef_tree.specs.inner.Lookup.{
-  class_at as class_in_tree,
-  object_at as object_in_tree,
-  object_in,
-  element_at as element_of,
-  part_at,
-};
+ghost use Rattle.iodef_tree.specs.inner.Lookup.{class_at as class_in_tree, object_at as object_in_tree, object_in, element_at as element_of, part_at};
 ghost use Rattle.iodef_tree.specs.View.{forest, bodies, body};
 
 use crate::object::{Item, Member, Object};

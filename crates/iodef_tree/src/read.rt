@@ -6,7 +6,8 @@ ghost use Rattle.serde_json.specs.Data as spec;
 ghost use Rattle.serde_json.specs.Find.{as_array, as_object, get_member};
 ghost use Rattle.serde_json.specs.Read.{max_depth};
 ghost use Rattle.serde_json.specs.View.{view, items_view, members_view};
-ghost use Rattle.iodef_tree.specs.Reading.{Returns, parsed, lacking, all_objects, are_incidents, incidents_of, incident_at, all_complete, all_fit, with_incident, document_of, if_short, documents, reading};
+ghost use Rattle.iodef_tree.specs.Reading.{Returns, parsed, lacking, all_objects, are_incidents, incidents_of, incident_at, all_complete, all_fit};
+ghost use Rattle.iodef_tree.specs.Reading.{with_incident, document_of, if_short, documents, reading};
 ghost use Rattle.iodef_tree.specs.inner.FitValues.{IsFit, AreFit, taken};
 ghost use Rattle.iodef_tree.specs.Tree.{lines};
 

@@ -1,6 +1,5 @@
 -- Texts that begin with another.
-use Rattle.std.proofs.Common.{◌≡◌, [], ◌++◌, sym, ◌∙◌, ap, append-nil, append_assoc}
-use Rattle.json_pointer.specs.Text.{Bytes, BeginsWith}
+use Rattle.{std.proofs.Common.{◌≡◌, [], ◌++◌, sym, ◌∙◌, ap, append-nil, append_assoc}, json_pointer.specs.Text.{Bytes, BeginsWith}}
 
 pub begins_with-same : (text front : Bytes) → text ≡ front → BeginsWith text front
 begins_with-same text front e = ([], e ∙ sym (append-nil front))

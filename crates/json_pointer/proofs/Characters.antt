@@ -1,7 +1,5 @@
 -- The bytes that UTF-8 writes a character with.
-use Rattle.std.proofs.Common.{◌≡◌, ◌≤◌, ◌⊎◌, ℕ, List, [], ◌∷◌, arith}
-use Rattle.std.specs.Char.{encode_utf8}
-use Rattle.std.proofs.lemmas.Bool.{ltb-false}
+use Rattle.std.{proofs.{Common.{◌≡◌, ◌≤◌, ◌⊎◌, ℕ, List, [], ◌∷◌, arith}, lemmas.Bool.ltb-false}, specs.Char.encode_utf8}
 
 -- none of them is ASCII
 abbrev pub AreHigh : List ℕ → Type 0

@@ -1,11 +1,8 @@
 -- Reading and printing a pointer undo each other.
 use Rattle.std.proofs.Common.{◌≡◌, ℕ, List, [], ◌∷◌, ◌++◌, Bool, true, false, cond, refl, sym, ap, ◌∙◌, eqb, append-nil, Option, Some, None, All, arith}
-use Rattle.std.specs.List.{flat_map, slice_split}
-use Rattle.std.proofs.lemmas.Bool.{eqb-true, cond-false}
-use Rattle.std.proofs.lemmas.List.Elements.{All-nil, All-cons, All-append}
-use Rattle.std.proofs.lemmas.List.Splits.{slice_split_none, slice_split_at}
-use Rattle.json_pointer.specs.Text.{Bytes, Tokens}
-use Rattle.json_pointer.specs.Pointer.{escaped_byte, escaped, pointer_text, with_first, unescaped_from, unescaped, each_unescaped, is_slash, slash_separated, pointer_tokens}
+use Rattle.std.proofs.lemmas.{Bool.{eqb-true, cond-false}, List.{Elements.{All-nil, All-cons, All-append}, Splits.{slice_split_none, slice_split_at}}}
+use Rattle.{std.specs.List.{flat_map, slice_split}, json_pointer.specs.Pointer.{escaped_byte, escaped, pointer_text, with_first, unescaped_from, unescaped}}
+use Rattle.json_pointer.specs.{Pointer.{each_unescaped, is_slash, slash_separated, pointer_tokens}, Text.{Bytes, Tokens}}
 
 -- ---- what is printed is read back
 

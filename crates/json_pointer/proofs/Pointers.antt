@@ -1,9 +1,6 @@
 -- The escaping of characters.
-use Rattle.std.proofs.Common.{◌≡◌, ◌≢◌, ℕ, false, ◌==◌, List, [], ◌∷◌, ◌++◌, refl, ap, ◌∙◌, arith, encode_utf8}
-use Rattle.std.specs.List.{list_any}
-use Rattle.std.proofs.lemmas.Bool.{ne_eqb, cond-false, or_parts}
-use Rattle.json_pointer.specs.Pointer.{escaped_byte, is_escaped_byte, escaped}
-use Rattle.json_pointer.proofs.Characters.{AreHigh, encode_utf8-cases}
+use Rattle.std.proofs.{Common.{◌≡◌, ◌≢◌, ℕ, false, ◌==◌, List, [], ◌∷◌, ◌++◌, refl, ap, ◌∙◌, arith, encode_utf8}, lemmas.Bool.{ne_eqb, cond-false, or_parts}}
+use Rattle.{std.specs.List.list_any, json_pointer.{proofs.Characters.{AreHigh, encode_utf8-cases}, specs.Pointer.{escaped_byte, is_escaped_byte, escaped}}}
 
 -- a byte that is neither a tilde nor a slash is written as it is
 plain_byte : (b : ℕ) → b ≢ 126 → b ≢ 47 → escaped_byte b ≡ b ∷ []

@@ -1,7 +1,5 @@
 -- `starts_with` on tokens is `is_prefix`.
-use Rattle.std.proofs.Common.{◌≡◌, [], ◌∷◌, ◌&&◌, refl, ap, bytes_eq}
-use Rattle.std.specs.List.{starts_with}
-use Rattle.json_pointer.specs.Text.{Tokens, is_prefix}
+use Rattle.{std.{proofs.Common.{◌≡◌, [], ◌∷◌, ◌&&◌, refl, ap, bytes_eq}, specs.List.starts_with}, json_pointer.specs.Text.{Tokens, is_prefix}}
 
 pub starts_with-is_prefix : (p q : Tokens) → starts_with bytes_eq p q ≡ is_prefix q p
 starts_with-is_prefix p [] = refl

@@ -1,8 +1,6 @@
 -- The lemmas that a function's goals follow from, by its name.
-use Rattle.std.proofs.lemmas.Grind.{common_steps}
-use Rattle.json_pointer.proofs.Inverse.{pointer_tokens-pointer_text, pointer_text-pointer_tokens}
-use Rattle.json_pointer.proofs.Pointers.{escaped-encode}
-use Rattle.json_pointer.proofs.Prefixes.{starts_with-is_prefix}
+use Rattle.{std.proofs.lemmas.Grind.common_steps, json_pointer.proofs.Inverse.{pointer_tokens-pointer_text, pointer_text-pointer_tokens}}
+use Rattle.json_pointer.proofs.{Pointers.escaped-encode, Prefixes.starts_with-is_prefix}
 
 pub ruleset is_prefix_of_steps = (common_steps, starts_with-is_prefix)
 

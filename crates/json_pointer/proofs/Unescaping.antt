@@ -1,11 +1,8 @@
 -- The reading of the characters of a reference token.
 use Rattle.std.proofs.Common.{◌≡◌, ◌≢◌, ◌≤◌, ℕ, List, [], ◌∷◌, ◌++◌, true, false, sym, ap, ◌∙◌, arith, append-nil, append_assoc, Option, Some, None, option_map}
-use Rattle.std.specs.Char.{encode_utf8}
-use Rattle.std.specs.Iterator.{AlwaysYields}
-use Rattle.std.proofs.lemmas.Bool.{ne_eqb, cond-false}
-use Rattle.json_pointer.proofs.Characters.{AreHigh, encode_utf8-cases}
+use Rattle.{std.{proofs.lemmas.Bool.{ne_eqb, cond-false}, specs.{Char.encode_utf8, Iterator.AlwaysYields}}, json_pointer.proofs.Characters.AreHigh}
+use Rattle.json_pointer.{proofs.Characters.encode_utf8-cases, specs.Pointer.{escaped_by, with_first, unescaped_from, unescaped, each_unescaped, pointer_tokens}}
 use Rattle.json_pointer.specs.Text.{Tokens}
-use Rattle.json_pointer.specs.Pointer.{escaped_by, with_first, unescaped_from, unescaped, each_unescaped, pointer_tokens}
 
 -- what is read so far, in front of what is still to come
 abbrev pub made_then : {A : Type 0} → List A → Option (List A) → Option (List A)

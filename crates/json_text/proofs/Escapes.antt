@@ -1,11 +1,7 @@
 -- How a JSON string holds a byte.
-use Rattle.std.proofs.Common.{◌≡◌, ℕ, ◌+◌, ◌/◌, ◌%◌, ◌<◌, ◌≤◌, List, [], ◌∷◌, ◌++◌, IsTrue, not, ◌||◌, nat_lt, nat_eq, take, drop, refl, sym, ap, ◌∙◌, subst, append_assoc, take-append-drop, arith}
-use Rattle.std.proofs.lemmas.Bool.Decides.{nat_tests}
-use Rattle.std.proofs.lemmas.Grind.{flat_map-append}
-use Rattle.std.specs.Char.{digit_char}
-use Rattle.json.specs.Print.{escape_letter, escape_byte, escape}
-use Rattle.iodef_tree.specs.Pointer.{escaped_byte}
-use Rattle.json_text.specs.Shown.{shown_byte, shown_bytes}
+use Rattle.std.proofs.Common.{◌≡◌, ℕ, ◌/◌, ◌%◌, ◌<◌, ◌≤◌, List, [], ◌∷◌, ◌++◌, IsTrue, not, ◌||◌, nat_lt, nat_eq, take, drop, refl, sym, ap, ◌∙◌, subst}
+use Rattle.std.{proofs.{Common.{append_assoc, take-append-drop, arith}, lemmas.{Bool.Decides.nat_tests, Grind.flat_map-append}}, specs.Char.digit_char}
+use Rattle.{json.specs.Print.{escape_letter, escape_byte, escape}, iodef_tree.specs.Pointer.escaped_byte, json_text.specs.Shown.{shown_byte, shown_bytes}}
 use Rattle.json_text.specs.declared.escape.Within.{Within}
 
 -- ---- a byte

@@ -1,10 +1,7 @@
 -- An array that is put one element after another.
-use Rattle.std.proofs.Common.{◌≡◌, ℕ, ◌+◌, ◌<◌, ◌≤◌, List, [], ◌∷◌, ◌++◌, map, Bool, true, false, cond, ◌&&◌, length, drop, get_or, sym, ap, ◌∙◌, append_assoc, drop_of_length-le, arith}
-use Rattle.std.proofs.lemmas.Grind.{common_steps}
-use Rattle.serde_json.specs.Data.{Data}
-use Rattle.serde_json.specs.View.{items_of}
-use Rattle.serde_json.specs.Written.{comma_if, compact_text, items_text}
-use Rattle.json_text.proofs.Texts.{separator-begins, separator-ends}
+use Rattle.std.proofs.Common.{◌≡◌, ℕ, ◌+◌, ◌<◌, ◌≤◌, List, [], ◌∷◌, ◌++◌, map, Bool, true, false, cond, ◌&&◌, length, drop, get_or, sym, ap, ◌∙◌, append_assoc}
+use Rattle.{std.proofs.{Common.{drop_of_length-le, arith}, lemmas.Grind.common_steps}, serde_json.specs.{Data.Data, View.items_of, Written.comma_if}}
+use Rattle.{serde_json.specs.Written.{compact_text, items_text}, json_text.proofs.Texts.{separator-begins, separator-ends}}
 
 module _ {X : Type 0} (datum : X → Data) where
   -- the elements that are left, and the closing bracket

@@ -1,10 +1,7 @@
 -- An object that is put one member after another.
 use Rattle.std.proofs.Common.{◌≡◌, ℕ, List, [], ◌∷◌, ◌++◌, Bool, true, false, cond, ◌&&◌, Result, OnOk, refl, sym, ap, ◌∙◌, subst, append_assoc, append-nil}
-use Rattle.json.specs.Print.{quoted}
-use Rattle.serde_json.specs.Written.{comma_if}
-use Rattle.json_text.specs.Members.{member_text}
-use Rattle.json_text.proofs.Puts.{both-are, ok-both-are}
-use Rattle.json_text.proofs.Texts.{separator-begins, separator-ends}
+use Rattle.{json.specs.Print.quoted, serde_json.specs.Written.comma_if, json_text.proofs.{Puts.{both-are, ok-both-are}, Texts.separator-begins}}
+use Rattle.json_text.{proofs.Texts.separator-ends, specs.Members.member_text}
 
 -- a member's name, with the text of its value
 abbrev pub Named : Type 0

@@ -1,12 +1,8 @@
 -- The texts of tokens, joined.
-use Rattle.std.proofs.Common.{◌≡◌, ℕ, ◌+◌, ◌<◌, ◌≤◌, List, [], ◌∷◌, ◌++◌, Bool, true, false, cond, ◌&&◌, length, drop, get_or, refl, sym, ap, ◌∙◌, append_assoc, append-nil, drop_of_length-le, arith}
-use Rattle.std.proofs.lemmas.Grind.{common_steps, flat_map-append}
-use Rattle.std.specs.List.{flat_map}
-use Rattle.json.specs.Print.{escape_byte, escape, quoted}
-use Rattle.serde_json.specs.Written.{comma_if}
-use Rattle.iodef_tree.specs.Pointer.{escaped_byte, escaped, pointer_text}
-use Rattle.json_text.specs.Shown.{shown_bytes}
-use Rattle.json_text.specs.declared.escape.Within.TheVariants.{Token}
+use Rattle.std.proofs.Common.{◌≡◌, ℕ, ◌+◌, ◌<◌, ◌≤◌, List, [], ◌∷◌, ◌++◌, Bool, true, false, cond, ◌&&◌, length, drop, get_or, refl, sym, ap, ◌∙◌, append_assoc}
+use Rattle.std.{proofs.{Common.{append-nil, drop_of_length-le, arith}, lemmas.Grind.{common_steps, flat_map-append}}, specs.List.flat_map}
+use Rattle.{json.specs.Print.{escape_byte, escape, quoted}, serde_json.specs.Written.comma_if, iodef_tree.specs.Pointer.{escaped_byte, escaped, pointer_text}}
+use Rattle.json_text.specs.{Shown.shown_bytes, declared.escape.Within.TheVariants.Token}
 
 -- a comma before a token that begins a value or a member
 pub separator-begins : (a : Bool) → cond {A = List ℕ} (a && true) (44 ∷ []) [] ≡ comma_if a

@@ -1,17 +1,9 @@
 -- The texts of objects and arrays, joined.
-use Rattle.std.proofs.Common.{◌≡◌, ℕ, ◌+◌, ◌<◌, ◌≤◌, List, [], ◌∷◌, ◌++◌, map, Bool, true, false, cond, ◌&&◌, length, drop, get_or, refl, sym, ap, ◌∙◌, append_assoc, append-nil, drop_of_length-le, arith}
-use Rattle.std.proofs.lemmas.Grind.{common_steps}
-use Rattle.json.specs.Print.{quoted}
-use Rattle.serde_json.specs.Written.{comma_if}
-use Rattle.json_pointer.specs.declared.text.Text.{Text}
-use Rattle.iodef_tree.specs.declared.object.Item.{Item}
-use Rattle.iodef_tree.specs.declared.object.Member.{Member}
-use Rattle.iodef_tree.specs.View.{body, bodies, members_forest}
-use Rattle.iodef_tree.specs.inner.Written.{written, body_text, bodies_text, array_text, member_text}
-use Rattle.iodef_tree.specs.Tree.{Bodies}
-use Rattle.iodef_tree.proofs.Filled.{has_elements}
-use Rattle.iodef_tree.proofs.Writing.{write-member}
-use Rattle.json_text.proofs.Texts.{separator-begins, separator-ends}
+use Rattle.std.proofs.Common.{◌≡◌, ℕ, ◌+◌, ◌<◌, ◌≤◌, List, [], ◌∷◌, ◌++◌, map, Bool, true, false, cond, ◌&&◌, length, drop, get_or, refl, sym, ap, ◌∙◌}
+use Rattle.{std.proofs.{Common.{append_assoc, append-nil, drop_of_length-le, arith}, lemmas.Grind.common_steps}, json.specs.Print.quoted}
+use Rattle.{serde_json.specs.Written.comma_if, json_pointer.specs.declared.text.Text.Text, iodef_tree.proofs.{Filled.has_elements, Writing.write-member}}
+use Rattle.iodef_tree.specs.{Tree.Bodies, View.{body, bodies, members_forest}, declared.object.{Item.Item, Member.Member}, inner.Written.{written, body_text}}
+use Rattle.{iodef_tree.specs.inner.Written.{bodies_text, array_text, member_text}, json_text.proofs.Texts.{separator-begins, separator-ends}}
 
 -- a member: its name and its value
 pub member-is : (a after : Bool) (s n t : List ℕ) (held : Bodies) → s ≡ n → after ≡ false → t ≡ bodies_text held →

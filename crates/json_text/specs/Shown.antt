@@ -1,5 +1,5 @@
 -- The bytes of a JSON string (RFC 8259 section 7), and of a JSON string whose text is a JSON pointer (RFC 6901).
-use Rattle.std.specs.Prelude.{ℕ, List, [], ◌∷◌, ◌++◌}
+use Rattle.std.specs.Prelude.{ℕ, List}
 use Rattle.std.specs.List.{flat_map}
 use Rattle.json.specs.Print.{escape_byte, escape}
 use Rattle.iodef_tree.specs.Pointer.{escaped_byte}

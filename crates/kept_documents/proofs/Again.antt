@@ -1,11 +1,6 @@
 -- A read that is made once more.
-use Rattle.std.proofs.Common.{◌≡◌, ◌≤◌, ℕ, List, Option, Result, Ok, Err, inl, inr, arith}
-use Rattle.std.proofs.Math.Nat.{eq-or-lt_of_le}
-use Rattle.std.proofs.lemmas.Result.{IfOk-weaker}
-use Rattle.hub_state.specs.Shelves.{HasCause, HasFailed, IsRead, Reads}
-use Rattle.hub_state.specs.State.{State}
-use Rattle.hub_state.specs.declared.shelf.ShelfFault.{ShelfFault}
-use Rattle.hub_state.specs.declared.shelf.ShelfFault.TheVariants.{Failed, NoMemory}
+use Rattle.std.proofs.{Common.{◌≡◌, ◌≤◌, ℕ, List, Option, Result, Ok, Err, inl, inr, arith}, Math.Nat.eq-or-lt_of_le, lemmas.Result.IfOk-weaker}
+use Rattle.hub_state.specs.{Shelves.{HasCause, HasFailed, IsRead, Reads}, State.State, declared.shelf.ShelfFault.{ShelfFault, TheVariants.{Failed, NoMemory}}}
 use Rattle.kept_documents.specs.Kept.{Entry, AreDocuments, AreAmong}
 
 pub not_failed : {T : Type 0} (result : Result T ShelfFault) → result ≡ Err NoMemory → ¬ (result ≡ Err Failed)

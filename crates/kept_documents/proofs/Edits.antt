@@ -1,17 +1,9 @@
 -- Edits leave the documents of the incidents that they don't name.
 use Rattle.std.proofs.Common.{◌≡◌, ℕ, ◌==◌, ◌+◌, ◌<◌, Bool, true, false, not, ◌||◌, List, [], ◌∷◌, length, take, get_or, refl, sym, ap, ◌∙◌}
-use Rattle.std.specs.Prelude.{option_map}
-use Rattle.std.proofs.lemmas.Bool.{not_from_false}
-use Rattle.std.proofs.lemmas.List.Folds.{list_any_more}
-use Rattle.std.specs.List.{list_any}
-use Rattle.circle.specs.Ordered.{by_number}
-use Rattle.hub_state.specs.Edits.{with_edits, edited}
-use Rattle.hub_state.specs.Reads.{document_of}
-use Rattle.hub_state.specs.State.{State, incident_number}
-use Rattle.hub_state.specs.declared.state.Incident.{Incident}
-use Rattle.hub_state.specs.declared.edit.Edit.{Edit}
-use Rattle.hub_state.specs.declared.edit.Edit.TheVariants.{Directory, PutIncident, TakeIncident, TakePolicy, PutGate, TakeGate, PutRecipient, TakeRecipient, PutPermission, TakePermission}
-use Rattle.hub_state.proofs.Keeping.{not_both, turned, find_put, find_left}
+use Rattle.{std.{proofs.lemmas.{Bool.not_from_false, List.Folds.list_any_more}, specs.{List.list_any, Prelude.option_map}}, circle.specs.Ordered.by_number}
+use Rattle.hub_state.{proofs.Keeping.{not_both, turned, find_put, find_left}, specs.{Edits.{with_edits, edited}, Reads.document_of, State.State}}
+use Rattle.hub_state.specs.{State.incident_number, declared.edit.Edit.{Edit, TheVariants.{Directory, PutIncident, TakeIncident, TakePolicy, PutGate, TakeGate}}}
+use Rattle.hub_state.specs.declared.{edit.Edit.TheVariants.{PutRecipient, TakeRecipient, PutPermission, TakePermission}, state.Incident.Incident}
 use Rattle.kept_documents.specs.Kept.{Entry, AreDocuments, AreSpared, is_of}
 
 one_stays : (n : ℕ) (edit : Edit) (s : State) → is_of n edit ≡ false → document_of n (edited edit s) ≡ document_of n s

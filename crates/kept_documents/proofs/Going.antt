@@ -1,15 +1,9 @@
 -- Which documents remain of those that are kept.
-use Rattle.std.proofs.Common.{◌≡◌, ◌≤◌, ◌⊎◌, ◌-◌, ℕ, Bool, true, false, cond, List, [], ◌∷◌, length, take, Some, None, Contains, inl, inr, refl, sym, subst, ap, ◌∙◌, nat_eq}
-use Rattle.std.proofs.lemmas.Bool.{eqb-true}
-use Rattle.std.specs.Cmp.{nat_eq_equiv}
-use Rattle.std.specs.List.{IsDistinct}
-use Rattle.std.specs.Map.{lookup, remove_entry, keys_of}
-use Rattle.std.proofs.lemmas.Map.{lookup-remove_entry}
-use Rattle.lru.specs.LruCache.{LruCache, IsValid, lru_cache, put_entries, promoted}
-use Rattle.lru.proofs.CallerLemmas.{Contains-take, Contains-lookup, Contains-promoted, Contains-put_entries, Contains-remove_entry}
-use Rattle.lru.proofs.Splits.{Contains-cons, Contains-nil}
-use Rattle.hub_state.specs.Documents.{Lines}
-use Rattle.kept_documents.specs.Kept.{Entry, AreAmong, AreLight, document_weight}
+use Rattle.std.proofs.Common.{◌≡◌, ◌≤◌, ◌⊎◌, ◌-◌, ℕ, Bool, true, false, cond, List, [], ◌∷◌, length, take, Some, None, Contains, inl, inr, refl, sym, subst, ap}
+use Rattle.std.{proofs.{Common.{◌∙◌, nat_eq}, lemmas.{Bool.eqb-true, Map.lookup-remove_entry}}, specs.{Cmp.nat_eq_equiv, List.IsDistinct, Map.lookup}}
+use Rattle.{std.specs.Map.{remove_entry, keys_of}, lru.proofs.CallerLemmas.{Contains-take, Contains-lookup, Contains-promoted, Contains-put_entries}}
+use Rattle.lru.{proofs.{CallerLemmas.Contains-remove_entry, Splits.{Contains-cons, Contains-nil}}, specs.LruCache.{LruCache, IsValid, lru_cache, put_entries}}
+use Rattle.{lru.specs.LruCache.promoted, hub_state.specs.Documents.Lines, kept_documents.specs.Kept.{Entry, AreAmong, AreLight, document_weight}}
 
 pub taken_among : (c new start : LruCache ℕ Lines) → new ≡ lru_cache (take (length c.entries - 1) c.entries) c.cap → AreAmong c.entries start.entries → AreAmong new.entries start.entries
 taken_among c new start is among e k = among e (Contains-take (length c.entries - 1) c.entries e (subst (λ (x : LruCache ℕ Lines). Contains x.entries e) is k))

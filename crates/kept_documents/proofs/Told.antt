@@ -1,20 +1,10 @@
 -- What a kept document shows is what its incident shows.
-use Rattle.std.proofs.Common.{◌≡◌, ◌⊎◌, ℕ, ◌&&◌, false, if◌then◌else◌, List, Option, Some, None, Result, Ok, Err, OnOk, OnErr, Contains, inl, inr, sym, ap, subst, ◌∙◌}
-use Rattle.std.specs.Prelude.{Bool, is_some, is_none, option_and_then, option_map, string_bytes}
-use Rattle.std.specs.Option.{option_map_or}
-use Rattle.iodef_tree.specs.Paths.{located}
-use Rattle.iodef_tree.specs.Text.{Bytes}
-use Rattle.marking.specs.Marks.{first_bad_marking}
-use Rattle.policy.specs.declared.standing.Standing.{Standing}
-use Rattle.policy.specs.declared.case.Case.{Case}
-use Rattle.redact.specs.Told.{excerpt_of}
-use Rattle.redact.specs.Excerpts.{served_of}
-use Rattle.redact.specs.Wants.{HasSameWords, meets, meets_by}
-use Rattle.redact.specs.declared.want.Want.{Want}
-use Rattle.hub_state.specs.Documents.{Lines}
-use Rattle.hub_state.specs.Reads.{document_of, served_of_incident, met_by_incident, meets_marked}
-use Rattle.hub_state.specs.State.{State}
-use Rattle.kept_documents.specs.Kept.{Entry, AreAmong, AreDocuments}
+use Rattle.std.proofs.Common.{◌≡◌, ◌⊎◌, ℕ, ◌&&◌, false, if◌then◌else◌, List, Option, Some, None, Result, Ok, Err, OnOk, OnErr, Contains, inl, inr, sym, ap}
+use Rattle.std.{proofs.Common.{subst, ◌∙◌}, specs.{Option.option_map_or, Prelude.{Bool, is_some, is_none, option_and_then, option_map, string_bytes}}}
+use Rattle.{iodef_tree.specs.{Paths.located, Text.Bytes}, marking.specs.Marks.first_bad_marking, policy.specs.declared.case.Case.Case}
+use Rattle.{policy.specs.declared.standing.Standing.Standing, redact.specs.{Excerpts.served_of, Told.excerpt_of, Wants.{HasSameWords, meets, meets_by}}}
+use Rattle.{redact.specs.declared.want.Want.Want, hub_state.specs.{Documents.Lines, Reads.{document_of, served_of_incident, met_by_incident, meets_marked}}}
+use Rattle.{hub_state.specs.State.State, kept_documents.specs.Kept.{Entry, AreAmong, AreDocuments}}
 
 pub served : (n : ℕ) (doc : Lines) (c : Case) (st : Standing) (s : State) → document_of n s ≡ Some doc → first_bad_marking (located doc) ≡ None → excerpt_of doc c st ≡ served_of_incident n c st s
 served n doc c st s at marked = sym (ap (option_and_then (λ (ls : Lines). served_of ls c st)) at ∙ ap (λ bad. if is_some bad then None else excerpt_of doc c st) marked)

@@ -1,12 +1,8 @@
 -- The weights of the parts of a tree.
-use Rattle.std.proofs.Common.{◌≡◌, ℕ, suc, ◌+◌, true, List, [], ◌∷◌, ◌++◌, length, Option, Some, None, sum_by, refl, ap, arith}
-use Rattle.std.specs.Prelude.{is_some}
-use Rattle.std.proofs.lemmas.List.Sums.{sum_by-cons, sum_by-append}
-use Rattle.std.proofs.lemmas.Grind.{common_steps}
-use Rattle.iodef_tree.specs.Text.{Bytes}
-use Rattle.iodef_tree.specs.Tree.{Forest, end, leaf, branch, Body, holds, says, Bodies, one, many, elements, in_front, member_front, lines, leaf_line, class_line}
-use Rattle.kept_documents.specs.Kept.{line_weight, document_weight}
-use Rattle.kept_documents.specs.Trees.{forest_weight, body_weight, bodies_weight}
+use Rattle.std.proofs.{Common.{◌≡◌, ℕ, suc, ◌+◌, true, List, [], ◌∷◌, ◌++◌, length, Option, Some, None, sum_by, refl, ap, arith}, lemmas.Grind.common_steps}
+use Rattle.{std.{proofs.lemmas.List.Sums.{sum_by-cons, sum_by-append}, specs.Prelude.is_some}, iodef_tree.specs.{Text.Bytes, Tree.{Forest, end, leaf, branch}}}
+use Rattle.iodef_tree.specs.Tree.{Body, holds, says, Bodies, one, many, elements, in_front, member_front, lines, leaf_line, class_line}
+use Rattle.kept_documents.specs.{Kept.{line_weight, document_weight}, Trees.{forest_weight, body_weight, bodies_weight}}
 
 forest_weight-in_front : (name : Bytes) (place : Option ℕ) (b : Body) (rest : Forest) → forest_weight (in_front name place b rest) ≡ body_weight (is_some place) (length name) b + forest_weight rest
 forest_weight-in_front name place (holds kids) rest = omega arith

@@ -1,11 +1,8 @@
 -- The weight of the documents that remain.
-use Rattle.std.proofs.Common.{◌≡◌, ◌≤◌, ◌+◌, ◌-◌, ℕ, zero, suc, Bool, true, false, cond, List, [], ◌∷◌, length, take, slice_get, Option, Some, None, refl, sym, subst, ap, nat_eq, arith}
-use Rattle.std.specs.Option.{option_map_or}
-use Rattle.std.specs.Map.{lookup_entry, remove_entry}
-use Rattle.std.proofs.lemmas.Option.{slice_get-get_or}
-use Rattle.lru.specs.LruCache.{LruCache, lru_cache, last_entry, promoted, put_entries}
-use Rattle.hub_state.specs.Documents.{Lines}
-use Rattle.kept_documents.specs.Kept.{Entry, document_weight, weight_in}
+use Rattle.std.proofs.Common.{◌≡◌, ◌≤◌, ◌+◌, ◌-◌, ℕ, zero, suc, Bool, true, false, cond, List, [], ◌∷◌, length, take, slice_get, Option, Some, None, refl, sym}
+use Rattle.std.{proofs.{Common.{subst, ap, nat_eq, arith}, lemmas.Option.slice_get-get_or}, specs.{Map.{lookup_entry, remove_entry}, Option.option_map_or}}
+use Rattle.{lru.specs.LruCache.{LruCache, lru_cache, last_entry, promoted, put_entries}, hub_state.specs.Documents.Lines, kept_documents.specs.Kept.Entry}
+use Rattle.kept_documents.specs.Kept.{document_weight, weight_in}
 
 taken : (n : ℕ) (es : List Entry) → weight_in (take n es) ≤ weight_in es
 taken zero es = omega arith

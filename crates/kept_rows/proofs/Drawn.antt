@@ -1,21 +1,10 @@
 -- Sketches of the documents of a state, and what edits make of them.
-use Rattle.std.proofs.Common.{◌≡◌, ◌⊎◌, ℕ, ◌+◌, ◌<◌, ◌==◌, not, nat_eq, Bool, true, false, if◌then◌else◌, List, [], ◌∷◌, filter, Option, Some, None, IfSome, inl, inr, refl, sym, ap, ◌∙◌, subst, arith}
-use Rattle.std.specs.Prelude.{find, option_map}
-use Rattle.std.specs.Ordering.{is_lt}
-use Rattle.std.proofs.lemmas.Bool.{cond-true, cond-false, eq-eqb}
-use Rattle.std.proofs.lemmas.Bool.Decides.{eqb_tells, nat_tests}
-use Rattle.circle.specs.Ordered.{put_by, by_number}
-use Rattle.circle.specs.Sound.{CountsFrom}
-use Rattle.sketch.specs.Sketched.{IsSketchOf}
-use Rattle.sketch.specs.declared.sketch.Sketch.{Sketch}
-use Rattle.hub_state.specs.Documents.{Lines}
-use Rattle.hub_state.specs.State.{State, incident_in, incident_number}
-use Rattle.hub_state.specs.Reads.{document_of}
-use Rattle.hub_state.specs.Sound.{IsSound}
-use Rattle.hub_state.specs.declared.state.Incident.{Incident}
-use Rattle.kept_rows.specs.declared.seen.Seen.{Seen}
-use Rattle.kept_rows.specs.declared.sketches.Sketches.{Sketches}
-use Rattle.kept_rows.specs.Drawn.{kept, IsDrawn, AreDrawn, DrawsOnly, LetsGo, Keeps}
+use Rattle.std.proofs.Common.{◌≡◌, ℕ, ◌+◌, ◌<◌, ◌==◌, not, nat_eq, Bool, true, false, if◌then◌else◌, List, [], ◌∷◌, filter, Option, Some, None, IfSome, inl}
+use Rattle.std.proofs.{Common.{inr, refl, sym, ap, ◌∙◌, subst, arith}, lemmas.Bool.{cond-true, cond-false, eq-eqb, Decides.{eqb_tells, nat_tests}}}
+use Rattle.{std.specs.{Ordering.is_lt, Prelude.option_map}, circle.specs.{Ordered.{put_by, by_number}, Sound.CountsFrom}, sketch.specs.Sketched.IsSketchOf}
+use Rattle.{sketch.specs.declared.sketch.Sketch.Sketch, hub_state.specs.{Documents.Lines, Reads.document_of, Sound.IsSound, State.{State, incident_in}}}
+use Rattle.{hub_state.specs.{State.incident_number, declared.state.Incident.Incident}, kept_rows.specs.Drawn.{kept, IsDrawn, AreDrawn, DrawsOnly, LetsGo}}
+use Rattle.kept_rows.specs.{Drawn.Keeps, declared.{seen.Seen.Seen, sketches.Sketches.Sketches}}
 
 -- ---- one edit
 

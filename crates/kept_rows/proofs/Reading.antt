@@ -1,20 +1,10 @@
 -- Reads that are answered from the rows: the shelf below isn't asked.
-use Rattle.std.proofs.Common.{◌≡◌, ◌≢◌, ℕ, Bool, false, Option, Some, None, Result, Ok, IfOk, refl, sym, ap, ◌∙◌, arith}
-use Rattle.std.specs.Prelude.{ℤ, IsErrOf, option_map, option_and_then}
-use Rattle.std.specs.Option.{option_map_or}
-use Rattle.policy.specs.declared.standing.Standing.{Standing}
-use Rattle.policy.specs.declared.case.Case.{Case}
-use Rattle.redact.specs.declared.want.Want.{Want}
-use Rattle.hub_state.specs.Documents.{Lines}
-use Rattle.circle.specs.Reads.{person_of}
-use Rattle.circle.specs.declared.directory.Person.{Person}
-use Rattle.hub_state.specs.Reads.{standing_of, standing_for, case_of, case_for, naming_of, its_gates, its_permissions, document_of, meets_marked, met_by_incident, met_for}
-use Rattle.hub_state.specs.State.{State, incident_of}
-use Rattle.hub_state.specs.declared.state.Incident.{Incident}
-use Rattle.hub_state.specs.declared.state.Naming.{Naming}
-use Rattle.hub_state.specs.Shelves.{HasCause, IsRead, Reads, last_count}
-use Rattle.hub_state.specs.declared.shelf.ShelfFault.{ShelfFault}
-use Rattle.hub_state.specs.declared.shelf.ShelfFault.TheVariants.{Failed}
+use Rattle.std.{proofs.Common.{◌≡◌, ◌≢◌, ℕ, false, Option, Some, None, Result, Ok, refl, sym, ap, ◌∙◌, arith}, specs.{Option.option_map_or, Prelude.ℤ}}
+use Rattle.{std.specs.Prelude.{IsErrOf, option_map, option_and_then}, policy.specs.declared.{case.Case.Case, standing.Standing.Standing}}
+use Rattle.{redact.specs.declared.want.Want.Want, hub_state.specs.{Documents.Lines, Reads.{standing_of, standing_for, case_of, case_for, naming_of, its_gates}}}
+use Rattle.hub_state.specs.{Reads.{its_permissions, document_of, meets_marked, met_by_incident, met_for}, Shelves.{HasCause, IsRead, Reads, last_count}}
+use Rattle.hub_state.specs.{State.{State, incident_of}, declared.{shelf.ShelfFault.{ShelfFault, TheVariants.Failed}, state.{Incident.Incident, Naming.Naming}}}
+use Rattle.circle.specs.{Reads.person_of, declared.directory.Person.Person}
 
 module _ {D : Type 0} (has : D → State → Type 0) (doubts : D → ℕ) (failed : D → ℕ) (may_remain : D → Option State → Type 0) (k : D) where
   stays : {T : Type 0} (r : Result T ShelfFault) → HasCause (failed k) (failed k) r → IsRead has doubts failed may_remain k k r

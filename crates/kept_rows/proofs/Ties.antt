@@ -1,11 +1,7 @@
 -- The ties that are kept of a person's organisation.
-use Rattle.std.proofs.Common.{◌≡◌, ℕ, Option, None, Some, IfSome, inl, inr, sym, ap, ◌∙◌}
-use Rattle.circle.specs.declared.directory.Person.{Person}
-use Rattle.hub_state.specs.State.{State}
-use Rattle.hub_state.specs.Reads.{ties_of}
-use Rattle.hub_state.specs.declared.look_ups.Ties.{Ties}
+use Rattle.{std.proofs.Common.{◌≡◌, ℕ, Option, None, Some, IfSome, inl, inr, sym, ap, ◌∙◌}, circle.specs.declared.directory.Person.Person}
+use Rattle.{hub_state.specs.{Reads.ties_of, State.State, declared.look_ups.Ties.Ties}, kept_rows.specs.Seen.{kept_ties, AreTies, KeepsOnly}}
 use Rattle.kept_rows.specs.declared.seen.Seen.{Seen}
-use Rattle.kept_rows.specs.Seen.{kept_ties, AreTies, KeepsOnly}
 
 same_ties : (t u : Ties) (o : Option Ties) → o ≡ Some u → IfSome o (λ x. x ≡ t) → u ≡ t
 same_ties t u None h is = cc

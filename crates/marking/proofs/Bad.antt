@@ -1,22 +1,11 @@
 -- A pass down the tree finds the first class of a document that breaks the marking rule.
 use Rattle.std.proofs.Common.{◌≡◌, ℕ, suc, List, [], ◌∷◌, ◌++◌, Bool, true, false, cond, not, map, filter, refl, sym, ◌∙◌, ap, append-nil, append_assoc}
-use Rattle.std.specs.Prelude.{Option, Some, None, find, option_map}
-use Rattle.std.specs.Option.{option_or}
-use Rattle.std.proofs.lemmas.List.{map-append}
-use Rattle.std.proofs.lemmas.List.Elements.{filter-append}
-use Rattle.std.proofs.lemmas.List.Folds.{find-append}
-use Rattle.std.proofs.lemmas.Bool.{cond-false}
-use Rattle.iodef_tree.specs.Text.{Tokens}
-use Rattle.iodef_tree.specs.Tree.{Content, text, value, Forest, end, leaf, branch, steps, lines, kind_of}
-use Rattle.iodef_tree.specs.Paths.{LocatedLine, is_class_kind, is_class, class_paths, located}
-use Rattle.iodef_tree.specs.Sound.{IsSound}
-use Rattle.iodef_tree.specs.Walk.{walk, leaf_entry, AreBlocks}
-use Rattle.iodef_tree.proofs.Located.{located-lines}
-use Rattle.iodef_tree.proofs.Blocks.{blocks-located, below-parents}
-use Rattle.marking.specs.Marks.{is_well_marked, first_bad_marking}
-use Rattle.marking.specs.Members.{is_rule_kept_in}
+use Rattle.std.{proofs.lemmas.{Bool.cond-false, List.{map-append, Elements.filter-append, Folds.find-append}}, specs.{Option.option_or, Prelude.{Option, Some}}}
+use Rattle.{std.specs.Prelude.{None, find, option_map}, iodef_tree.proofs.{Blocks.{blocks-located, below-parents}, Located.located-lines}}
+use Rattle.iodef_tree.specs.{Paths.{LocatedLine, is_class_kind, is_class, class_paths, located}, Sound.IsSound, Text.Tokens, Tree.{Content, text, value}}
+use Rattle.iodef_tree.specs.{Tree.{Forest, end, leaf, branch, steps, lines, kind_of}, Walk.{walk, leaf_entry, AreBlocks}}
+use Rattle.marking.{proofs.Written.{AreUnderParents, well_marked-block}, specs.{Marks.{is_well_marked, first_bad_marking}, Members.is_rule_kept_in}}
 use Rattle.marking.specs.inner.Pass.{bad_below}
-use Rattle.marking.proofs.Written.{AreUnderParents, well_marked-block}
 
 pub no_class-kind : (c : Content) → is_class_kind (kind_of c) ≡ false
 no_class-kind (text s) = refl

@@ -1,16 +1,8 @@
 -- The results of a pass over the members of a class, one member after another.
-use Rattle.std.proofs.Common.{◌≡◌, ℕ, suc, List, [], ◌∷◌, ◌++◌, true, false, cond, refl, sym, ◌∙◌, ap, append-nil, append_assoc}
-use Rattle.std.specs.Prelude.{Option, Some, None, option_map}
-use Rattle.std.specs.Option.{option_or}
-use Rattle.std.specs.List.{flat_map}
-use Rattle.std.specs.Str.{bytes_eq}
-use Rattle.std.proofs.lemmas.Bool.{true≢false}
-use Rattle.std.proofs.lemmas.List.Concat.{flat_map-append}
-use Rattle.iodef_tree.proofs.Filled.{has_elements}
-use Rattle.iodef_tree.specs.Text.{Bytes, Tokens}
-use Rattle.iodef_tree.specs.Tree.{Forest, end, Body, holds, says, Bodies, one, many, text, value, in_front, elements, member_front, steps}
-use Rattle.marking.specs.Marks.{other, Marked}
-use Rattle.marking.specs.Members.{held_by_bodies, held_in}
+use Rattle.std.proofs.{Common.{◌≡◌, ℕ, suc, List, [], ◌∷◌, ◌++◌, true, false, cond, refl, sym, ◌∙◌, ap, append-nil, append_assoc}, lemmas.Bool.true≢false}
+use Rattle.std.{proofs.lemmas.List.Concat.flat_map-append, specs.{List.flat_map, Option.option_or, Prelude.{Option, Some, None, option_map}, Str.bytes_eq}}
+use Rattle.iodef_tree.{proofs.Filled.has_elements, specs.{Text.{Bytes, Tokens}, Tree.{Forest, end, Body, holds, says, Bodies, one, many, text, value}}}
+use Rattle.{iodef_tree.specs.Tree.{in_front, elements, member_front, steps}, marking.specs.{Marks.{other, Marked}, Members.{held_by_bodies, held_in}}}
 use Rattle.marking.specs.inner.Pass.{bad_below, bad_in_body, enter, marked_below}
 
 -- ---- what a class holds under a name

@@ -1,31 +1,14 @@
 -- A pass down the tree marks each class as the definitions say.
-use Rattle.std.proofs.Common.{◌≡◌, ℕ, suc, List, [], ◌∷◌, ◌++◌, Bool, true, false, cond, ◌&&◌, ◌||◌, map, refl, sym, ◌∙◌, ap}
-use Rattle.std.specs.Prelude.{Option, Some, None, is_some, unwrap_or, codes}
-use Rattle.std.specs.Option.{option_or}
-use Rattle.std.specs.List.{AllByRecursion}
-use Rattle.std.specs.Str.{bytes_eq}
-use Rattle.std.proofs.lemmas.Bool.{false≢true}
-use Rattle.std.proofs.lemmas.List.{map-append}
-use Rattle.std.proofs.lemmas.List.Concat.{flat_map-append}
-use Rattle.std.specs.Str.{byte}
-use Rattle.iodef_tree.specs.Text.{Bytes, Tokens, same_path, is_root, is_under}
-use Rattle.iodef_tree.specs.Tree.{Forest, end, leaf, branch, steps, lines}
-use Rattle.iodef_tree.specs.Paths.{LocatedLine, has_class, class_paths, located}
-use Rattle.iodef_tree.specs.Pointer.{pointer_text, pointer_tokens, escaped}
-use Rattle.iodef_tree.specs.Sound.{IsSound}
-use Rattle.iodef_tree.specs.Walk.{walk, leaf_entry, AreBlocks}
-use Rattle.iodef_tree.proofs.Blocks.{blocks-located, below-parents}
-use Rattle.iodef_tree.proofs.Inverse.{pointer_tokens-pointer_text}
-use Rattle.iodef_tree.proofs.Located.{located-lines}
-use Rattle.iodef_tree.proofs.Order.{bytes_eq-true, same_path-refl, same_path-true}
-use Rattle.marking.specs.Label.{private}
-use Rattle.marking.specs.Marks.{incident_path, has_default, written_label, own_label, has_own_label, site_of, label_at, Marked, marked_at}
-use Rattle.marking.specs.Members.{spelled_in}
-use Rattle.marking.specs.inner.Pass.{own_below, marked_step, enter, marked_below}
-use Rattle.marking.proofs.Bad.{class_paths-leaf, class_paths-append, no_class-kind}
-use Rattle.marking.proofs.Placed.{ArePlaced, placed, no_class}
-use Rattle.marking.proofs.Sites.{site-steps, label-steps}
-use Rattle.marking.proofs.Written.{AreUnderParents, written-block, written-none, own-none}
+use Rattle.std.proofs.{Common.{◌≡◌, ℕ, suc, List, [], ◌∷◌, ◌++◌, Bool, true, false, cond, ◌&&◌, ◌||◌, map, refl, sym, ◌∙◌, ap}, lemmas.Bool.false≢true}
+use Rattle.std.{proofs.lemmas.List.{map-append, Concat.flat_map-append}, specs.{List.AllByRecursion, Option.option_or, Prelude.{Option, Some, None, is_some}}}
+use Rattle.{std.specs.{Prelude.{unwrap_or, codes}, Str.{bytes_eq, byte}}, iodef_tree.proofs.Blocks.{blocks-located, below-parents}}
+use Rattle.iodef_tree.proofs.{Inverse.pointer_tokens-pointer_text, Located.located-lines, Order.{bytes_eq-true, same_path-refl, same_path-true}}
+use Rattle.iodef_tree.specs.{Paths.{LocatedLine, has_class, class_paths, located}, Pointer.{pointer_text, pointer_tokens, escaped}, Sound.IsSound, Text.Bytes}
+use Rattle.iodef_tree.specs.{Text.{Tokens, same_path, is_root, is_under}, Tree.{Forest, end, leaf, branch, steps, lines}, Walk.{walk, leaf_entry, AreBlocks}}
+use Rattle.marking.proofs.{Bad.{class_paths-leaf, class_paths-append, no_class-kind}, Placed.{ArePlaced, placed, no_class}, Sites.{site-steps, label-steps}}
+use Rattle.marking.{proofs.Written.{AreUnderParents, written-block, written-none, own-none}, specs.{Label.private, Marks.{incident_path, has_default}}}
+use Rattle.marking.specs.{Marks.{written_label, own_label, has_own_label, site_of, label_at, Marked, marked_at}, Members.spelled_in, inner.Pass.own_below}
+use Rattle.marking.specs.inner.Pass.{marked_step, enter, marked_below}
 
 -- ---- the Incident's path by its pointer
 

@@ -1,19 +1,9 @@
 -- The own label of a class or the root by its members, and the site by the prefixes of its path.
-use Rattle.std.proofs.Common.{◌≡◌, ℕ, zero, suc, ◌-◌, List, [], ◌∷◌, ◌++◌, Bool, true, false, cond, ◌&&◌, ◌||◌, length, take, map, reverse, refl, sym, ◌∙◌, ap, arith}
-use Rattle.std.specs.Prelude.{Some, None, unwrap_or, find}
-use Rattle.std.specs.Option.{option_or}
-use Rattle.std.proofs.lemmas.Bool.{cond-false, true≢false}
-use Rattle.std.proofs.lemmas.List.{map-append, reverse-append}
-use Rattle.iodef_tree.specs.Text.{Bytes, Tokens, same_path, is_root, prefixes}
-use Rattle.iodef_tree.specs.Tree.{Forest}
-use Rattle.iodef_tree.specs.Paths.{LocatedLine, has_class}
-use Rattle.iodef_tree.specs.Walk.{IsBlock}
-use Rattle.marking.specs.Label.{private}
-use Rattle.marking.specs.Marks.{incident_path, written_label, own_label, has_own_label, site_of}
-use Rattle.marking.specs.Sited.{own_in}
-use Rattle.marking.proofs.Sites.{site-push, root-own}
-use Rattle.marking.proofs.Marked.{root-written}
-use Rattle.marking.proofs.Written.{AreUnderParents, written-block}
+use Rattle.std.proofs.Common.{◌≡◌, ℕ, zero, suc, ◌-◌, List, [], ◌∷◌, ◌++◌, Bool, true, false, cond, ◌&&◌, ◌||◌, length, take, map, reverse, refl, sym, ◌∙◌, ap}
+use Rattle.std.{proofs.{Common.arith, lemmas.{Bool.{cond-false, true≢false}, List.{map-append, reverse-append}}}, specs.{Option.option_or, Prelude.Some}}
+use Rattle.{std.specs.Prelude.{None, unwrap_or, find}, iodef_tree.specs.{Paths.{LocatedLine, has_class}, Text.{Bytes, Tokens, same_path, is_root, prefixes}}}
+use Rattle.{iodef_tree.specs.{Tree.Forest, Walk.IsBlock}, marking.proofs.{Marked.root-written, Sites.{site-push, root-own}, Written.AreUnderParents}}
+use Rattle.marking.{proofs.Written.written-block, specs.{Label.private, Marks.{incident_path, written_label, own_label, has_own_label, site_of}, Sited.own_in}}
 
 and-true : (b t : Bool) → t ≡ true → b ≡ (b && t)
 and-true true t h = sym h

@@ -1,22 +1,12 @@
 -- Where the classes of a document are: there is one at each class's path, and none at the path of an array that holds
 -- one.
 use Rattle.std.proofs.Common.{◌≡◌, ℕ, suc, List, [], ◌∷◌, ◌++◌, Bool, true, false, cond, ◌&&◌, ◌||◌, refl, sym, ◌∙◌, ap, subst, ◌⊎◌, inl, inr}
-use Rattle.std.specs.Prelude.{Option, Some, None, is_some, is_none}
-use Rattle.std.specs.List.{AllByRecursion, list_any}
-use Rattle.std.specs.Str.{bytes_eq}
-use Rattle.std.proofs.lemmas.Bool.{cond-true, cond-false, and_left, and_right, or_left, or_right, or_from, false≢true, true≢false}
-use Rattle.std.proofs.lemmas.List.Folds.{list_any-append}
-use Rattle.iodef_tree.specs.Text.{Bytes, Tokens, same_path, is_under}
-use Rattle.iodef_tree.specs.Tree.{Forest, end, leaf, branch, steps, lines}
-use Rattle.iodef_tree.specs.Paths.{LocatedLine, is_class, has_class, below, located}
-use Rattle.iodef_tree.specs.Sound.{IsSound}
-use Rattle.iodef_tree.specs.Walk.{walk, leaf_entry, class_entry, AreBlocks}
-use Rattle.iodef_tree.specs.Laws.{AllSiblings, AreApart, HasApart}
-use Rattle.iodef_tree.proofs.Apart.{sound-apart}
-use Rattle.iodef_tree.proofs.Blocks.{blocks-located, all-below}
-use Rattle.iodef_tree.proofs.Located.{located-lines}
-use Rattle.iodef_tree.proofs.Order.{same_path-refl, same_path-true, same_path-common, is_under-steps, is_false}
-use Rattle.iodef_tree.proofs.Siblings.{siblings-map, walk-all}
+use Rattle.std.proofs.lemmas.{Bool.{cond-true, cond-false, and_left, and_right, or_left, or_right, or_from, false≢true, true≢false}, List.Folds.list_any-append}
+use Rattle.{std.specs.{List.{AllByRecursion, list_any}, Prelude.{Option, Some, None, is_some, is_none}, Str.bytes_eq}, iodef_tree.proofs.Apart.sound-apart}
+use Rattle.iodef_tree.proofs.{Blocks.{blocks-located, all-below}, Located.located-lines, Order.{same_path-refl, same_path-true, same_path-common}}
+use Rattle.iodef_tree.{proofs.{Order.{is_under-steps, is_false}, Siblings.{siblings-map, walk-all}}, specs.Laws.{AllSiblings, AreApart, HasApart}}
+use Rattle.iodef_tree.specs.{Paths.{LocatedLine, is_class, has_class, below, located}, Sound.IsSound, Text.{Bytes, Tokens, same_path, is_under}, Tree.Forest}
+use Rattle.iodef_tree.specs.{Tree.{end, leaf, branch, steps, lines}, Walk.{walk, leaf_entry, class_entry, AreBlocks}}
 
 -- the classes of a tree whose members are those of the class at p
 abbrev pub ArePlaced : List LocatedLine → Tokens → Forest → Type 0

@@ -1,14 +1,8 @@
 -- The site and the label one step below a class: the class's own, or those above, for the lines of any document.
 use Rattle.std.proofs.Common.{◌≡◌, ℕ, List, [], ◌∷◌, ◌++◌, Bool, true, false, cond, map, reverse, decimal, refl, sym, ◌∙◌, ap, append_assoc}
-use Rattle.std.specs.Prelude.{Option, Some, None, is_some, unwrap_or, find}
-use Rattle.std.specs.Option.{option_or}
-use Rattle.std.proofs.lemmas.Bool.{cond-true, cond-false, false≢true}
-use Rattle.std.proofs.lemmas.List.{map-append, reverse-append}
-use Rattle.iodef_tree.specs.Text.{Bytes, Tokens, prefixes}
-use Rattle.iodef_tree.specs.Tree.{steps}
-use Rattle.iodef_tree.specs.Paths.{LocatedLine}
-use Rattle.marking.specs.Label.{LabelValue, private}
-use Rattle.marking.specs.Marks.{own_label, has_own_label, written_label, site_of, label_at}
+use Rattle.std.{proofs.lemmas.{Bool.{cond-true, cond-false, false≢true}, List.{map-append, reverse-append}}, specs.{Option.option_or, Prelude.{Option, Some}}}
+use Rattle.{std.specs.Prelude.{None, is_some, unwrap_or, find}, iodef_tree.specs.{Paths.LocatedLine, Text.{Bytes, Tokens, prefixes}, Tree.steps}}
+use Rattle.marking.specs.{Label.{LabelValue, private}, Marks.{own_label, has_own_label, written_label, site_of, label_at}}
 
 pub prefixes-push : (p : Tokens) (x : Bytes) → prefixes (p ++ x ∷ []) ≡ prefixes p ++ (p ++ x ∷ []) ∷ []
 prefixes-push [] x = refl

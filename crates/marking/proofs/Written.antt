@@ -1,19 +1,11 @@
 -- The label written in a class, by the lines below its path and by its members.
 use Rattle.std.proofs.Common.{◌≡◌, ℕ, suc, List, [], ◌∷◌, ◌++◌, Bool, true, false, cond, ◌&&◌, ◌||◌, refl, sym, ◌∙◌, ap, append-nil, append_assoc}
-use Rattle.std.specs.Prelude.{Option, Some, None, find, codes}
-use Rattle.std.specs.Option.{option_map_or, option_or}
-use Rattle.std.specs.List.{AllByRecursion}
-use Rattle.std.specs.Str.{bytes_eq}
-use Rattle.std.proofs.lemmas.Bool.{cond-true, cond-false, and_left, and_right, true≢false}
-use Rattle.std.proofs.lemmas.List.Folds.{find-append}
-use Rattle.iodef_tree.specs.Text.{Bytes, Tokens, same_path, is_root, is_under}
-use Rattle.iodef_tree.specs.Tree.{Forest, end, leaf, branch, steps}
-use Rattle.iodef_tree.specs.Paths.{LocatedLine, has_class, below}
-use Rattle.iodef_tree.specs.Walk.{walk, leaf_entry, class_entry}
-use Rattle.iodef_tree.proofs.Order.{same_path-refl, same_path-true, same_path-longer, is_false}
-use Rattle.marking.specs.Label.{private}
-use Rattle.marking.specs.Marks.{absent, other, held_by_line, is_member, held_at, spelled_by, is_rule_kept, is_well_marked, written_label, own_label, has_default, incident_path}
-use Rattle.marking.specs.Members.{held_in, spelled_in, is_rule_kept_in}
+use Rattle.std.{proofs.lemmas.{Bool.{cond-true, cond-false, and_left, and_right, true≢false}, List.Folds.find-append}, specs.List.AllByRecursion}
+use Rattle.{std.specs.{Option.{option_map_or, option_or}, Prelude.{Option, Some, None, find, codes}, Str.bytes_eq}, iodef_tree.proofs.Order.same_path-refl}
+use Rattle.iodef_tree.{proofs.Order.{same_path-true, same_path-longer, is_false}, specs.{Paths.{LocatedLine, has_class, below}, Text.{Bytes, Tokens}}}
+use Rattle.iodef_tree.specs.{Text.{same_path, is_root, is_under}, Tree.{Forest, end, leaf, branch, steps}, Walk.{walk, leaf_entry, class_entry}}
+use Rattle.marking.specs.{Label.private, Marks.{absent, other, held_by_line, is_member, held_at, spelled_by, is_rule_kept, is_well_marked, written_label}}
+use Rattle.marking.specs.{Marks.{own_label, has_default, incident_path}, Members.{held_in, spelled_in, is_rule_kept_in}}
 
 -- each entry is below its parent
 abbrev pub AreUnderParents : List LocatedLine → Type 0

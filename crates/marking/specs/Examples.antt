@@ -3,9 +3,9 @@ use Rattle.std.specs.Prelude.{◌≡◌, ℕ, List, [], ◌∷◌, map, Bool, tr
 use Rattle.iodef_tree.specs.Text.{Bytes}
 use Rattle.iodef_tree.specs.Paths.{located, class_paths}
 use Rattle.iodef_tree.specs.declared.line.Line.{Line}
-use Rattle.iodef_tree.specs.declared.line.Kind.TheVariants as kind
 use Rattle.marking.specs.Label.{LabelValue, public, amber, private, extended}
 use Rattle.marking.specs.Marks.{Marked, marked_at}
+use Rattle.iodef_tree.specs.declared.line.Kind.TheVariants as kind
 
 -- the line of a class
 abbrev pub class_line : ℕ → Bytes → Bool → Line

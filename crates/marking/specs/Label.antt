@@ -4,9 +4,9 @@ use Rattle.std.specs.Str.{bytes_eq}
 use Rattle.std.specs.Char.{to_ascii_lowercase}
 use Rattle.iodef_tree.specs.Text.{Bytes}
 use Rattle.marking.specs.declared.label.Label.{Label}
-use Rattle.marking.specs.declared.label.Label.TheVariants as label
 use Rattle.marking.specs.declared.label.Handling.{Handling}
 use Rattle.marking.specs.declared.label.Handling.TheVariants.{Clear, Green, Amber, Strict, Red}
+use Rattle.marking.specs.declared.label.Label.TheVariants as label
 
 -- A label by its value, whatever memory its text is in: one of nine words, or an extended label with its text (RFC
 -- 7970 section 3.3.1).

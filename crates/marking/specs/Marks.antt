@@ -8,9 +8,9 @@ use Rattle.iodef_tree.specs.Paths.{LocatedLine, class_paths, has_class}
 use Rattle.iodef_tree.specs.Pointer.{pointer_text}
 use Rattle.iodef_tree.specs.declared.line.Line.{Line}
 use Rattle.iodef_tree.specs.declared.line.Kind.{Kind}
-use Rattle.iodef_tree.specs.declared.line.Kind.TheVariants as kind
 use Rattle.marking.specs.Label.{LabelValue, private, spelled, marking_of}
 use Rattle.marking.specs.declared.pass.Mark.{Mark}
+use Rattle.iodef_tree.specs.declared.line.Kind.TheVariants as kind
 
 -- What a class holds under a name: nothing, a text, or something else. An array counts as something else, even with
 -- one text in it.

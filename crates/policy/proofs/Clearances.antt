@@ -1,16 +1,8 @@
 -- Clearances: no row that holds is stricter than the clearance, and a raised standing is cleared for no less.
-use Rattle.std.proofs.Common.{◌≡◌, Bool, true, false, not, List, [], ◌∷◌, refl, arith, ◌&&◌, ◌||◌}
-use Rattle.std.specs.Prelude.{find, All, slice_index_or}
-use Rattle.std.specs.Option.{option_map_or}
-use Rattle.std.specs.List.{list_all}
-use Rattle.std.proofs.lemmas.Bool.{and_parts, and_from, false≢true}
-use Rattle.std.proofs.lemmas.List.Sums.{AllPass-from_list_all}
-use Rattle.marking.specs.Label.{is_at_most}
-use Rattle.marking.specs.declared.label.Handling.{Handling}
-use Rattle.marking.specs.declared.label.Handling.TheVariants.{Clear, Green, Amber, Strict, Red}
-use Rattle.policy.specs.Clearance.{Row, row, clearance_rows, cleared_by, clearance_of}
-use Rattle.policy.specs.Laws.{IsRaised}
-use Rattle.policy.specs.declared.rule.Rule.TheVariants.{P, O, C, M, A}
+use Rattle.std.proofs.{Common.{◌≡◌, Bool, true, false, not, List, [], ◌∷◌, refl, arith, ◌&&◌, ◌||◌}, lemmas.Bool.{and_parts, and_from, false≢true}}
+use Rattle.std.{proofs.lemmas.List.Sums.AllPass-from_list_all, specs.{List.list_all, Option.option_map_or, Prelude.{find, All, slice_index_or}}}
+use Rattle.{marking.specs.{Label.is_at_most, declared.label.Handling.{Handling, TheVariants.{Clear, Green, Amber, Strict, Red}}}, policy.specs.Clearance.Row}
+use Rattle.policy.specs.{Clearance.{row, clearance_rows, cleared_by, clearance_of}, Laws.IsRaised, declared.rule.Rule.TheVariants.{P, O, C, M, A}}
 use Rattle.policy.specs.declared.standing.Standing.{Standing}
 
 pub at_most-trans : (a b c : Handling) → is_at_most a b ≡ true → is_at_most b c ≡ true → is_at_most a c ≡ true

@@ -1,10 +1,7 @@
 -- What a look-up from a class on the way finds, said of the whole path.
 use Rattle.std.proofs.Common.{◌≡◌, ℕ, zero, suc, ◌<◌, ◌≤◌, List, [], ◌∷◌, ◌++◌, Bool, false, ◌||◌, length, take, drop, refl, sym, ◌∙◌, ap, subst, arith}
-use Rattle.std.proofs.lemmas.List.{take-append-drop, take-append-le, take_all}
-use Rattle.iodef_tree.specs.Laws.{StandsAt}
-use Rattle.iodef_tree.specs.Paths.{LocatedLine, has_class}
-use Rattle.iodef_tree.specs.Text.{Bytes, Tokens, is_root}
-use Rattle.iodef_tree.specs.Tree.{Forest}
+use Rattle.{std.proofs.lemmas.List.{take-append-drop, take-append-le, take_all}, iodef_tree.specs.{Laws.StandsAt, Paths.{LocatedLine, has_class}, Text.Bytes}}
+use Rattle.iodef_tree.specs.{Text.{Tokens, is_root}, Tree.Forest}
 
 -- the path of the class above and the tokens of the look-up make the whole path
 whole : (p : Tokens) (x : Bytes) (here : Tokens) (depth : ℕ) → here ≡ p ++ x ∷ [] → depth ≤ length p → take depth p ++ drop depth here ≡ here

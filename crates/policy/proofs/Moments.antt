@@ -1,27 +1,12 @@
 -- The moment decides whether a permission has ended, and nothing else.
-use Rattle.std.proofs.Common.{◌≡◌, ℕ, Bool, true, false, not, List, [], ◌∷◌, refl, sym, ◌∙◌, ap, arith, if◌then◌else◌, ◌&&◌, ◌||◌, ◌==◌}
-use Rattle.std.specs.Prelude.{ℤ, ◌≤ℤ◌, int_lt, Option, Some, None, unwrap_or, is_none, filter, All, slice_index_or}
-use Rattle.std.specs.List.{filter_map, flat_map, list_any}
-use Rattle.std.proofs.lemmas.Bool.{and_parts, and_from}
-use Rattle.std.proofs.lemmas.Int.{ints}
-use Rattle.std.proofs.lemmas.List.Elements.{All-tail}
-use Rattle.std.proofs.lemmas.Map.Views.{any-filter_same}
-use Rattle.iodef_tree.specs.Text.{Tokens, same_path, prefixes}
-use Rattle.iodef_tree.specs.Paths.{LocatedLine}
-use Rattle.marking.specs.Marks.{label_at}
-use Rattle.policy.specs.Gates.{refused_unless, group_passage, refusal_of_gate}
-use Rattle.policy.specs.Permissions.{includes, is_before, holds_for, reaches, covers}
-use Rattle.policy.specs.Verdict.{first_of, refusal_at, handling_for, is_cleared_for, is_covered, is_visible, showing_rule, hiding_rule, hidden_by, verdict_of}
-use Rattle.policy.proofs.Sight.{any-weaker, stays}
-use Rattle.policy.specs.declared.permission.Grantee.{Grantee}
-use Rattle.policy.specs.declared.permission.Grantee.TheVariants.{Person, Org, Community, Group}
-use Rattle.policy.specs.declared.permission.Permission.{Permission}
-use Rattle.policy.specs.declared.rule.Rule.{Rule}
-use Rattle.policy.specs.declared.rule.Rule.TheVariants.{G0, G1, G2}
-use Rattle.policy.specs.declared.standing.Standing.{Standing}
-use Rattle.policy.specs.declared.gate.Gate.{Gate}
-use Rattle.policy.specs.declared.case.Case.{Case}
-use Rattle.policy.specs.declared.verdict.Verdict.{Verdict}
+use Rattle.std.proofs.{Common.{◌≡◌, ℕ, Bool, true, List, [], ◌∷◌, refl, sym, ◌∙◌, ap, arith, if◌then◌else◌, ◌&&◌, ◌||◌, ◌==◌}, lemmas.Bool.and_parts}
+use Rattle.std.{proofs.lemmas.{Bool.and_from, Int.ints, List.Elements.All-tail, Map.Views.any-filter_same}, specs.List.{filter_map, flat_map, list_any}}
+use Rattle.{std.specs.Prelude.{ℤ, ◌≤ℤ◌, Option, Some, None, unwrap_or, is_none, filter, All, slice_index_or}, iodef_tree.specs.{Paths.LocatedLine, Text.Tokens}}
+use Rattle.{iodef_tree.specs.Text.{same_path, prefixes}, marking.specs.Marks.label_at, policy.{proofs.Sight.{any-weaker, stays}, specs.Gates.refused_unless}}
+use Rattle.policy.specs.{Gates.{group_passage, refusal_of_gate}, Permissions.{includes, is_before, holds_for, reaches, covers}, Verdict.{first_of, refusal_at}}
+use Rattle.policy.specs.Verdict.{handling_for, is_cleared_for, is_covered, is_visible, showing_rule, hiding_rule, hidden_by, verdict_of}
+use Rattle.policy.specs.declared.{case.Case.Case, gate.Gate.Gate, permission.Grantee.{Grantee, TheVariants.{Person, Org, Community, Group}}}
+use Rattle.policy.specs.declared.{permission.Permission.Permission, rule.Rule.TheVariants.{G0, G1, G2}, standing.Standing.Standing, verdict.Verdict.Verdict}
 use Rattle.policy.specs.declared.verdict.Verdict.TheVariants.{Shown, Hidden}
 
 -- the same reader at another moment

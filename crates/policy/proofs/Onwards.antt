@@ -1,21 +1,9 @@
 -- Gates and permissions with the rest of their paths, one after another.
-use Rattle.std.proofs.Common.{◌≡◌, Bool, false, ◌&&◌, List, [], ◌∷◌, map, cond, length, refl, sym, ◌∙◌, ap, arith, ◌==◌}
-use Rattle.std.specs.Prelude.{filter, Some, None}
-use Rattle.std.specs.List.{filter_map, list_any}
-use Rattle.std.proofs.lemmas.Bool.{eqb-true, false_from_ne_true, false≢true, or_left}
-use Rattle.std.proofs.lemmas.Option.{none-some}
-use Rattle.iodef_tree.specs.Text.{Tokens, same_path}
-use Rattle.iodef_tree.proofs.Order.{same_path-refl}
-use Rattle.policy.specs.Ahead.{refused_with, granted_with}
-use Rattle.policy.specs.Gates.{refusal_of_gate}
-use Rattle.policy.specs.Permissions.{holds_for}
-use Rattle.policy.specs.Verdict.{first_of}
-use Rattle.policy.specs.declared.standing.Standing.{Standing}
-use Rattle.policy.specs.declared.gate.Gate.{Gate}
-use Rattle.policy.specs.declared.permission.Permission.{Permission}
-use Rattle.policy.specs.declared.rule.Rule.{Rule}
-use Rattle.policy.specs.declared.onward.Refusing.{Refusing}
-use Rattle.policy.specs.declared.onward.Granting.{Granting}
+use Rattle.std.proofs.{Common.{◌≡◌, Bool, false, ◌&&◌, List, [], ◌∷◌, map, cond, length, refl, sym, ◌∙◌, ap, arith, ◌==◌}, lemmas.Bool.eqb-true}
+use Rattle.std.{proofs.lemmas.{Bool.{false_from_ne_true, false≢true, or_left}, Option.none-some}, specs.{List.{filter_map, list_any}, Prelude.{filter, Some}}}
+use Rattle.{std.specs.Prelude.None, iodef_tree.{proofs.Order.same_path-refl, specs.Text.{Tokens, same_path}}, policy.specs.Ahead.{refused_with, granted_with}}
+use Rattle.policy.specs.{Gates.refusal_of_gate, Permissions.holds_for, Verdict.first_of, declared.{gate.Gate.Gate, onward.Granting.Granting}}
+use Rattle.policy.specs.declared.{onward.Refusing.Refusing, permission.Permission.Permission, rule.Rule.Rule, standing.Standing.Standing}
 
 -- the refusals at a path, of some gates of a case
 abbrev pub refusals_among : Standing → List Gate → Tokens → List Rule

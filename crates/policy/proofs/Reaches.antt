@@ -1,14 +1,7 @@
 -- How far down a permission reaches, token by token.
-use Rattle.std.proofs.Common.{◌≡◌, [], ◌∷◌, ◌++◌, List, ◌&&◌, ◌||◌}
-use Rattle.std.specs.Prelude.{None, is_none}
-use Rattle.iodef_tree.specs.Text.{Bytes, Tokens, same_path}
-use Rattle.iodef_tree.specs.Paths.{LocatedLine}
-use Rattle.marking.specs.Marks.{written_label}
-use Rattle.policy.specs.Permissions.{reaches}
-use Rattle.policy.specs.Standing.{stranger}
-use Rattle.policy.specs.declared.permission.Permission.{Permission}
-use Rattle.policy.specs.declared.permission.Grantee.TheVariants.{Person}
-use Rattle.policy.proofs.Steps.{covers-push, covers-root}
+use Rattle.{std.{proofs.Common.{◌≡◌, [], ◌∷◌, ◌++◌, List, ◌&&◌, ◌||◌}, specs.Prelude.{None, is_none}}, iodef_tree.specs.{Paths.LocatedLine, Text.Bytes}}
+use Rattle.{iodef_tree.specs.Text.{Tokens, same_path}, marking.specs.Marks.written_label, policy.proofs.Steps.{covers-push, covers-root}}
+use Rattle.policy.specs.{Permissions.reaches, Standing.stranger, declared.permission.{Grantee.TheVariants.Person, Permission.Permission}}
 
 -- a permission with this path and without an end, which includes the reader
 abbrev at_path : Tokens → Permission

@@ -1,22 +1,11 @@
 -- Which gates refuse on a path, and whose rule is the refusal.
-use Rattle.std.proofs.Common.{◌≡◌, ℕ, ◌≤◌, ◌<◌, Bool, true, false, not, List, [], ◌∷◌, ◌++◌, length, map, refl, sym, ◌∙◌, ap, arith, if◌then◌else◌, ◌&&◌, ◌||◌, ◌⊎◌, inl, inr}
-use Rattle.std.specs.Prelude.{Option, Some, None, is_some, filter, find, All, slice_index_or}
-use Rattle.std.specs.Option.{option_or}
-use Rattle.std.specs.List.{filter_map, cons_option, flat_map, list_any, list_all}
-use Rattle.std.specs.Str.{bytes_eq}
-use Rattle.std.proofs.lemmas.Bool.{false≢true, true≢false, and_parts, and_from}
-use Rattle.std.proofs.lemmas.List.{append-nil}
-use Rattle.std.proofs.lemmas.List.Sums.{AllPass-from_list_all}
-use Rattle.iodef_tree.specs.Text.{Bytes, Tokens, same_path, is_prefix, prefixes}
-use Rattle.iodef_tree.proofs.Order.{bytes_eq-refl, bytes_eq-true, same_path-true, same_path-refl}
-use Rattle.policy.specs.Gates.{refusal_of_gate}
-use Rattle.policy.specs.Verdict.{first_of, refusals_at, refusal_at}
-use Rattle.policy.specs.Laws.{refuses_on, IsNearestRefusal}
-use Rattle.policy.proofs.Steps.{first_of-append, any_same}
-use Rattle.policy.specs.declared.rule.Rule.{Rule}
-use Rattle.policy.specs.declared.standing.Standing.{Standing}
-use Rattle.policy.specs.declared.gate.Gate.{Gate}
-use Rattle.policy.specs.declared.case.Case.{Case}
+use Rattle.std.proofs.Common.{◌≡◌, ℕ, ◌≤◌, ◌<◌, Bool, true, false, not, List, [], ◌∷◌, ◌++◌, length, map, refl, sym, ◌∙◌, ap, arith, if◌then◌else◌, ◌&&◌, ◌||◌}
+use Rattle.std.proofs.{Common.{◌⊎◌, inl, inr}, lemmas.{Bool.{false≢true, true≢false, and_parts, and_from}, List.{append-nil, Sums.AllPass-from_list_all}}}
+use Rattle.std.specs.{List.{filter_map, cons_option, flat_map, list_any, list_all}, Option.option_or, Prelude.{Option, Some, None, is_some, filter, find, All}}
+use Rattle.{std.specs.{Prelude.slice_index_or, Str.bytes_eq}, iodef_tree.proofs.Order.{bytes_eq-refl, bytes_eq-true, same_path-true, same_path-refl}}
+use Rattle.{iodef_tree.specs.Text.{Bytes, Tokens, same_path, is_prefix, prefixes}, policy.proofs.Steps.{first_of-append, any_same}}
+use Rattle.policy.specs.{Gates.refusal_of_gate, Laws.{refuses_on, IsNearestRefusal}, Verdict.{first_of, refusals_at, refusal_at}, declared.case.Case.Case}
+use Rattle.policy.specs.declared.{gate.Gate.Gate, rule.Rule.Rule, standing.Standing.Standing}
 
 some_or : {A : Type 0} (a b : Option A) → is_some (option_or a b) ≡ (is_some a || is_some b)
 some_or None b = refl

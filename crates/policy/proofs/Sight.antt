@@ -1,30 +1,14 @@
 -- Readers who see more: those of the source, with more permissions, with a raised clearance.
-use Rattle.std.proofs.Common.{◌≡◌, ℕ, Bool, true, false, not, List, refl, sym, ◌∙◌, ap, subst, arith, if◌then◌else◌, ◌&&◌, ◌||◌, ◌==◌}
-use Rattle.std.specs.Prelude.{Option, Some, None, unwrap_or, is_some, is_none, filter, All, Contains}
-use Rattle.std.specs.List.{filter_map, flat_map, list_any}
-use Rattle.std.proofs.lemmas.Bool.{and_parts, and_from, false≢true}
-use Rattle.std.proofs.lemmas.List.Folds.{Any-from_list_any, list_any-from_Any}
-use Rattle.iodef_tree.specs.Text.{Tokens, same_path, is_prefix, prefixes}
-use Rattle.iodef_tree.specs.Paths.{LocatedLine}
-use Rattle.marking.specs.Label.{handling_of, is_at_most}
-use Rattle.marking.specs.Marks.{label_at}
-use Rattle.policy.specs.Clearance.{clearance_of}
-use Rattle.policy.specs.Numbers.{is_among}
-use Rattle.policy.specs.Gates.{refused_unless, group_passage, refusal_of_gate}
-use Rattle.policy.specs.Permissions.{includes, is_before, reaches, covers}
-use Rattle.policy.specs.Verdict.{first_of, refusal_at, handling_for, is_cleared_for, is_covered, is_visible, showing_rule, hiding_rule, hidden_by, verdict_of}
-use Rattle.policy.specs.Laws.{HasMorePermissions, refuses_on, IsRaised}
-use Rattle.policy.proofs.Steps.{any_same}
-use Rattle.policy.proofs.Clearances.{at_most-trans, clearance-raised}
-use Rattle.policy.proofs.Refusals.{refused-any, passes-all}
-use Rattle.policy.specs.declared.permission.Grantee.{Grantee}
-use Rattle.policy.specs.declared.permission.Grantee.TheVariants.{Person, Org, Community, Group}
-use Rattle.policy.specs.declared.rule.Rule.{Rule}
-use Rattle.policy.specs.declared.rule.Rule.TheVariants.{Src, X, G0, G1, G2, G4, G4X}
-use Rattle.policy.specs.declared.standing.Standing.{Standing}
-use Rattle.policy.specs.declared.gate.Gate.{Gate}
-use Rattle.policy.specs.declared.case.Case.{Case}
-use Rattle.policy.specs.declared.verdict.Verdict.TheVariants.{Shown, Hidden}
+use Rattle.std.proofs.{Common.{◌≡◌, ℕ, Bool, true, false, not, List, refl, sym, ◌∙◌, ap, subst, arith, if◌then◌else◌, ◌&&◌, ◌||◌, ◌==◌}, lemmas.Bool.and_parts}
+use Rattle.std.{proofs.lemmas.{Bool.{and_from, false≢true}, List.Folds.{Any-from_list_any, list_any-from_Any}}, specs.List.{filter_map, flat_map, list_any}}
+use Rattle.{std.specs.Prelude.{Option, Some, None, unwrap_or, is_some, is_none, filter, All, Contains}, iodef_tree.specs.{Paths.LocatedLine, Text.Tokens}}
+use Rattle.{iodef_tree.specs.Text.{same_path, is_prefix, prefixes}, marking.specs.{Label.{handling_of, is_at_most}, Marks.label_at}}
+use Rattle.policy.{proofs.{Clearances.{at_most-trans, clearance-raised}, Refusals.{refused-any, passes-all}, Steps.any_same}, specs.Clearance.clearance_of}
+use Rattle.policy.specs.{Gates.{refused_unless, group_passage, refusal_of_gate}, Laws.{HasMorePermissions, refuses_on, IsRaised}, Numbers.is_among}
+use Rattle.policy.specs.{Permissions.{includes, is_before, reaches, covers}, Verdict.{first_of, refusal_at, handling_for, is_cleared_for, is_covered}}
+use Rattle.policy.specs.{Verdict.{is_visible, showing_rule, hiding_rule, hidden_by, verdict_of}, declared.{case.Case.Case, gate.Gate.Gate}}
+use Rattle.policy.specs.declared.{permission.Grantee.{Grantee, TheVariants.{Person, Org, Community, Group}}, rule.Rule.{Rule, TheVariants.{Src, X, G0, G1, G2}}}
+use Rattle.policy.specs.declared.{rule.Rule.TheVariants.{G4, G4X}, standing.Standing.Standing, verdict.Verdict.TheVariants.{Shown, Hidden}}
 
 pub source-sees : (es : List LocatedLine) (c : Case) (s : Standing) (p : Tokens) → s.source ≡ true → verdict_of es c s p ≡ Shown Src
 source-sees es c s p is =

@@ -1,24 +1,14 @@
 -- What the policy says at a path, one step below another.
-use Rattle.std.proofs.Common.{◌≡◌, ◌+◌, ◌≤◌, Bool, true, false, not, List, [], ◌∷◌, ◌++◌, length, refl, sym, ◌∙◌, ap, arith, map, if◌then◌else◌, ◌&&◌, ◌||◌, length-append}
-use Rattle.std.specs.Prelude.{nat_lt, Option, Some, None, unwrap_or, is_some, is_none, find, reverse}
-use Rattle.std.specs.Option.{option_or}
-use Rattle.std.specs.List.{flat_map, list_any, list_all}
-use Rattle.std.specs.Str.{bytes_eq}
-use Rattle.std.proofs.lemmas.Bool.{lt-ltb, le-ltb, and_left, and_parts, not_from_false, false_from_ne_true, and_from, false≢true}
-use Rattle.std.proofs.lemmas.List.{append-nil, map-append, reverse-append}
-use Rattle.std.proofs.lemmas.List.Concat.{flat_map-append}
-use Rattle.std.proofs.lemmas.List.Folds.{list_all-append, list_all-map}
-use Rattle.iodef_tree.specs.Text.{Bytes, Tokens, same_path, is_root, is_prefix, prefixes}
-use Rattle.iodef_tree.specs.Paths.{LocatedLine, has_class}
-use Rattle.iodef_tree.proofs.Order.{same_path-true}
-use Rattle.marking.specs.Label.{LabelValue, private}
-use Rattle.marking.specs.Marks.{written_label, incident_path, has_default, own_label, has_own_label, label_at}
-use Rattle.policy.specs.Permissions.{holds_for, is_unmarked_below, covers}
-use Rattle.policy.specs.Verdict.{first_of, refusals_at, refusal_at, is_covered}
-use Rattle.policy.specs.Inherited.{Inherited, approach_at, inherited_at, is_granted, approach_below, label_step, array_step, class_step, enter_array, enter_class, at_root}
+use Rattle.std.proofs.Common.{◌≡◌, ◌+◌, ◌≤◌, Bool, true, false, not, List, [], ◌∷◌, ◌++◌, length, refl, sym, ◌∙◌, ap, arith, map, if◌then◌else◌, ◌&&◌, ◌||◌}
+use Rattle.std.proofs.{Common.length-append, lemmas.Bool.{lt-ltb, le-ltb, and_left, and_parts, not_from_false, false_from_ne_true, and_from, false≢true}}
+use Rattle.std.{proofs.lemmas.List.{append-nil, map-append, reverse-append, Concat.flat_map-append, Folds.{list_all-append, list_all-map}}, specs.List.flat_map}
+use Rattle.std.specs.{List.{list_any, list_all}, Option.option_or, Prelude.{nat_lt, Option, Some, None, unwrap_or, is_some, is_none, find, reverse}}
+use Rattle.{std.specs.Str.bytes_eq, iodef_tree.{proofs.Order.same_path-true, specs.{Paths.{LocatedLine, has_class}, Text.{Bytes, Tokens, same_path, is_root}}}}
+use Rattle.{iodef_tree.specs.Text.{is_prefix, prefixes}, marking.specs.{Label.{LabelValue, private}, Marks.{written_label, incident_path, has_default}}}
+use Rattle.{marking.specs.Marks.{own_label, has_own_label, label_at}, policy.specs.Inherited.{Inherited, approach_at, inherited_at, is_granted, approach_below}}
+use Rattle.policy.specs.{Inherited.{label_step, array_step, class_step, enter_array, enter_class, at_root}, Permissions.{holds_for, is_unmarked_below, covers}}
+use Rattle.policy.specs.{Verdict.{first_of, refusals_at, refusal_at, is_covered}, declared.{case.Case.Case, permission.Permission.Permission}}
 use Rattle.policy.specs.declared.standing.Standing.{Standing}
-use Rattle.policy.specs.declared.permission.Permission.{Permission}
-use Rattle.policy.specs.declared.case.Case.{Case}
 
 pub prefixes-push : (p : Tokens) (x : Bytes) → prefixes (p ++ x ∷ []) ≡ prefixes p ++ (p ++ x ∷ []) ∷ []
 prefixes-push [] x = refl

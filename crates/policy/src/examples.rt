@@ -2,7 +2,8 @@
 //! here, with no program between. Each example is the contract of a function that does nothing.
 #![tactic(auto, unfolding(crate::proofs::Computed::computed))]
 
-ghost use Rattle.policy.specs.Examples.{StandingsAreCleared, LevelsLetPass, GroupsLetPass, GranteesInclude, ColoursAreForTheCleared, ArrangementsHandleDefault, DeeperGateRefuses, RootGateRefuses, PermissionReachesDown, PermissionEnds, MomentsAreRead, PermissionStopsAtGate};
+ghost use Rattle.policy.specs.Examples.{StandingsAreCleared, LevelsLetPass, GroupsLetPass, GranteesInclude, ColoursAreForTheCleared, ArrangementsHandleDefault};
+ghost use Rattle.policy.specs.Examples.{DeeperGateRefuses, RootGateRefuses, PermissionReachesDown, PermissionEnds, MomentsAreRead, PermissionStopsAtGate};
 
 /// Each standing has its clearance, and the strictest of several applies.
 pub fn standings_are_cleared()

@@ -1,6 +1,8 @@
 //! Laws of the policy, for every document, case and reader. Each law is the contract of a function that does nothing.
 
-ghost use Rattle.policy.specs.Laws.{SourceSeesAll, UnrefusedPassesGates, VisiblePassesGates, RefusalIsNearest, PermissionHidesNothing, PermissionOpensNoGate, EndedCountsForNothing, EndlessAtAnyMoment, LaterSeesNoMore, RaisedIsClearedForMore, RaisedSeesNoLess, ClearIsNeverHidden, ClearanceIsStrictest, RootIsAsSaid, ClassIsAsSaid, ArrayIsAsSaid};
+ghost use Rattle.policy.specs.Laws.{SourceSeesAll, UnrefusedPassesGates, VisiblePassesGates, RefusalIsNearest, PermissionHidesNothing, PermissionOpensNoGate};
+ghost use Rattle.policy.specs.Laws.{EndedCountsForNothing, EndlessAtAnyMoment, LaterSeesNoMore, RaisedIsClearedForMore, RaisedSeesNoLess, ClearIsNeverHidden};
+ghost use Rattle.policy.specs.Laws.{ClearanceIsStrictest, RootIsAsSaid, ClassIsAsSaid, ArrayIsAsSaid};
 
 /// A reader of the source sees every class.
 pub fn source_sees_all()

@@ -1,22 +1,14 @@
 -- Verdicts that agree at some paths, and what the reader is then served.
 use Rattle.std.proofs.Common.{◌≡◌, suc, Bool, true, false, not, List, [], ◌∷◌, ◌++◌, refl, sym, ◌∙◌, ap, map, if◌then◌else◌, ◌&&◌, ◌||◌}
-use Rattle.std.specs.Prelude.{Option, filter, count_by, length}
-use Rattle.std.specs.List.{AllByRecursion, flat_map, list_any, zip}
-use Rattle.std.proofs.lemmas.Bool.{false≢true, true≢false, and_left, and_parts, or_parts, cond-true, cond-false}
-use Rattle.iodef_tree.specs.Text.{Bytes, Tokens, is_root, same_path}
-use Rattle.iodef_tree.specs.Paths.{LocatedLine, is_class, is_class_kind, class_paths, classes_of}
-use Rattle.iodef_tree.specs.declared.line.Line.{Line}
-use Rattle.iodef_tree.specs.declared.line.Kind.{Kind}
+use Rattle.std.{proofs.lemmas.Bool.{false≢true, true≢false, and_left, and_parts, or_parts, cond-true, cond-false}, specs.List.{AllByRecursion, flat_map}}
+use Rattle.{std.specs.{List.{list_any, zip}, Prelude.{Option, filter, count_by, length}}, iodef_tree.{proofs.Order.same_path-true, specs.Paths.LocatedLine}}
+use Rattle.iodef_tree.specs.{Paths.{is_class, is_class_kind, class_paths, classes_of}, Text.{Bytes, Tokens, is_root, same_path}, declared.line.Kind.Kind}
+use Rattle.{iodef_tree.specs.declared.line.Line.Line, redact.proofs.{Filtered.{each, each-from}, Paired.pairs-paired, SameLines.{same_flat, same_marks}}}
+use Rattle.redact.{proofs.SameLines.{same_any, marks, is_empty, any-marks, count-marks}, specs.{Alike.{class_path, by_class}, Kept.{Verdicts, is_frame}}}
+use Rattle.redact.specs.Kept.{is_wholly_hidden, is_visible_class, is_kept, put_all, attribute_lines, added_label_lines, with_added_labels, kept_lines}
+use Rattle.redact.specs.{Told.{is_text_kind, has_needle, is_named, is_hit}, Withheld.{told_at_place, withheld_at, withheld_pairs}, inner.Paired.class_places}
+use Rattle.redact.specs.inner.Paired.{place_by}
 use Rattle.iodef_tree.specs.declared.line.Kind.TheVariants as kind
-use Rattle.iodef_tree.proofs.Order.{same_path-true}
-use Rattle.redact.specs.Kept.{Verdicts, is_frame, is_wholly_hidden, is_visible_class, is_kept, put_all, attribute_lines, added_label_lines, with_added_labels, kept_lines}
-use Rattle.redact.specs.Withheld.{told_at_place, withheld_at, withheld_pairs}
-use Rattle.redact.specs.inner.Paired.{class_places, place_by}
-use Rattle.redact.proofs.Paired.{pairs-paired}
-use Rattle.redact.specs.Told.{is_text_kind, has_needle, is_named, is_hit}
-use Rattle.redact.specs.Alike.{class_path, by_class}
-use Rattle.redact.proofs.Filtered.{each, each-from}
-use Rattle.redact.proofs.SameLines.{same_flat, same_marks, same_any, marks, is_empty, any-marks, count-marks}
 
 pub record Agree (off : Tokens → Bool) (v v' : Verdicts) : Type 0 where
   pub visible : (p : Tokens) → off p ≡ true → v.visible p ≡ v'.visible p

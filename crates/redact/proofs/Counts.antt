@@ -1,20 +1,13 @@
 -- How many classes are visible. What is kept of a document is no deeper, has no more lines that count, and its plain
 -- lines have texts of their kinds.
-use Rattle.std.proofs.Common.{◌≡◌, ◌≤◌, ◌||◌, not, arith, ℕ, suc, ◌+◌, Bool, true, false, List, ◌∷◌, ◌++◌, cond, refl, ap, zero-add, if◌then◌else◌, ◌&&◌, count_by, codes, is_some, bytes_eq, [], ◌∙◌, Option, max}
-use Rattle.std.proofs.lemmas.List.Sums.{sum_by-append, sum_by-cons}
-use Rattle.std.proofs.lemmas.Bool.{and_right, cond_both}
-use Rattle.std.specs.List.{AllByRecursion}
-use Rattle.iodef_tree.specs.Text.{Tokens, Bytes}
-use Rattle.iodef_tree.specs.Sound.{counted, is_label_line, class_height}
-use Rattle.iodef_tree.specs.Tree.{Forest, end, leaf, branch, steps, lines, leaf_line, class_line, Leaf, height}
-use Rattle.iodef_tree.specs.Walk.{walk, leaf_entry, class_entry}
-use Rattle.iodef_tree.specs.Texts.{HasTexts, may_be_text}
-use Rattle.iodef_tree.specs.declared.line.Line.{Line}
-use Rattle.marking.proofs.Bad.{no_class-kind}
-use Rattle.redact.specs.Kept.{Verdicts, Attribute}
-use Rattle.redact.specs.inner.Judged.{judge, visible_classes, judgment_at, Surrounding, inside, keeps_plain, shows_label, left_before, new_place, left_with, moved, is_end, put_leaf, attribute_leaf, put_attributes, with_label, cut}
-use Rattle.redact.proofs.Keeping.{is_seen, leaf_line-moved, class_line-moved}
-use Rattle.redact.proofs.Fates.{by_fate, put-keeps}
+use Rattle.std.proofs.Common.{◌≡◌, ◌≤◌, ◌||◌, not, arith, ℕ, suc, ◌+◌, Bool, true, false, List, ◌∷◌, ◌++◌, cond, refl, ap, zero-add, if◌then◌else◌, ◌&&◌}
+use Rattle.std.proofs.{Common.{count_by, codes, is_some, bytes_eq, [], ◌∙◌, Option, max}, lemmas.{Bool.{and_right, cond_both}, List.Sums.sum_by-append}}
+use Rattle.{std.{proofs.lemmas.List.Sums.sum_by-cons, specs.List.AllByRecursion}, iodef_tree.specs.{Sound.{counted, is_label_line, class_height}, Text.Tokens}}
+use Rattle.iodef_tree.specs.{Text.Bytes, Texts.{HasTexts, may_be_text}, Tree.{Forest, end, leaf, branch, steps, lines, leaf_line, class_line, Leaf, height}}
+use Rattle.{iodef_tree.specs.{Walk.{walk, leaf_entry, class_entry}, declared.line.Line.Line}, marking.proofs.Bad.no_class-kind, redact.proofs.Fates.by_fate}
+use Rattle.redact.{proofs.{Fates.put-keeps, Keeping.{is_seen, leaf_line-moved, class_line-moved}}, specs.{Kept.{Verdicts, Attribute}, inner.Judged.judge}}
+use Rattle.redact.specs.inner.Judged.{visible_classes, judgment_at, Surrounding, inside, keeps_plain, shows_label, left_before, new_place, left_with, moved}
+use Rattle.redact.specs.inner.Judged.{is_end, put_leaf, attribute_leaf, put_attributes, with_label, cut}
 
 pub count_by-append : {X : Type 0} (test : X → Bool) (xs ys : List X) → count_by test (xs ++ ys) ≡ count_by test xs + count_by test ys
 count_by-append test xs ys = sum_by-append (λ x. cond (test x) 1 0) xs ys

@@ -1,25 +1,15 @@
 -- When two documents and two cases decide the same of the classes at some paths.
-use Rattle.std.proofs.Common.{◌≡◌, Bool, true, false, not, List, [], ◌∷◌, ◌++◌, refl, sym, ◌∙◌, ap, subst, map, length, if◌then◌else◌, ◌&&◌, ◌||◌, reverse, cond}
-use Rattle.std.specs.Prelude.{Some, None, filter, find, nat_lt, is_some, is_none, codes, unwrap_or}
-use Rattle.std.specs.List.{AllByRecursion, flat_map}
-use Rattle.std.specs.Option.{option_or, option_map_or}
-use Rattle.std.specs.Str.{bytes_eq}
-use Rattle.std.proofs.lemmas.Bool.{false≢true, and_left, and_parts, and_from, cond-false}
-use Rattle.iodef_tree.specs.Text.{Bytes, Tokens, is_root, same_path, is_prefix, is_under, prefixes}
-use Rattle.iodef_tree.specs.Paths.{LocatedLine, is_class, has_class, below}
-use Rattle.iodef_tree.proofs.Order.{bytes_eq-true, bytes_eq-refl}
-use Rattle.marking.specs.Label.{private}
-use Rattle.marking.specs.Marks.{Held, absent, held_by_line, is_member, held_at, restriction_at, ext_restriction_at, spelled_by, written_label, incident_path, has_default, own_label, has_own_label, site_of, label_at}
-use Rattle.policy.specs.declared.standing.Standing.{Standing}
-use Rattle.policy.specs.declared.permission.Permission.{Permission}
-use Rattle.policy.specs.declared.case.Case.{Case}
-use Rattle.policy.specs.Permissions.{holds_for, is_unmarked_below, covers}
-use Rattle.policy.specs.Verdict.{first_of, refusals_at, refusal_at, handling_for, is_cleared_for, is_covered, is_visible, hidden_by, hiding_rule}
-use Rattle.redact.specs.Told.{attributes_of, some_seen, verdicts_of}
-use Rattle.redact.specs.Alike.{class_path, by_class}
-use Rattle.redact.proofs.Filtered.{each, each-from, all-map, all-back, found-has, find-each, all-each, flat-each, any-each, any-both}
-use Rattle.redact.proofs.SameLines.{same_flat, same_any}
-use Rattle.redact.proofs.AgreedVerdicts.{Agree}
+use Rattle.std.proofs.Common.{◌≡◌, Bool, true, false, not, List, [], ◌∷◌, ◌++◌, refl, sym, ◌∙◌, ap, subst, map, length, if◌then◌else◌, ◌&&◌, ◌||◌, reverse}
+use Rattle.std.{proofs.{Common.cond, lemmas.Bool.{false≢true, and_left, and_parts, and_from, cond-false}}, specs.List.{AllByRecursion, flat_map}}
+use Rattle.std.specs.{Option.{option_or, option_map_or}, Prelude.{Some, None, filter, find, nat_lt, is_some, is_none, codes, unwrap_or}, Str.bytes_eq}
+use Rattle.iodef_tree.{proofs.Order.{bytes_eq-true, bytes_eq-refl}, specs.{Paths.{LocatedLine, is_class, has_class, below}, Text.{Bytes, Tokens, is_root}}}
+use Rattle.{iodef_tree.specs.Text.{same_path, is_prefix, is_under, prefixes}, marking.specs.{Label.private, Marks.{Held, absent, held_by_line, is_member}}}
+use Rattle.marking.specs.Marks.{held_at, restriction_at, ext_restriction_at, spelled_by, written_label, incident_path, has_default, own_label, has_own_label}
+use Rattle.{marking.specs.Marks.{site_of, label_at}, policy.specs.{Permissions.{holds_for, is_unmarked_below, covers}, Verdict.{first_of, refusals_at}}}
+use Rattle.policy.specs.{Verdict.{refusal_at, handling_for, is_cleared_for, is_covered, is_visible, hidden_by, hiding_rule}, declared.case.Case.Case}
+use Rattle.{policy.specs.declared.{permission.Permission.Permission, standing.Standing.Standing}, redact.proofs.{AgreedVerdicts.Agree, Filtered.each}}
+use Rattle.redact.proofs.{Filtered.{each-from, all-map, all-back, found-has, find-each, all-each, flat-each, any-each, any-both}, SameLines.same_flat}
+use Rattle.redact.{proofs.SameLines.same_any, specs.{Alike.{class_path, by_class}, Told.{attributes_of, some_seen, verdicts_of}}}
 
 -- ---- prefixes
 

@@ -1,11 +1,7 @@
 -- Paths by their last tokens.
-use Rattle.std.proofs.Common.{◌≡◌, ℕ, Bool, true, false, List, [], ◌∷◌, ◌++◌, length, append-nil, append_assoc, refl, sym, ◌∙◌, ap, arith, ◌&&◌, ◌||◌, ◌==◌, decimal, bytes_eq}
-use Rattle.std.specs.Prelude.{Option, Some, None}
-use Rattle.std.proofs.lemmas.Bool.{and_right, ne_eqb}
-use Rattle.std.proofs.lemmas.Grind.{flat_map-append}
-use Rattle.iodef_tree.specs.Text.{Bytes, Tokens, is_root, is_prefix, same_path}
-use Rattle.iodef_tree.specs.Tree.{steps, place_of}
-use Rattle.redact.specs.Sifted.{step_tokens, way}
+use Rattle.std.proofs.Common.{◌≡◌, ℕ, Bool, true, false, List, [], ◌∷◌, ◌++◌, length, append-nil, append_assoc, refl, sym, ◌∙◌, ap, arith, ◌&&◌, ◌||◌, ◌==◌}
+use Rattle.std.{proofs.{Common.{decimal, bytes_eq}, lemmas.{Bool.{and_right, ne_eqb}, Grind.flat_map-append}}, specs.Prelude.{Option, Some, None}}
+use Rattle.{iodef_tree.specs.{Text.{Bytes, Tokens, is_root, is_prefix, same_path}, Tree.{steps, place_of}}, redact.specs.Sifted.{step_tokens, way}}
 use Rattle.redact.specs.declared.steps.Step.{Step}
 
 pub only-root : (p : Tokens) → (length p == 0) ≡ is_root p

@@ -1,27 +1,12 @@
 -- A class under a token: what is kept, listed and found of it, given what holds at it.
-use Rattle.std.proofs.Common.{◌≡◌, ℕ, Bool, ◌||◌, ◌≤◌, List, [], ◌∷◌, ◌++◌, refl, sym, ◌∙◌, ap, subst, take, length, Option, Some, None, option_map, Vec, Global, vec_len, arith, ◌-◌}
-use Rattle.std.proofs.lemmas.List.{map-append, take-append-le, length-append}
-use Rattle.std.proofs.Math.Seq.{take-append_seam}
-use Rattle.iodef_tree.specs.declared.object.Item.{Item, Class}
-use Rattle.iodef_tree.specs.declared.object.Object.{Object}
-use Rattle.iodef_tree.specs.Text.{Bytes, Tokens}
-use Rattle.iodef_tree.specs.Tree.{Forest, Body, holds}
-use Rattle.iodef_tree.specs.View.{forest, body}
-use Rattle.iodef_tree.proofs.Views.{body-Class}
-use Rattle.marking.specs.Label.{LabelValue}
-use Rattle.marking.specs.Members.{spelled_in}
-use Rattle.policy.specs.Inherited.{class_step, enter_class}
-use Rattle.policy.specs.declared.case.Case.{Case}
-use Rattle.policy.specs.declared.inherited.Carried.{Carried}
-use Rattle.policy.specs.declared.standing.Standing.{Standing}
-use Rattle.redact.specs.inner.Here.{carries}
-use Rattle.redact.specs.inner.Judged.{Surrounding}
-use Rattle.redact.specs.inner.Left.{Goes, class_left, class_told, class_count, left_at, told_at, count_at}
-use Rattle.redact.specs.inner.Pass.{pass, judgment_by}
-use Rattle.redact.specs.inner.Search.{class_hits, found, found_at}
-use Rattle.redact.specs.inner.Tokens.{token_of, path_of}
-use Rattle.redact.specs.declared.pass.State.{State}
-use Rattle.redact.specs.declared.trail.Token.{Token}
+use Rattle.std.proofs.Common.{◌≡◌, ℕ, Bool, ◌||◌, ◌≤◌, List, [], ◌∷◌, ◌++◌, refl, sym, ◌∙◌, ap, subst, take, length, Option, Some, None, option_map, Vec}
+use Rattle.std.proofs.{Common.{Global, vec_len, arith, ◌-◌}, Math.Seq.take-append_seam, lemmas.List.{map-append, take-append-le, length-append}}
+use Rattle.iodef_tree.{proofs.Views.body-Class, specs.{Text.{Bytes, Tokens}, Tree.{Forest, Body, holds}, View.{forest, body}, declared.object.Item.Item}}
+use Rattle.{iodef_tree.specs.declared.object.{Item.Class, Object.Object}, marking.specs.{Label.LabelValue, Members.spelled_in}}
+use Rattle.policy.specs.{Inherited.{class_step, enter_class}, declared.{case.Case.Case, inherited.Carried.Carried, standing.Standing.Standing}}
+use Rattle.redact.specs.{declared.{pass.State.State, trail.Token.Token}, inner.{Here.carries, Judged.Surrounding, Left.{Goes, class_left, class_told}}}
+use Rattle.redact.specs.inner.{Left.{class_count, left_at, told_at, count_at}, Pass.{pass, judgment_by}, Search.{class_hits, found, found_at}, Tokens.token_of}
+use Rattle.redact.specs.inner.Tokens.{path_of}
 
 bodies-of : (left : Option Object) → option_map body (option_map Class left) ≡ option_map holds (option_map forest left)
 bodies-of None = refl

@@ -1,9 +1,7 @@
 -- The fates of members and of classes in the pass: a class is shown, framed, or gone. The three fates are a lemma and
 -- no data type: a data type would change the contracts of the pass and save no case.
-use Rattle.std.proofs.Common.{◌≡◌, ℕ, zero, suc, Some, Bool, true, false, not, refl, sym, subst, if◌then◌else◌, Option}
-use Rattle.iodef_tree.specs.Text.{Bytes, bytes_lt}
-use Rattle.iodef_tree.specs.Tree.{Leaf, Forest, end, leaf, branch}
-use Rattle.redact.specs.inner.Judged.{left_before, new_place, put_leaf}
+use Rattle.{std.proofs.Common.{◌≡◌, ℕ, zero, suc, Some, Bool, true, false, not, refl, sym, subst, if◌then◌else◌, Option}, iodef_tree.specs.Text.Bytes}
+use Rattle.{iodef_tree.specs.{Text.bytes_lt, Tree.{Leaf, Forest, end, leaf, branch}}, redact.specs.inner.Judged.{left_before, new_place, put_leaf}}
 
 -- ---- one sibling
 

@@ -1,16 +1,10 @@
 -- The place of an attribute among members, by its name.
-use Rattle.std.proofs.Common.{◌==◌, ne_eqb, ◌≡◌, if◌then◌else◌, ℕ, zero, suc, ◌<◌, ◌≤◌, true, false, List, [], ◌∷◌, ◌++◌, map, length, get_or, take, drop, refl, ◌∙◌, ap, arith, sym, Bool, Option, Some, None, option_map, is_some, IfSome, vec_len, eqb-true, subst, true≢false}
-use Rattle.std.specs.List.{AllByRecursion}
-use Rattle.iodef_tree.specs.Filled.{IsFilled, IsMemberFilled}
-use Rattle.iodef_tree.specs.Text.{Bytes, bytes_lt}
-use Rattle.iodef_tree.specs.Tree.{Leaf, Forest, leaf, Body, holds, says, Bodies, one, many, in_front, elements, member_front}
-use Rattle.iodef_tree.specs.View.{forest, bodies, named, members_forest, forest_of_members}
-use Rattle.iodef_tree.specs.declared.object.Member.{Member}
-use Rattle.iodef_tree.specs.declared.object.Object.{Object}
-use Rattle.redact.specs.inner.Judged.{put_leaf, attribute_leaf, is_end}
-use Rattle.iodef_tree.proofs.Filled.{has_elements, member-elements, members-filled}
-use Rattle.iodef_tree.proofs.Views.{forest-members}
-use Rattle.redact.specs.inner.Saying.{saying}
+use Rattle.std.proofs.Common.{◌==◌, ne_eqb, ◌≡◌, if◌then◌else◌, ℕ, zero, suc, ◌<◌, ◌≤◌, true, false, List, [], ◌∷◌, ◌++◌, map, length, get_or, take, drop, refl}
+use Rattle.std.proofs.Common.{◌∙◌, ap, arith, sym, Bool, Option, Some, None, option_map, is_some, IfSome, vec_len, eqb-true, subst, true≢false}
+use Rattle.{std.specs.List.AllByRecursion, iodef_tree.proofs.{Filled.{has_elements, member-elements, members-filled}, Views.forest-members}}
+use Rattle.iodef_tree.specs.{Filled.{IsFilled, IsMemberFilled}, Text.{Bytes, bytes_lt}, Tree.{Leaf, Forest, leaf, Body, holds, says, Bodies, one, many}}
+use Rattle.iodef_tree.specs.{Tree.{in_front, elements, member_front}, View.{forest, bodies, named, members_forest, forest_of_members}}
+use Rattle.{iodef_tree.specs.declared.object.{Member.Member, Object.Object}, redact.specs.inner.{Judged.{put_leaf, attribute_leaf, is_end}, Saying.saying}}
 
 put-front : (x : Leaf) (n : Bytes) (p : Option ℕ) (b : Body) (rest : Forest) →
     put_leaf x (in_front n p b rest) ≡ (if bytes_lt x.name n then leaf x (in_front n p b rest) else in_front n p b (put_leaf x rest))

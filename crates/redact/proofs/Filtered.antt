@@ -1,9 +1,7 @@
 -- Lists whose elements pass the same tests: a property of each, the first that is found, and those that are kept.
 use Rattle.std.proofs.Common.{◌≡◌, Bool, true, false, List, [], ◌∷◌, ◌++◌, refl, sym, ◌∙◌, ap, map, if◌then◌else◌, ◌&&◌, ◌||◌, reverse, cond}
-use Rattle.std.specs.Prelude.{Some, filter, find, unwrap_or}
-use Rattle.std.specs.List.{AllByRecursion, flat_map, list_any, list_all}
+use Rattle.std.{proofs.lemmas.Bool.{or_parts, cond-false}, specs.{List.{AllByRecursion, flat_map, list_any, list_all}, Prelude.{Some, filter, find, unwrap_or}}}
 use mathlib.Core.List.{reverse_aux}
-use Rattle.std.proofs.lemmas.Bool.{or_parts, cond-false}
 
 -- ---- a property of each
 

@@ -1,28 +1,10 @@
 -- What the lines that a pass kept say of all lines that it was fed.
-use Rattle.std.proofs.Common.{◌≡◌, true, false, not, List, refl, sym, ◌∙◌, ap, subst}
-use Rattle.std.specs.Prelude.{Option, Some, None, is_some, IfSome}
-use Rattle.std.proofs.lemmas.Bool.{false≢true, true≢false}
-use Rattle.iodef_tree.specs.Text.{Tokens}
-use Rattle.iodef_tree.specs.Paths.{located}
-use Rattle.iodef_tree.specs.Outline.{is_outline}
-use Rattle.iodef_tree.specs.declared.line.Line.{Line}
-use Rattle.iodef_tree.specs.declared.shape.Shape.{Shape}
-use Rattle.iodef_tree.proofs.Outlines.{outline-back}
-use Rattle.marking.specs.Marks.{first_bad_marking}
-use Rattle.policy.specs.declared.standing.Standing.{Standing}
-use Rattle.policy.specs.declared.case.Case.{Case}
-use Rattle.redact.specs.Told.{excerpt_of}
-use Rattle.redact.specs.Excerpts.{LabelsSurvive}
-use Rattle.redact.specs.Marked.{marks_of, is_accepted}
-use Rattle.redact.specs.Sifted.{Knows}
-use Rattle.redact.specs.declared.excerpts.Excerpt.{Excerpt}
-use Rattle.redact.specs.declared.marks.Marks.{Marks}
-use Rattle.redact.specs.declared.sieve.Sieve.{Sieve}
-use Rattle.redact.proofs.MarkedTree.{accepted-outline}
-use Rattle.redact.proofs.Matters.{excerpt-same}
-use Rattle.redact.proofs.MattersMarked.{well-marked}
-use Rattle.redact.proofs.MattersLabels.{labels-of-all}
-use Rattle.redact.proofs.Sifting.{sifts-outline}
+use Rattle.std.{proofs.{Common.{◌≡◌, true, false, not, List, refl, sym, ◌∙◌, ap, subst}, lemmas.Bool.{false≢true, true≢false}}, specs.Prelude.{Option, Some}}
+use Rattle.{std.specs.Prelude.{None, is_some, IfSome}, iodef_tree.{proofs.Outlines.outline-back, specs.{Outline.is_outline, Paths.located, Text.Tokens}}}
+use Rattle.{iodef_tree.specs.declared.{line.Line.Line, shape.Shape.Shape}, marking.specs.Marks.first_bad_marking, policy.specs.declared.case.Case.Case}
+use Rattle.{policy.specs.declared.standing.Standing.Standing, redact.proofs.{MarkedTree.accepted-outline, Matters.excerpt-same, MattersLabels.labels-of-all}}
+use Rattle.redact.{proofs.{MattersMarked.well-marked, Sifting.sifts-outline}, specs.{Excerpts.LabelsSurvive, Marked.{marks_of, is_accepted}, Sifted.Knows}}
+use Rattle.redact.specs.{Told.excerpt_of, declared.{excerpts.Excerpt.Excerpt, marks.Marks.Marks, sieve.Sieve.Sieve}}
 
 none-of : (o : Option Tokens) → not (is_some o) ≡ true → o ≡ None
 none-of None h = refl

@@ -1,21 +1,10 @@
 -- A class whose line has just come holds nothing yet: no line before it has its path, so none is in it.
 use Rattle.std.proofs.Common.{◌≡◌, Bool, true, false, ◌&&◌, ◌||◌, ◌⊎◌, inl, inr, List, [], ◌∷◌, ◌++◌, refl, sym, ◌∙◌, ap, subst, map, cond}
-use Rattle.std.specs.Prelude.{ℕ, Some, None, find}
-use Rattle.std.specs.Option.{option_map_or, option_or}
-use Rattle.std.specs.List.{AllByRecursion, IsDistinct, list_any}
-use Rattle.std.specs.Str.{bytes_eq}
-use Rattle.std.proofs.lemmas.Bool.{true≢false, false≢true, or_left, or_right}
-use Rattle.std.proofs.lemmas.List.Folds.{find-append}
-use Rattle.iodef_tree.specs.Text.{Bytes, Tokens, same_path}
-use Rattle.iodef_tree.specs.Paths.{LocatedLine, is_one_less_deep, parent_path, placed, located, located_after}
-use Rattle.iodef_tree.specs.Outline.{is_outline}
-use Rattle.iodef_tree.specs.declared.line.Line.{Line}
-use Rattle.iodef_tree.proofs.Order.{same_path-true}
-use Rattle.iodef_tree.proofs.Distinct.{paths-distinct}
-use Rattle.marking.specs.Marks.{absent, held_by_line, is_member, held_at}
-use Rattle.redact.specs.Sifted.{located_back}
-use Rattle.redact.proofs.Grown.{outline-document}
-use Rattle.redact.proofs.Lengthened.{located-append}
+use Rattle.std.{proofs.lemmas.{Bool.{true≢false, false≢true, or_left, or_right}, List.Folds.find-append}, specs.List.{AllByRecursion, IsDistinct, list_any}}
+use Rattle.{std.specs.{Option.{option_map_or, option_or}, Prelude.{ℕ, Some, None, find}, Str.bytes_eq}, iodef_tree.proofs.Distinct.paths-distinct}
+use Rattle.iodef_tree.{proofs.Order.same_path-true, specs.{Outline.is_outline, Paths.{LocatedLine, is_one_less_deep, parent_path, placed, located}}}
+use Rattle.{iodef_tree.specs.{Paths.located_after, Text.{Bytes, Tokens, same_path}, declared.line.Line.Line}, marking.specs.Marks.{absent, held_by_line}}
+use Rattle.{marking.specs.Marks.{is_member, held_at}, redact.{proofs.{Grown.outline-document, Lengthened.located-append}, specs.Sifted.located_back}}
 
 abbrev is_path : Tokens → LocatedLine → Bool
 is_path p e = same_path e.path p

@@ -1,24 +1,13 @@
 -- The pass over members side by side: what is kept, listed and counted of each, and then of the others.
-use Rattle.std.proofs.Common.{◌≡◌, ℕ, suc, ◌+◌, Bool, true, false, List, [], ◌∷◌, ◌++◌, refl, sym, ◌∙◌, ap, map, append_assoc, add_assoc, zero-add, if◌then◌else◌, decimal, Option, Some, None, is_some, option_map}
-use Rattle.std.specs.List.{cons_option}
-use Rattle.iodef_tree.specs.Text.{Bytes, Tokens}
-use Rattle.iodef_tree.specs.Tree.{Leaf, Forest, leaf, branch, Body, holds, says, Bodies, one, many, in_front, elements, steps}
-use Rattle.iodef_tree.specs.View.{forest, named, members_forest, forest_of_members}
-use Rattle.iodef_tree.specs.declared.Text.{Text}
-use Rattle.iodef_tree.specs.declared.object.Object.{Object}
-use Rattle.iodef_tree.specs.declared.object.Member.{Member}
-use Rattle.iodef_tree.proofs.Views.{forest-members}
-use Rattle.marking.specs.Label.{LabelValue}
-use Rattle.marking.specs.Members.{spelled_in}
-use Rattle.policy.specs.Inherited.{Inherited, enter_array, enter_class, is_seen, hides}
-use Rattle.policy.specs.declared.rule.Rule.{Rule}
-use Rattle.policy.specs.declared.standing.Standing.{Standing}
-use Rattle.policy.specs.declared.case.Case.{Case}
-use Rattle.redact.specs.Withheld.{Withheld}
-use Rattle.redact.specs.inner.Judged.{Surrounding, inside, keeps_plain, left_before, new_place, left_with, moved, is_end, with_label, cut, visible_classes, withheld_below}
-use Rattle.redact.specs.inner.Pass.{enter, judgment_by, pass}
-use Rattle.redact.proofs.Fates.{new_place-before}
-use Rattle.redact.specs.inner.Left.{left_at, told_at, count_at, left_items, told_items, count_items, many_or_none, left_members, told_members, count_members}
+use Rattle.std.proofs.Common.{◌≡◌, ℕ, suc, ◌+◌, Bool, true, false, List, [], ◌∷◌, ◌++◌, refl, sym, ◌∙◌, ap, map, append_assoc, add_assoc, zero-add}
+use Rattle.std.{proofs.Common.{if◌then◌else◌, decimal, Option, Some, None, is_some, option_map}, specs.List.cons_option}
+use Rattle.iodef_tree.{proofs.Views.forest-members, specs.{Text.{Bytes, Tokens}, Tree.{Leaf, Forest, leaf, branch, Body, holds, says, Bodies, one, many}}}
+use Rattle.iodef_tree.specs.{Tree.{in_front, elements, steps}, View.{forest, named, members_forest, forest_of_members}, declared.Text.Text}
+use Rattle.{iodef_tree.specs.declared.object.{Member.Member, Object.Object}, marking.specs.{Label.LabelValue, Members.spelled_in}}
+use Rattle.policy.specs.{Inherited.{Inherited, enter_array, enter_class, is_seen, hides}, declared.{case.Case.Case, rule.Rule.Rule, standing.Standing.Standing}}
+use Rattle.redact.{proofs.Fates.new_place-before, specs.{Withheld.Withheld, inner.Judged.{Surrounding, inside, keeps_plain, left_before, new_place, left_with}}}
+use Rattle.redact.specs.inner.{Judged.{moved, is_end, with_label, cut, visible_classes, withheld_below}, Left.{left_at, told_at, count_at, left_items}}
+use Rattle.redact.specs.inner.{Left.{told_items, count_items, many_or_none, left_members, told_members, count_members}, Pass.{enter, judgment_by, pass}}
 
 -- what is kept of some members, what is listed of them, and how many classes they count
 pub record Outcome : Type 0 where

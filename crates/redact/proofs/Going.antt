@@ -1,17 +1,10 @@
 -- The steps of the pass, one behind another.
-use Rattle.std.proofs.Common.{◌≡◌, ℕ, suc, ◌+◌, Bool, true, false, ◌||◌, List, [], ◌∷◌, ◌++◌, refl, ◌∙◌, ap, map, length, append_assoc, append-nil, length-append, arith, if◌then◌else◌, Option, Some, None, is_some, option_map, IfSome}
-use Rattle.std.specs.List.{AllByRecursion, cons_option, list_any}
-use Rattle.std.proofs.lemmas.List.Folds.{list_any-append}
-use Rattle.std.proofs.lemmas.List.{map-append}
-use Rattle.iodef_tree.specs.Text.{Tokens}
-use Rattle.iodef_tree.proofs.Siblings.{all-append}
-use Rattle.policy.specs.declared.rule.Rule.{Rule}
-use Rattle.redact.specs.Withheld.{Withheld, same_withheld, is_among, with_rule, at_rule, at_place}
-use Rattle.redact.specs.inner.Left.{tells, Goes, Leaves}
+use Rattle.std.proofs.Common.{◌≡◌, ℕ, suc, ◌+◌, Bool, true, false, ◌||◌, List, [], ◌∷◌, ◌++◌, refl, ◌∙◌, ap, map, length, append_assoc, append-nil}
+use Rattle.std.proofs.{Common.{length-append, arith, if◌then◌else◌, Option, Some, None, is_some, option_map, IfSome}, lemmas.List.map-append}
+use Rattle.{std.{proofs.lemmas.List.Folds.list_any-append, specs.List.{AllByRecursion, cons_option, list_any}}, iodef_tree.proofs.Siblings.all-append}
+use Rattle.{iodef_tree.specs.Text.Tokens, policy.specs.declared.rule.Rule.Rule, redact.{proofs.{Listing.any-with, Searching.any_map}, specs.Withheld.Withheld}}
+use Rattle.redact.specs.{Withheld.{same_withheld, is_among, with_rule, at_rule, at_place}, declared.pass.State.State, inner.Left.{tells, Goes, Leaves}}
 use Rattle.redact.specs.inner.Tokens.{path_of}
-use Rattle.redact.specs.declared.pass.State.{State}
-use Rattle.redact.proofs.Listing.{any-with}
-use Rattle.redact.proofs.Searching.{any_map}
 
 -- lists of pairs are the same test if each pair is in both or in neither
 alike : (xs ys : List Withheld) → ((x : Withheld) → is_among xs x ≡ is_among ys x) → is_among xs ≡ is_among ys

@@ -1,21 +1,12 @@
 -- The lines of an outline are those of a document: its tree grows line by line, at the ends of the open classes.
-use Rattle.std.proofs.Common.{◌≡◌, ℕ, zero, suc, ◌+◌, ◌-◌, ◌≤◌, Bool, true, false, not, ◌==◌, List, [], ◌∷◌, ◌++◌, length, append-nil, append_assoc, refl, sym, ◌∙◌, ap, subst, arith, if◌then◌else◌, Option, Some, None, is_some}
-use Rattle.std.specs.Str.{bytes_eq}
-use Rattle.std.proofs.lemmas.Bool.{false≢true, and_parts, and_from, eq-eqb}
-use Rattle.iodef_tree.specs.Text.{Bytes}
-use Rattle.iodef_tree.specs.Tree.{Content, text, value, Forest, end, leaf, branch, kind_of, text_of, leaf_line, class_line, lines}
-use Rattle.iodef_tree.specs.Paths.{is_class_kind}
-use Rattle.iodef_tree.specs.Texts.{is_empty_text, may_be_text}
-use Rattle.iodef_tree.specs.Sound.{SiblingPlace}
-use Rattle.iodef_tree.specs.Built.{is_numbered, IsNumberedBehind, IsNumbered, last_place}
-use Rattle.iodef_tree.specs.Laws.{IsDocument}
-use Rattle.iodef_tree.specs.Outline.{deepest, back, may_come, is_within_depth, is_outline, is_outline_after}
+use Rattle.std.proofs.Common.{◌≡◌, ℕ, zero, suc, ◌+◌, ◌-◌, ◌≤◌, Bool, true, false, not, ◌==◌, List, [], ◌∷◌, ◌++◌, length, append-nil, append_assoc, refl, sym}
+use Rattle.std.proofs.{Common.{◌∙◌, ap, subst, arith, if◌then◌else◌, Option, Some, None, is_some}, lemmas.Bool.{false≢true, and_parts, and_from, eq-eqb}}
+use Rattle.{std.specs.Str.bytes_eq, iodef_tree.proofs.{Fronts.{append, lines-append}, Outlines.{came, back-push}, Sounds.outline-sound}}
+use Rattle.iodef_tree.specs.{Built.{is_numbered, IsNumberedBehind, IsNumbered, last_place}, Laws.IsDocument, Outline.{deepest, back, may_come, is_within_depth}}
+use Rattle.iodef_tree.specs.{Outline.{is_outline, is_outline_after}, Paths.is_class_kind, Sound.SiblingPlace, Text.Bytes, Texts.{is_empty_text, may_be_text}}
+use Rattle.iodef_tree.specs.{Tree.{Content, text, value, Forest, end, leaf, branch, kind_of, text_of, leaf_line, class_line, lines}, declared.line.Kind.Kind}
 use Rattle.iodef_tree.specs.declared.line.Line.{Line}
-use Rattle.iodef_tree.specs.declared.line.Kind.{Kind}
 use Rattle.iodef_tree.specs.declared.line.Kind.TheVariants as kind
-use Rattle.iodef_tree.proofs.Fronts.{append, lines-append}
-use Rattle.iodef_tree.proofs.Outlines.{came, back-push}
-use Rattle.iodef_tree.proofs.Sounds.{outline-sound}
 
 -- ---- siblings
 

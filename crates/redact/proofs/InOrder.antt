@@ -1,15 +1,8 @@
 -- The list of what is withheld, in order and without repeats, is one list.
-use Rattle.std.proofs.Common.{◌≡◌, ◌⊎◌, inl, inr, ℕ, zero, suc, ◌<◌, List, [], ◌∷◌, length, get_or, refl, sym, ◌∙◌, ap, subst, arith}
-use Rattle.std.specs.Prelude.{Contains}
-use Rattle.std.specs.List.{AllByRecursion}
-use Rattle.std.specs.List.Sorted.{IsStrictlySortedBy}
-use Rattle.std.specs.Cmp.{IsTotalOrder}
-use Rattle.std.specs.Ordering.{ordering_reverse, is_eq}
-use Rattle.std.specs.declared.cmp.Ordering.{Ordering}
-use Rattle.std.specs.declared.cmp.Ordering.TheVariants.{Less, Equal, Greater}
-use Rattle.redact.specs.inner.Ties.{withheld-ties}
-use Rattle.redact.specs.Withheld.{Withheld, withheld_cmp, is_among, insert_withheld_by, insert_withheld, withheld_in_order, Lists}
-use Rattle.redact.proofs.Listing.{withheld-total, withheld-same, among-contains}
+use Rattle.std.{proofs.Common.{◌≡◌, ◌⊎◌, inl, inr, ℕ, zero, suc, ◌<◌, List, [], ◌∷◌, length, get_or, refl, sym, ◌∙◌, ap, subst, arith}, specs.Cmp.IsTotalOrder}
+use Rattle.std.specs.{List.{AllByRecursion, Sorted.IsStrictlySortedBy}, Ordering.{ordering_reverse, is_eq}, Prelude.Contains, declared.cmp.Ordering.Ordering}
+use Rattle.{std.specs.declared.cmp.Ordering.TheVariants.{Less, Equal, Greater}, redact.proofs.Listing.{withheld-total, withheld-same, among-contains}}
+use Rattle.redact.specs.{Withheld.{Withheld, withheld_cmp, is_among, insert_withheld_by, insert_withheld, withheld_in_order, Lists}, inner.Ties.withheld-ties}
 
 abbrev pub In : {X : Type 0} → List X → X → Type 0
 In [] x = ⊥

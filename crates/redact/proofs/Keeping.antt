@@ -1,18 +1,12 @@
 -- The kept outline is what the pass keeps, with the members of labels put in among its lines and among its members.
-use Rattle.std.proofs.Common.{◌≡◌, ℕ, suc, ◌<◌, Bool, true, false, List, [], ◌∷◌, ◌++◌, refl, ◌∙◌, ap, append_assoc, arith, if◌then◌else◌, ◌&&◌, ◌||◌, ◌==◌, nat_lt, lt-ltb, not, sym, subst, filter, Option, is_some}
-use Rattle.std.proofs.lemmas.Bool.{or_left, cond-true, false≢true, cond-false}
-use Rattle.std.specs.List.{list_any}
-use Rattle.std.proofs.lemmas.List.Folds.{list_any-append}
-use Rattle.iodef_tree.specs.Text.{bytes_lt, Bytes, Tokens, is_root}
-use Rattle.iodef_tree.specs.Tree.{Leaf, Forest, end, leaf, branch, leaf_line, class_line, lines, steps}
-use Rattle.iodef_tree.specs.declared.line.Line.{Line}
-use Rattle.iodef_tree.specs.Paths.{LocatedLine, is_class}
-use Rattle.iodef_tree.specs.Walk.{walk, leaf_entry, class_entry}
-use Rattle.marking.proofs.Bad.{no_class-kind}
-use Rattle.marking.proofs.Marked.{not_root}
-use Rattle.redact.specs.Kept.{Attribute, stands_before, put, put_all, attribute_line, attribute_lines, Verdicts, is_visible_class, is_kept, added_label_lines, with_added_labels, kept_lines}
-use Rattle.redact.specs.inner.Judged.{put_leaf, attribute_leaf, put_attributes, judge, inside, keeps_plain, shows_label, home_at, left_before, new_place, left_with, moved, is_end, cut}
-use Rattle.redact.proofs.Fates.{by_verdict}
+use Rattle.std.proofs.Common.{◌≡◌, ℕ, suc, ◌<◌, Bool, true, false, List, [], ◌∷◌, ◌++◌, refl, ◌∙◌, ap, append_assoc, arith, if◌then◌else◌, ◌&&◌, ◌||◌, ◌==◌}
+use Rattle.std.proofs.{Common.{nat_lt, lt-ltb, not, sym, subst, filter, Option, is_some}, lemmas.Bool.{or_left, cond-true, false≢true, cond-false}}
+use Rattle.{std.{proofs.lemmas.List.Folds.list_any-append, specs.List.list_any}, iodef_tree.specs.{Paths.{LocatedLine, is_class}, Text.{bytes_lt, Bytes}}}
+use Rattle.iodef_tree.specs.{Text.{Tokens, is_root}, Tree.{Leaf, Forest, end, leaf, branch, leaf_line, class_line, lines, steps}, Walk.{walk, leaf_entry}}
+use Rattle.{iodef_tree.specs.{Walk.class_entry, declared.line.Line.Line}, marking.proofs.{Bad.no_class-kind, Marked.not_root}, redact.proofs.Fates.by_verdict}
+use Rattle.redact.specs.Kept.{Attribute, stands_before, put, put_all, attribute_line, attribute_lines, Verdicts, is_visible_class, is_kept, added_label_lines}
+use Rattle.redact.specs.{Kept.{with_added_labels, kept_lines}, inner.Judged.{put_leaf, attribute_leaf, put_attributes, judge, inside, keeps_plain, shows_label}}
+use Rattle.redact.specs.inner.Judged.{home_at, left_before, new_place, left_with, moved, is_end, cut}
 
 -- ---- attributes put in among lines
 

@@ -1,30 +1,15 @@
 -- In a document whose markings are accepted, no class below the root has the name of a label's member. So the labels
 -- written outside a class and what is below it don't depend on that.
 use Rattle.std.proofs.Common.{◌≡◌, ℕ, suc, Bool, true, false, not, List, [], ◌∷◌, ◌++◌, refl, sym, ◌∙◌, ap, subst, if◌then◌else◌, ◌&&◌, ◌||◌}
-use Rattle.std.specs.Prelude.{Option, Some, None, codes, is_some, option_map}
-use Rattle.std.specs.List.{AllByRecursion}
-use Rattle.std.specs.Option.{option_or}
-use Rattle.std.specs.Str.{bytes_eq}
 use Rattle.std.proofs.lemmas.Bool.{false≢true, not-false, false_from_ne_true, and_left, and_parts, and_from, or_parts, cond-true, cond-false}
-use Rattle.iodef_tree.specs.Text.{Bytes, Tokens, is_root, same_path, is_prefix}
-use Rattle.iodef_tree.specs.Paths.{LocatedLine, is_class, located, has_class}
-use Rattle.iodef_tree.specs.Tree.{Forest, end, leaf, branch, steps, kind_of, text_of}
-use Rattle.iodef_tree.specs.Walk.{walk, leaf_entry}
-use Rattle.iodef_tree.specs.Laws.{AllSiblings, AreApart, HasApart}
-use Rattle.iodef_tree.specs.declared.line.Line.{Line}
-use Rattle.iodef_tree.proofs.Order.{bytes_eq-true, bytes_eq-refl, same_path-true}
-use Rattle.iodef_tree.proofs.Located.{located-lines}
-use Rattle.iodef_tree.proofs.Apart.{sound-apart}
-use Rattle.iodef_tree.proofs.Siblings.{all-append}
-use Rattle.iodef_tree.proofs.ByPath.{has_class-root}
-use Rattle.marking.specs.Marks.{Held, absent, one_text, other, held_by_line, is_member, restriction_at, ext_restriction_at, spelled_by, is_rule_kept, written_label, first_bad_marking}
-use Rattle.marking.specs.Members.{held_by_leaf, held_in, is_rule_kept_in}
-use Rattle.marking.specs.inner.Pass.{bad_below}
-use Rattle.marking.proofs.Bad.{no_class-kind, first_bad}
-use Rattle.redact.specs.Alike.{is_within, lines_but}
-use Rattle.iodef_tree.specs.Laws.{IsDocument}
-use Rattle.redact.proofs.Filtered.{each-from}
-use Rattle.redact.proofs.DecidedAlike.{held-same, classes-same}
+use Rattle.std.specs.{List.AllByRecursion, Option.option_or, Prelude.{Option, Some, None, codes, is_some, option_map}, Str.bytes_eq}
+use Rattle.iodef_tree.proofs.{Apart.sound-apart, ByPath.has_class-root, Located.located-lines, Order.{bytes_eq-true, bytes_eq-refl, same_path-true}}
+use Rattle.iodef_tree.{proofs.Siblings.all-append, specs.{Laws.{AllSiblings, AreApart, HasApart, IsDocument}, Paths.{LocatedLine, is_class, located}}}
+use Rattle.iodef_tree.specs.{Paths.has_class, Text.{Bytes, Tokens, is_root, same_path, is_prefix}, Tree.{Forest, end, leaf, branch, steps, kind_of, text_of}}
+use Rattle.{iodef_tree.specs.{Walk.{walk, leaf_entry}, declared.line.Line.Line}, marking.{proofs.Bad.{no_class-kind, first_bad}, specs.Marks.{Held, absent}}}
+use Rattle.marking.specs.Marks.{one_text, other, held_by_line, is_member, restriction_at, ext_restriction_at, spelled_by, is_rule_kept, written_label}
+use Rattle.marking.specs.{Marks.first_bad_marking, Members.{held_by_leaf, held_in, is_rule_kept_in}, inner.Pass.bad_below}
+use Rattle.redact.{proofs.{DecidedAlike.{held-same, classes-same}, Filtered.each-from}, specs.Alike.{is_within, lines_but}}
 
 abbrev is_label_name : Bytes → Bool
 is_label_name name = bytes_eq name (codes "restriction") || bytes_eq name (codes "ext-restriction")

@@ -1,12 +1,7 @@
 -- Lines that have come keep their paths, whatever comes behind them.
-use Rattle.std.proofs.Common.{◌≡◌, ℕ, suc, ◌≤◌, Bool, true, false, cond, ◌||◌, List, [], ◌∷◌, ◌++◌, refl, sym, ◌∙◌, ap, arith}
-use Rattle.std.specs.Prelude.{Some, find}
-use Rattle.std.specs.Option.{option_map_or}
-use Rattle.std.specs.List.{list_any}
-use Rattle.std.proofs.lemmas.Bool.{or_left, or_right, eq-eqb, ne_eqb}
-use Rattle.std.proofs.lemmas.List.Folds.{list_any-append}
-use Rattle.iodef_tree.specs.Paths.{LocatedLine, is_one_less_deep, parent_path, placed, located, located_after}
-use Rattle.iodef_tree.specs.declared.line.Line.{Line}
+use Rattle.std.proofs.{Common.{◌≡◌, ℕ, suc, ◌≤◌, Bool, true, false, cond, ◌||◌, List, [], ◌∷◌, ◌++◌, refl, sym, ◌∙◌, ap, arith}, lemmas.Bool.or_left}
+use Rattle.std.{proofs.lemmas.{Bool.{or_right, eq-eqb, ne_eqb}, List.Folds.list_any-append}, specs.{List.list_any, Option.option_map_or, Prelude.{Some, find}}}
+use Rattle.iodef_tree.specs.{Paths.{LocatedLine, is_one_less_deep, parent_path, placed, located, located_after}, declared.line.Line.Line}
 use Rattle.redact.specs.Sifted.{located_onto, located_back}
 
 after-append : (before : List LocatedLine) (xs ys : List Line) → located_after before (xs ++ ys) ≡ located_after before xs ++ located_after (located_onto before xs) ys

@@ -1,22 +1,12 @@
 -- The order of the list of what is withheld.
-use Rattle.std.proofs.Common.{inl, inr, ◌≡◌, Bool, List, [], ◌∷◌, ◌++◌, true, false, ◌||◌, refl, arith, sym, ◌∙◌, ap, rules, if◌then◌else◌, codes, Some, Contains, bytes_eq, IsPermutation, IsSorted}
-use Rattle.std.specs.List.{dedup, list_any}
-use Rattle.std.specs.Cmp.{IsTotalOrder, IsEquivalence}
-use Rattle.std.specs.Cmp.Rules.{comparing}
-use Rattle.std.proofs.lemmas.Bool.{and_parts, or_cases, false≢true}
-use Rattle.std.proofs.lemmas.List.Folds.{list_any-append}
-use Rattle.std.proofs.lemmas.Map.Views.{Contains-from_any, list_any-from_Contains}
-use Rattle.std.proofs.lemmas.List.Sorted.{Contains-permutation, IsPermutation-sym}
-use Rattle.std.proofs.lemmas.List.Kept.{Contains-dedup, Contains-from_dedup, IsStrictlySortedBy-dedup}
-use Rattle.iodef_tree.specs.Text.{Bytes, Tokens}
-use Rattle.iodef_tree.specs.Pointer.{pointer_text, pointer_tokens}
-use Rattle.iodef_tree.proofs.Inverse.{pointer_tokens-pointer_text}
-use Rattle.iodef_tree.proofs.Order.{bytes_eq-true}
-use Rattle.policy.specs.Rule.{name_of}
-use Rattle.policy.specs.declared.rule.Rule.{Rule}
-use Rattle.policy.specs.declared.rule.Rule.TheVariants.{Src, P, O, C, M, A, X, G0, G1, G2, G4, G4X, HGreen, HAmber, HStrict, HRed}
-use Rattle.redact.specs.Withheld.{Withheld, withheld_cmp, same_withheld, is_among, has_rule, with_rule, Lists}
-use Rattle.redact.specs.inner.Ties.{withheld-ties}
+use Rattle.std.proofs.Common.{inl, inr, ◌≡◌, Bool, List, [], ◌∷◌, ◌++◌, true, false, ◌||◌, refl, arith, sym, ◌∙◌, ap, rules, if◌then◌else◌, codes, Some}
+use Rattle.std.proofs.{Common.{Contains, bytes_eq, IsPermutation, IsSorted}, lemmas.{Bool.{and_parts, or_cases, false≢true}, List.Folds.list_any-append}}
+use Rattle.std.proofs.lemmas.List.{Kept.{Contains-dedup, Contains-from_dedup, IsStrictlySortedBy-dedup}, Sorted.{Contains-permutation, IsPermutation-sym}}
+use Rattle.std.{proofs.lemmas.Map.Views.{Contains-from_any, list_any-from_Contains}, specs.{Cmp.{IsTotalOrder, IsEquivalence, Rules.comparing}, List.dedup}}
+use Rattle.{std.specs.List.list_any, iodef_tree.{proofs.{Inverse.pointer_tokens-pointer_text, Order.bytes_eq-true}, specs.Pointer.pointer_text}}
+use Rattle.{iodef_tree.specs.{Pointer.pointer_tokens, Text.{Bytes, Tokens}}, policy.specs.{Rule.name_of, declared.rule.Rule.{Rule, TheVariants.{Src, P, O, C}}}}
+use Rattle.{policy.specs.declared.rule.Rule.TheVariants.{M, A, X, G0, G1, G2, G4, G4X, HGreen, HAmber, HStrict, HRed}, redact.specs.Withheld.Withheld}
+use Rattle.redact.specs.{Withheld.{withheld_cmp, same_withheld, is_among, has_rule, with_rule, Lists}, inner.Ties.withheld-ties}
 
 pub withheld-equiv : IsEquivalence same_withheld
 withheld-equiv = search (comparing, rules)

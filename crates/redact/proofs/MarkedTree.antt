@@ -1,27 +1,16 @@
 -- The state after the lines of a tree, one at a time, says whether its classes keep the marking rule.
-use Rattle.std.proofs.Common.{◌≡◌, ℕ, suc, ◌-◌, Bool, true, false, not, ◌&&◌, ◌||◌, List, [], ◌∷◌, ◌++◌, length, take, drop, append-nil, append_assoc, refl, sym, ◌∙◌, ap, arith, if◌then◌else◌}
-use Rattle.std.specs.Prelude.{Option, Some, None, option_map, is_some, codes}
-use Rattle.std.specs.List.{list_all}
-use Rattle.std.specs.Option.{option_or}
-use Rattle.std.specs.Str.{bytes_eq}
-use Rattle.iodef_tree.specs.Text.{Bytes, Tokens}
-use Rattle.iodef_tree.specs.Tree.{Leaf, Content, text, value, Forest, end, leaf, branch, steps, leaf_line, class_line, lines}
-use Rattle.iodef_tree.specs.Paths.{located}
-use Rattle.iodef_tree.specs.Laws.{IsDocument}
-use Rattle.iodef_tree.specs.declared.line.Line.{Line}
-use Rattle.marking.specs.Label.{public, white, partner, green, need_to_know, amber, private, red, by_arrangement, extended, spelled}
-use Rattle.marking.specs.Marks.{Held, absent, one_text, other, is_rule_kept, first_bad_marking}
-use Rattle.marking.specs.Members.{held_by_leaf, held_in, is_rule_kept_in}
-use Rattle.marking.specs.inner.Pass.{bad_below}
-use Rattle.marking.proofs.Bad.{first_bad, no_class-kind}
-use Rattle.iodef_tree.specs.Outline.{is_outline}
-use Rattle.redact.proofs.Grown.{outline-document}
-use Rattle.redact.specs.Marked.{brief_text, brief, extension_brief, first_restriction, first_extension, no_marking, held_with, are_fine, is_fine, Markings, none_noted, innermost_held_with, with_opened_marking, with_marked_line, with_marked_lines, is_accepted}
-use Rattle.redact.specs.declared.marks.Restriction.{Restriction}
+use Rattle.std.proofs.Common.{◌≡◌, ℕ, suc, ◌-◌, Bool, true, false, not, ◌&&◌, ◌||◌, List, [], ◌∷◌, ◌++◌, length, take, drop, append-nil, append_assoc, refl}
+use Rattle.std.{proofs.Common.{sym, ◌∙◌, ap, arith, if◌then◌else◌}, specs.{List.list_all, Option.option_or, Prelude.{Option, Some, None, option_map, is_some}}}
+use Rattle.{std.specs.{Prelude.codes, Str.bytes_eq}, iodef_tree.specs.{Laws.IsDocument, Outline.is_outline, Paths.located, Text.{Bytes, Tokens}, Tree.Leaf}}
+use Rattle.iodef_tree.specs.{Tree.{Content, text, value, Forest, end, leaf, branch, steps, leaf_line, class_line, lines}, declared.line.Line.Line}
+use Rattle.marking.{proofs.Bad.{first_bad, no_class-kind}, specs.Label.{public, white, partner, green, need_to_know, amber, private, red, by_arrangement}}
+use Rattle.marking.specs.{Label.{extended, spelled}, Marks.{Held, absent, one_text, other, is_rule_kept, first_bad_marking}, Members.{held_by_leaf, held_in}}
+use Rattle.{marking.specs.{Members.is_rule_kept_in, inner.Pass.bad_below}, redact.{proofs.Grown.outline-document, specs.Marked.{brief_text, brief}}}
+use Rattle.redact.specs.Marked.{extension_brief, first_restriction, first_extension, no_marking, held_with, are_fine, is_fine, Markings, none_noted}
+use Rattle.redact.specs.Marked.{innermost_held_with, with_opened_marking, with_marked_line, with_marked_lines, is_accepted}
+use Rattle.redact.specs.declared.marks.{Extension.Extension, Marking.Marking, Restriction.Restriction}
 use Rattle.redact.specs.declared.marks.Restriction.TheVariants as restriction
-use Rattle.redact.specs.declared.marks.Extension.{Extension}
 use Rattle.redact.specs.declared.marks.Extension.TheVariants as extension
-use Rattle.redact.specs.declared.marks.Marking.{Marking}
 
 -- ---- what one class holds
 

@@ -1,33 +1,20 @@
 -- A reader is served the same of the lines that matter as of all lines. No class at which a gate refuses is visible,
 -- nor is one below it, and its own line gives all that is listed of it. These are the steps that exchange a wholly
 -- hidden class, at all such classes at once.
-use Rattle.std.proofs.Common.{◌≡◌, Bool, true, false, not, List, [], ◌∷◌, refl, sym, ◌∙◌, ap, map, if◌then◌else◌, ◌&&◌, ◌||◌}
-use Rattle.std.specs.Prelude.{filter, Option, Some, None, is_some, unwrap_or, count_by}
-use Rattle.std.specs.List.{list_any, flat_map, zip}
-use Rattle.std.proofs.lemmas.Bool.{false≢true, true≢false, not-false, not-true, false_from_ne_true, and_left, and_right, and_parts, and_from, or_from, cond-true, cond-false}
-use Rattle.iodef_tree.specs.Text.{Tokens, is_root, same_path, is_prefix, is_under, prefixes}
-use Rattle.iodef_tree.specs.Paths.{LocatedLine, is_class, class_paths, classes_of, located, has_class, below}
-use Rattle.iodef_tree.specs.declared.line.Line.{Line}
-use Rattle.iodef_tree.proofs.Order.{same_path-true}
-use Rattle.iodef_tree.proofs.Blocks.{below-parents}
-use Rattle.marking.specs.Marks.{label_at, written_label}
-use Rattle.policy.specs.Verdict.{refusal_at, handling_for, hidden_by, is_visible, hiding_rule}
-use Rattle.policy.specs.declared.standing.Standing.{Standing}
-use Rattle.policy.specs.declared.case.Case.{Case}
-use Rattle.policy.specs.declared.rule.Rule.{Rule}
-use Rattle.redact.specs.Kept.{Verdicts, is_frame, is_wholly_hidden, is_kept, kept_lines}
-use Rattle.redact.specs.Withheld.{told_at_place, withheld_at, withheld_pairs, withheld_in_order}
-use Rattle.redact.specs.inner.Paired.{class_places, place_by}
-use Rattle.redact.proofs.Paired.{pairs-paired}
-use Rattle.redact.specs.Told.{Told, some_seen, verdicts_of, excerpt_of}
-use Rattle.redact.specs.Alike.{class_path, by_class}
-use Rattle.redact.specs.Matters.{is_refused, matters, lines_that_matter}
-use Rattle.redact.proofs.Filtered.{each, each-from, any-none, any-both, filter-passing, filter-within}
-use Rattle.redact.proofs.SameLines.{same_flat, flat-kept, flat-agree}
-use Rattle.redact.proofs.AgreedVerdicts.{Agree, Worlds, seen, outline-same, count-same, listed-same, kept-same, frame-same, spots, paths-spots, spots-class}
-use Rattle.redact.proofs.DecidedAlike.{Decides, verdicts-agree, written-same, classes-same, under-prefix, prefixes-are}
-use Rattle.redact.proofs.Refused.{said, refused-prefix, passed-above, refused-unseen}
-use Rattle.redact.proofs.SameLocated.{located-kept}
+use Rattle.std.proofs.{Common.{◌≡◌, Bool, true, false, not, List, [], ◌∷◌, refl, sym, ◌∙◌, ap, map, if◌then◌else◌, ◌&&◌, ◌||◌}, lemmas.Bool.false≢true}
+use Rattle.std.proofs.lemmas.Bool.{true≢false, not-false, not-true, false_from_ne_true, and_left, and_right, and_parts, and_from, or_from, cond-true}
+use Rattle.std.{proofs.lemmas.Bool.cond-false, specs.{List.{list_any, flat_map, zip}, Prelude.{filter, Option, Some, None, is_some, unwrap_or, count_by}}}
+use Rattle.iodef_tree.{proofs.{Blocks.below-parents, Order.same_path-true}, specs.Paths.{LocatedLine, is_class, class_paths, classes_of, located, has_class}}
+use Rattle.iodef_tree.specs.{Paths.below, Text.{Tokens, is_root, same_path, is_prefix, is_under, prefixes}, declared.line.Line.Line}
+use Rattle.{marking.specs.Marks.{label_at, written_label}, policy.specs.Verdict.{refusal_at, handling_for, hidden_by, is_visible, hiding_rule}}
+use Rattle.{policy.specs.declared.{case.Case.Case, rule.Rule.Rule, standing.Standing.Standing}, redact.proofs.AgreedVerdicts.{Agree, Worlds, seen}}
+use Rattle.redact.proofs.{AgreedVerdicts.{outline-same, count-same, listed-same, kept-same, frame-same, spots, paths-spots, spots-class}, DecidedAlike.Decides}
+use Rattle.redact.proofs.{DecidedAlike.{verdicts-agree, written-same, classes-same, under-prefix, prefixes-are}, Filtered.{each, each-from, any-none, any-both}}
+use Rattle.redact.proofs.{Filtered.{filter-passing, filter-within}, Paired.pairs-paired, Refused.{said, refused-prefix, passed-above, refused-unseen}}
+use Rattle.redact.{proofs.{SameLines.{same_flat, flat-kept, flat-agree}, SameLocated.located-kept}, specs.{Alike.{class_path, by_class}, Kept.Verdicts}}
+use Rattle.redact.specs.{Kept.{is_frame, is_wholly_hidden, is_kept, kept_lines}, Matters.{is_refused, matters, lines_that_matter}, Told.{Told, some_seen}}
+use Rattle.redact.specs.{Told.{verdicts_of, excerpt_of}, Withheld.{told_at_place, withheld_at, withheld_pairs, withheld_in_order}, inner.Paired.class_places}
+use Rattle.redact.specs.inner.Paired.{place_by}
 
 some-or : (o : Option Rule) (x y : Rule) → is_some o ≡ true → unwrap_or o x ≡ unwrap_or o y
 some-or None x y h = absurd (false≢true h)

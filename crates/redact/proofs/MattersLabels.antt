@@ -1,26 +1,12 @@
 -- The label of each visible class survives in the excerpt of the lines that matter.
 use Rattle.std.proofs.Common.{◌≡◌, Bool, true, false, not, List, [], ◌∷◌, refl, sym, ◌∙◌, ap, subst, if◌then◌else◌, ◌&&◌, ◌⊎◌, inl, inr}
-use Rattle.std.specs.Prelude.{filter, option_map, Some, Contains}
-use Rattle.std.specs.List.{AllByRecursion}
-use Rattle.std.proofs.lemmas.Bool.{false≢true, and_parts, and_from, false_from_ne_true}
-use Rattle.iodef_tree.specs.Text.{is_under}
-use Rattle.iodef_tree.specs.Paths.{LocatedLine, is_class, located}
-use Rattle.iodef_tree.specs.declared.line.Line.{Line}
-use Rattle.iodef_tree.proofs.Blocks.{below-parents}
-use Rattle.marking.specs.Marks.{label_at}
-use Rattle.policy.specs.Verdict.{is_visible}
-use Rattle.policy.specs.declared.standing.Standing.{Standing}
-use Rattle.policy.specs.declared.case.Case.{Case}
-use Rattle.redact.specs.Withheld.{place_of}
-use Rattle.redact.specs.inner.Paired.{place_by}
-use Rattle.redact.specs.Told.{verdicts_of, is_seen_class, excerpt_place}
-use Rattle.redact.specs.Excerpts.{LabelsSurvive}
-use Rattle.redact.specs.Matters.{is_refused, matters, lines_that_matter}
-use Rattle.redact.proofs.InOrder.{In, in_contained, contains_in}
-use Rattle.redact.proofs.DecidedAlike.{label-same, under-prefix}
-use Rattle.redact.proofs.Refused.{passed-above, refused-unseen}
-use Rattle.redact.proofs.Paired.{places-paired}
-use Rattle.redact.proofs.Matters.{es', agree, decides, off, places-same, same_located}
+use Rattle.std.{proofs.lemmas.Bool.{false≢true, and_parts, and_from, false_from_ne_true}, specs.{List.AllByRecursion, Prelude.{filter, option_map, Some}}}
+use Rattle.{std.specs.Prelude.Contains, iodef_tree.{proofs.Blocks.below-parents, specs.{Paths.{LocatedLine, is_class, located}, Text.is_under}}}
+use Rattle.{iodef_tree.specs.declared.line.Line.Line, marking.specs.Marks.label_at, policy.specs.{Verdict.is_visible, declared.case.Case.Case}}
+use Rattle.{policy.specs.declared.standing.Standing.Standing, redact.proofs.{DecidedAlike.{label-same, under-prefix}, InOrder.{In, in_contained, contains_in}}}
+use Rattle.redact.proofs.{Matters.{es', agree, decides, off, places-same, same_located}, Paired.places-paired, Refused.{passed-above, refused-unseen}}
+use Rattle.redact.specs.{Excerpts.LabelsSurvive, Matters.{is_refused, matters, lines_that_matter}, Told.{verdicts_of, is_seen_class, excerpt_place}}
+use Rattle.redact.specs.{Withheld.place_of, inner.Paired.place_by}
 
 in-filter : {X : Type 0} (f : X → Bool) (xs : List X) (x : X) → f x ≡ true → In xs x → In (filter f xs) x
 in-filter f [] x k h = h

@@ -1,20 +1,10 @@
 -- If all lines are well marked, so are those that matter.
-use Rattle.std.proofs.Common.{◌≡◌, Bool, true, false, cond, not, List, [], ◌∷◌, refl, sym, ◌∙◌, ap, map, if◌then◌else◌}
-use Rattle.std.specs.Prelude.{filter, find, Some, None, codes}
-use Rattle.std.specs.List.{AllByRecursion}
-use Rattle.std.specs.Option.{option_map_or}
-use Rattle.std.proofs.lemmas.Bool.{true≢false, not-false, false_from_ne_true, and_left}
-use Rattle.iodef_tree.specs.Text.{Bytes, Tokens, same_path}
-use Rattle.iodef_tree.specs.Paths.{LocatedLine, is_class, class_paths, located}
-use Rattle.iodef_tree.specs.declared.line.Line.{Line}
-use Rattle.iodef_tree.proofs.Order.{same_path-true}
-use Rattle.marking.specs.Marks.{absent, held_by_line, is_member, held_at, is_rule_kept, is_well_marked, restriction_at, ext_restriction_at, first_bad_marking}
-use Rattle.policy.specs.declared.standing.Standing.{Standing}
-use Rattle.policy.specs.declared.case.Case.{Case}
-use Rattle.redact.specs.Matters.{is_refused, matters, lines_that_matter}
-use Rattle.redact.proofs.Filtered.{each}
-use Rattle.redact.proofs.DecidedAlike.{held-same}
-use Rattle.redact.proofs.Matters.{all_same, same_located}
+use Rattle.std.proofs.{Common.{◌≡◌, Bool, true, false, cond, not, List, [], ◌∷◌, refl, sym, ◌∙◌, ap, map, if◌then◌else◌}, lemmas.Bool.{true≢false, not-false}}
+use Rattle.std.{proofs.lemmas.Bool.{false_from_ne_true, and_left}, specs.{List.AllByRecursion, Option.option_map_or, Prelude.{filter, find, Some, None, codes}}}
+use Rattle.iodef_tree.{proofs.Order.same_path-true, specs.{Paths.{LocatedLine, is_class, class_paths, located}, Text.{Bytes, Tokens, same_path}}}
+use Rattle.{iodef_tree.specs.declared.line.Line.Line, marking.specs.Marks.{absent, held_by_line, is_member, held_at, is_rule_kept, is_well_marked}}
+use Rattle.{marking.specs.Marks.{restriction_at, ext_restriction_at, first_bad_marking}, policy.specs.declared.{case.Case.Case, standing.Standing.Standing}}
+use Rattle.redact.{proofs.{DecidedAlike.held-same, Filtered.each, Matters.{all_same, same_located}}, specs.Matters.{is_refused, matters, lines_that_matter}}
 
 -- a class whose lines are taken out holds nothing
 none-held : (f : LocatedLine → Bool) (es : List LocatedLine) (p : Tokens) (name : Bytes) → ((e : LocatedLine) → same_path e.parent p ≡ true → f e ≡ false) → held_at (filter f es) p name ≡ absent

@@ -1,10 +1,7 @@
 -- A text contains a needle exactly if a search of it finds one.
-use Rattle.std.proofs.Common.{◌≡◌, ℕ, zero, suc, ◌+◌, ◌<◌, true, false, ◌==◌, [], ◌∷◌, length, refl, sym, ◌∙◌, ap, arith, suc-add, Option, Some, None, is_some, slice_index, eqb-true, eq-eqb, true≢false}
-use Rattle.std.proofs.lemmas.Bool.{and_parts, and_from, or_left, or_right, or_from}
-use Rattle.memchr.specs.Find.{OccursAt, FindsNeedle}
-use Rattle.iodef_tree.specs.Text.{Bytes}
-use Rattle.iodef_tree.proofs.Order.{is_false}
-use Rattle.redact.specs.Told.{begins_with, has_needle}
+use Rattle.std.proofs.Common.{◌≡◌, ℕ, zero, suc, ◌+◌, ◌<◌, true, false, ◌==◌, [], ◌∷◌, length, refl, sym, ◌∙◌, ap, arith, suc-add, Option, Some, None, is_some}
+use Rattle.std.proofs.{Common.{slice_index, eqb-true, eq-eqb, true≢false}, lemmas.Bool.{and_parts, and_from, or_left, or_right, or_from}}
+use Rattle.{memchr.specs.Find.{OccursAt, FindsNeedle}, iodef_tree.{proofs.Order.is_false, specs.Text.Bytes}, redact.specs.Told.{begins_with, has_needle}}
 
 -- ---- at the front
 

@@ -1,19 +1,12 @@
 -- What is kept of a document is in order: names ascend, and the elements of an array are numbered.
-use Rattle.std.proofs.Common.{◌≡◌, ℕ, zero, suc, Bool, true, false, not, List, [], ◌∷◌, ◌++◌, refl, sym, ◌∙◌, ap, subst, ◌&&◌, ◌==◌, Ordering, Less, Equal, Greater, is_eq, is_lt, nat_cmp, Option, Some, None, bytes_eq, true≢false, eq-eqb}
-use Rattle.std.specs.List.{AllByRecursion}
-use Rattle.std.specs.Ordering.{ordering_reverse}
-use Rattle.std.specs.Cmp.Lexicographic.{slice_cmp}
-use Rattle.std.proofs.lemmas.Bool.{false≢true, and_parts, cond_both}
-use Rattle.std.proofs.lemmas.Cmp.{nat_list_cmp_total}
-use Rattle.std.proofs.lemmas.Map.Text.{is_eq-slice_cmp}
-use Rattle.iodef_tree.specs.Text.{Bytes, Tokens, bytes_lt}
-use Rattle.iodef_tree.specs.Tree.{Leaf, Forest, end, leaf, branch, steps}
-use Rattle.iodef_tree.specs.Sound.{SiblingPlace, may_stand, IsOrderedBehind, IsOrdered}
-use Rattle.iodef_tree.specs.Laws.{AllSiblings}
-use Rattle.iodef_tree.proofs.Order.{bytes_eq-true, bytes_lt-less, bytes_lt-trans}
-use Rattle.redact.specs.Kept.{Attribute, Verdicts}
-use Rattle.redact.specs.inner.Judged.{judge, judgment_at, Surrounding, inside, keeps_plain, shows_label, left_before, new_place, left_with, is_end, put_leaf, attribute_leaf, put_attributes, with_label, cut}
-use Rattle.redact.proofs.Fates.{new_place-before, by_fate, put-keeps}
+use Rattle.std.proofs.Common.{◌≡◌, ℕ, zero, suc, Bool, true, false, not, List, [], ◌∷◌, ◌++◌, refl, sym, ◌∙◌, ap, subst, ◌&&◌, ◌==◌, Ordering, Less, Equal}
+use Rattle.std.proofs.{Common.{Greater, is_eq, is_lt, nat_cmp, Option, Some, None, bytes_eq, true≢false, eq-eqb}, lemmas.Bool.{false≢true, and_parts}}
+use Rattle.std.{proofs.lemmas.{Bool.cond_both, Cmp.nat_list_cmp_total, Map.Text.is_eq-slice_cmp}, specs.{Cmp.Lexicographic.slice_cmp, List.AllByRecursion}}
+use Rattle.{std.specs.Ordering.ordering_reverse, iodef_tree.{proofs.Order.{bytes_eq-true, bytes_lt-less, bytes_lt-trans}, specs.Laws.AllSiblings}}
+use Rattle.iodef_tree.specs.{Sound.{SiblingPlace, may_stand, IsOrderedBehind, IsOrdered}, Text.{Bytes, Tokens, bytes_lt}, Tree.{Leaf, Forest, end, leaf}}
+use Rattle.{iodef_tree.specs.Tree.{branch, steps}, redact.{proofs.Fates.{new_place-before, by_fate, put-keeps}, specs.Kept.{Attribute, Verdicts}}}
+use Rattle.redact.specs.inner.Judged.{judge, judgment_at, Surrounding, inside, keeps_plain, shows_label, left_before, new_place, left_with, is_end, put_leaf}
+use Rattle.redact.specs.inner.Judged.{attribute_leaf, put_attributes, with_label, cut}
 
 -- ---- the order of names
 

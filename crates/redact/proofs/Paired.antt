@@ -1,14 +1,9 @@
 -- The place of a kept class by its number is its place by pairs.
-use Rattle.std.proofs.Common.{◌≡◌, ◌+◌, ◌<◌, ℕ, suc, Bool, true, false, List, [], ◌∷◌, length, cond, if◌then◌else◌, refl, sym, ◌∙◌, ap, arith, Option, Some, None, zip, flat_map}
-use Rattle.std.proofs.lemmas.Bool.{lt-ltb}
-use Rattle.std.proofs.lemmas.List.Concat.{flat_map-cons}
-use Rattle.std.specs.Prelude.{◌++◌, ◌&&◌, not, nat_lt, option_and_then, position, slice_get}
-use Rattle.std.specs.List.{position_or_len}
-use Rattle.iodef_tree.specs.Text.{Tokens, same_path, is_root}
-use Rattle.iodef_tree.specs.Paths.{LocatedLine, classes_of, is_class}
-use Rattle.redact.specs.Kept.{Verdicts, is_frame, is_wholly_hidden, kept_lines}
-use Rattle.redact.specs.Withheld.{kept_classes, place_of, told_at_place, withheld_at, withheld_pairs}
-use Rattle.redact.specs.inner.Paired.{beside, class_places, place_by, pairs_by}
+use Rattle.std.proofs.Common.{◌≡◌, ◌+◌, ◌<◌, ℕ, suc, Bool, true, false, List, [], ◌∷◌, length, cond, if◌then◌else◌, refl, sym, ◌∙◌, ap, arith, Option, Some}
+use Rattle.std.{proofs.{Common.{None, zip, flat_map}, lemmas.{Bool.lt-ltb, List.Concat.flat_map-cons}}, specs.{List.position_or_len, Prelude.{◌++◌, ◌&&◌, not}}}
+use Rattle.{std.specs.Prelude.{nat_lt, option_and_then, position, slice_get}, iodef_tree.specs.{Paths.{LocatedLine, classes_of, is_class}, Text.Tokens}}
+use Rattle.{iodef_tree.specs.Text.{same_path, is_root}, redact.specs.{Kept.{Verdicts, is_frame, is_wholly_hidden, kept_lines}, Withheld.kept_classes}}
+use Rattle.redact.specs.{Withheld.{place_of, told_at_place, withheld_at, withheld_pairs}, inner.Paired.{beside, class_places, place_by, pairs_by}}
 
 module _ (p : Tokens) where
   abbrev is_at : Tokens → Bool

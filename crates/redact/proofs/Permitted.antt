@@ -1,28 +1,13 @@
 -- A permission that holds for a reader shows the class where it is, if no gate there or above refuses the reader.
 use Rattle.std.proofs.Common.{◌≡◌, Bool, true, false, not, ◌&&◌, ◌||◌, ◌⊎◌, inl, inr, List, [], ◌∷◌, ◌++◌, refl, sym, ◌∙◌, ap, subst, arith}
-use Rattle.std.specs.Prelude.{Option, Some, None, is_some, is_none}
-use Rattle.std.specs.List.{list_any}
-use Rattle.std.proofs.lemmas.Bool.{true≢false, false≢true, and_parts, and_from, or_left, or_right, not-true}
-use Rattle.iodef_tree.specs.Text.{Bytes, Tokens, same_path}
-use Rattle.iodef_tree.specs.Paths.{LocatedLine, is_class_kind, placed, located}
-use Rattle.iodef_tree.specs.Outline.{back, may_come}
-use Rattle.iodef_tree.specs.declared.line.Line.{Line}
-use Rattle.iodef_tree.proofs.Order.{same_path-true}
-use Rattle.marking.specs.Marks.{written_label, label_at}
-use Rattle.policy.specs.Laws.{refuses_on}
-use Rattle.policy.specs.Permissions.{holds_for, covers}
-use Rattle.policy.specs.Verdict.{refusal_at, is_cleared_for, is_covered, is_visible}
-use Rattle.policy.specs.declared.permission.Permission.{Permission}
-use Rattle.policy.specs.declared.standing.Standing.{Standing}
-use Rattle.policy.specs.declared.case.Case.{Case}
-use Rattle.policy.proofs.Steps.{covers-push, covers-root}
-use Rattle.redact.specs.Sifted.{way, went_on, located_back, Tracks}
+use Rattle.std.{proofs.lemmas.Bool.{true≢false, false≢true, and_parts, and_from, or_left, or_right, not-true}, specs.{List.list_any, Prelude.{Option, Some}}}
+use Rattle.{std.specs.Prelude.{None, is_some, is_none}, iodef_tree.{proofs.Order.same_path-true, specs.{Outline.{back, may_come}, Paths.LocatedLine}}}
+use Rattle.iodef_tree.specs.{Paths.{is_class_kind, placed, located}, Text.{Bytes, Tokens, same_path}, declared.line.Line.Line}
+use Rattle.{marking.specs.Marks.{written_label, label_at}, policy.{proofs.Steps.{covers-push, covers-root}, specs.{Laws.refuses_on, Permissions.holds_for}}}
+use Rattle.policy.specs.{Permissions.covers, Verdict.{refusal_at, is_cleared_for, is_covered, is_visible}, declared.case.Case.Case}
+use Rattle.{policy.specs.declared.{permission.Permission.Permission, standing.Standing.Standing}, redact.proofs.{Sifting.back-lines, Stopped.refused-any}}
+use Rattle.redact.{proofs.Tracking.path-is, specs.{Sifted.{way, went_on, located_back, Tracks}, declared.{steps.Step.Step, want.Want.Want}}}
 use Rattle.redact.specs.inner.Seeking.{permits, is_permitted, IsSeen}
-use Rattle.redact.specs.declared.want.Want.{Want}
-use Rattle.redact.specs.declared.steps.Step.{Step}
-use Rattle.redact.proofs.Stopped.{refused-any}
-use Rattle.redact.proofs.Sifting.{back-lines}
-use Rattle.redact.proofs.Tracking.{path-is}
 
 -- the last token of a path
 last : (p : Tokens) → (p ≡ []) ⊎ ((q : Tokens) × (x : Bytes) × (p ≡ q ++ x ∷ []))

@@ -1,26 +1,14 @@
 -- The places of the kept classes of a document in its excerpt.
-use Rattle.std.proofs.Common.{◌≡◌, ℕ, suc, Bool, true, false, not, List, [], ◌∷◌, ◌++◌, refl, sym, ◌∙◌, ap, subst, map, filter, if◌then◌else◌, ◌&&◌, ◌||◌, Some, zip, append-nil}
-use Rattle.std.specs.List.{AllByRecursion, IsDistinct}
-use Rattle.std.proofs.lemmas.Bool.{false≢true, cond-true, cond-false, cond_both}
-use Rattle.std.proofs.lemmas.List.{map-append}
-use Rattle.std.proofs.lemmas.List.Elements.{filter-append}
-use Rattle.iodef_tree.specs.Text.{Tokens, same_path, is_root}
-use Rattle.iodef_tree.specs.Paths.{LocatedLine, is_class, class_paths}
-use Rattle.iodef_tree.specs.Tree.{Leaf, Forest, end, leaf, branch, steps, lines}
-use Rattle.iodef_tree.specs.Sound.{IsSound}
-use Rattle.iodef_tree.specs.Walk.{classes_below, walk, leaf_entry, class_entry}
-use Rattle.iodef_tree.proofs.ClassesBelow.{classes-lines}
-use Rattle.iodef_tree.proofs.Order.{same_path-refl}
-use Rattle.iodef_tree.proofs.Siblings.{all-append}
-use Rattle.iodef_tree.proofs.Located.{located-lines}
-use Rattle.iodef_tree.proofs.Distinct.{paths-distinct, distinct-filter}
-use Rattle.redact.specs.Kept.{Attribute, Verdicts, is_kept, kept_lines}
-use Rattle.redact.specs.inner.Paired.{beside, class_places, place_by}
-use Rattle.redact.specs.inner.Judged.{Judged, none, plain, class, judge, Surrounding, root, inside, keeps_plain, shows_label, home_at, left_before, new_place, left_with, moved, is_end, put_leaf, attribute_leaf, put_attributes, with_label, cut, places}
-use Rattle.marking.proofs.Bad.{no_class-kind, class_paths-leaf, class_paths-append}
-use Rattle.marking.proofs.Marked.{not_root}
-use Rattle.redact.proofs.Fates.{by_fate, by_fates, by_verdict, put-keeps}
-use Rattle.redact.proofs.Keeping.{home-class, SaysBelow, ends, kept-cut}
+use Rattle.std.proofs.Common.{◌≡◌, ℕ, suc, Bool, true, false, not, List, [], ◌∷◌, ◌++◌, refl, sym, ◌∙◌, ap, subst, map, filter, if◌then◌else◌, ◌&&◌, ◌||◌, Some}
+use Rattle.std.proofs.{Common.{zip, append-nil}, lemmas.{Bool.{false≢true, cond-true, cond-false, cond_both}, List.{map-append, Elements.filter-append}}}
+use Rattle.{std.specs.List.{AllByRecursion, IsDistinct}, iodef_tree.proofs.{ClassesBelow.classes-lines, Distinct.{paths-distinct, distinct-filter}}}
+use Rattle.iodef_tree.{proofs.{Located.located-lines, Order.same_path-refl, Siblings.all-append}, specs.Paths.{LocatedLine, is_class, class_paths}}
+use Rattle.iodef_tree.specs.{Sound.IsSound, Text.{Tokens, same_path, is_root}, Tree.{Leaf, Forest, end, leaf, branch, steps, lines}, Walk.{classes_below, walk}}
+use Rattle.{iodef_tree.specs.Walk.{leaf_entry, class_entry}, marking.proofs.{Bad.{no_class-kind, class_paths-leaf, class_paths-append}, Marked.not_root}}
+use Rattle.redact.{proofs.{Fates.{by_fate, by_fates, by_verdict, put-keeps}, Keeping.{home-class, SaysBelow, ends, kept-cut}}, specs.Kept.{Attribute, Verdicts}}
+use Rattle.redact.specs.{Kept.{is_kept, kept_lines}, inner.Judged.{Judged, none, plain, class, judge, Surrounding, root, inside, keeps_plain, shows_label}}
+use Rattle.redact.specs.inner.Judged.{home_at, left_before, new_place, left_with, moved, is_end, put_leaf, attribute_leaf, put_attributes, with_label, cut}
+use Rattle.redact.specs.inner.{Judged.places, Paired.{beside, class_places, place_by}}
 
 abbrev here : Tokens × Tokens → Tokens
 here x = x.0

@@ -1,16 +1,9 @@
 -- The order of printed places by the weights of their bytes.
-use Rattle.std.proofs.Common.{◌≡◌, ◌≢◌, ◌⊎◌, inl, inr, ℕ, suc, ◌<◌, ◌≤◌, ◌+◌, List, [], ◌∷◌, ◌++◌, append_assoc, Bool, true, false, not, if◌then◌else◌, refl, sym, ◌∙◌, ap, arith, length, drop, get_or, drop-cons, bytes_eq, nat_cmp, ◌==◌, Ordering, Less, Equal, Greater, Option}
-use Rattle.std.specs.Cmp.Lexicographic.{slice_cmp}
-use Rattle.std.specs.Ordering.{ordering_then}
-use Rattle.std.specs.Option.{option_cmp}
-use Rattle.std.proofs.Math.ListN.{drop_of_length-le}
-use Rattle.std.proofs.lemmas.Bool.{ne_eqb, cond-false}
-use Rattle.iodef_tree.specs.Text.{Bytes, Tokens, is_root}
-use Rattle.iodef_tree.specs.Pointer.{escaped_byte, escaped, pointer_text}
-use Rattle.iodef_tree.proofs.Order.{bytes_eq-true}
-use Rattle.redact.specs.declared.trail.Token.{Token}
-use Rattle.redact.specs.inner.Tokens.{token_of, path_of}
-use Rattle.redact.specs.inner.Weights.{weight, weights, first_weight}
+use Rattle.std.proofs.Common.{◌≡◌, ◌≢◌, ◌⊎◌, inl, inr, ℕ, suc, ◌<◌, ◌≤◌, List, [], ◌∷◌, ◌++◌, append_assoc, Bool, true, false, not, refl, sym, ◌∙◌, ap, arith}
+use Rattle.std.proofs.{Common.{length, drop, get_or, drop-cons, bytes_eq, nat_cmp, ◌==◌, Ordering, Less, Equal, Greater}, Math.ListN.drop_of_length-le}
+use Rattle.std.{proofs.lemmas.Bool.{ne_eqb, cond-false}, specs.{Cmp.Lexicographic.slice_cmp, Option.option_cmp, Ordering.ordering_then}}
+use Rattle.iodef_tree.{proofs.Order.bytes_eq-true, specs.{Pointer.{escaped_byte, escaped, pointer_text}, Text.{Bytes, Tokens, is_root}}}
+use Rattle.redact.specs.{declared.trail.Token.Token, inner.{Tokens.{token_of, path_of}, Weights.{weight, weights, first_weight}}}
 
 then-alike : (o r s : Ordering) → (o ≡ Equal → r ≡ s) → ordering_then o r ≡ ordering_then o s
 then-alike Less r s h = refl

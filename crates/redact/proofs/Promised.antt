@@ -1,28 +1,16 @@
 -- The laws of excerpts and searches.
-use Rattle.std.proofs.Common.{◌≡◌, ◌==◌, ◌<◌, ℕ, suc, Bool, true, false, not, ◌&&◌, ◌||◌, List, [], ◌∷◌, length, map, cond, if◌then◌else◌, refl, sym, ◌∙◌, ap, arith, Option, filter, count_by, inl, inr, subst, Some, None, is_some, Contains, IsSomeAnd, flat_map}
-use Rattle.std.specs.List.{list_any, zip}
-use Rattle.std.proofs.lemmas.Bool.{and_parts, cond_both, cond-true, cond-false, false≢true, ne_eqb}
-use Rattle.std.proofs.lemmas.List.{length-map}
-use Rattle.std.proofs.lemmas.List.Folds.{list_any_at}
-use Rattle.iodef_tree.specs.Text.{Bytes, Tokens, same_path, is_root, is_under}
-use Rattle.iodef_tree.specs.Paths.{LocatedLine, is_class, is_class_kind, placed, located_after, located, below, class_paths, classes_of}
-use Rattle.iodef_tree.proofs.Order.{same_path-refl}
-use Rattle.iodef_tree.specs.declared.line.Line.{Line}
-use Rattle.policy.specs.declared.standing.Standing.{Standing}
-use Rattle.policy.specs.declared.case.Case.{Case}
-use Rattle.redact.proofs.Counts.{count_by-cons}
-use Rattle.redact.specs.Kept.{Attribute, Verdicts, stands_before, put, put_all, attribute_line, attribute_lines, is_kept, says_label, added_label_lines, with_added_labels, kept_lines, is_frame}
-use Rattle.redact.specs.Told.{Told, is_seen_class, is_named, holds_needle, kept_outline, visible_count, is_listed, told_of, excerpt_of, finds, verdicts_of, excerpt_place, withheld_of, some_seen}
-use Rattle.std.proofs.lemmas.List.Concat.{flat_map-cons}
-use Rattle.std.proofs.lemmas.List.Elements.{Contains-append_left, Contains-append_right, Contains-append_cases, Contains-push_cases}
-use Rattle.policy.specs.declared.rule.Rule.{Rule}
-use Rattle.policy.specs.declared.verdict.Verdict.TheVariants.{Shown, Hidden}
-use Rattle.policy.specs.Verdict.{is_visible}
-use Rattle.redact.specs.Withheld.{Withheld, withheld_at, withheld_pairs, place_of}
+use Rattle.std.proofs.Common.{◌≡◌, ◌==◌, ◌<◌, ℕ, suc, Bool, true, false, not, ◌&&◌, ◌||◌, List, [], ◌∷◌, length, map, cond, if◌then◌else◌, refl, sym, ◌∙◌, ap}
+use Rattle.std.proofs.{Common.{arith, Option, filter, count_by, inl, inr, subst, Some, None, is_some, Contains, IsSomeAnd, flat_map}, lemmas.Bool.and_parts}
+use Rattle.std.proofs.lemmas.{Bool.{cond_both, cond-true, cond-false, false≢true, ne_eqb}, List.{length-map, Concat.flat_map-cons}}
+use Rattle.std.proofs.lemmas.List.{Elements.{Contains-append_left, Contains-append_right, Contains-append_cases, Contains-push_cases}, Folds.list_any_at}
+use Rattle.{std.specs.List.{list_any, zip}, iodef_tree.{proofs.Order.same_path-refl, specs.Paths.{LocatedLine, is_class, is_class_kind, placed, located_after}}}
+use Rattle.iodef_tree.specs.{Paths.{located, below, class_paths, classes_of}, Text.{Bytes, Tokens, same_path, is_root, is_under}, declared.line.Line.Line}
+use Rattle.policy.specs.{Verdict.is_visible, declared.{case.Case.Case, rule.Rule.Rule, standing.Standing.Standing, verdict.Verdict.TheVariants.{Shown, Hidden}}}
+use Rattle.redact.{proofs.{Counts.count_by-cons, InOrder.order-lists, Paired.places-paired}, specs.Kept.{Attribute, Verdicts, stands_before, put, put_all}}
+use Rattle.redact.specs.{Kept.{attribute_line, attribute_lines, is_kept, says_label, added_label_lines, with_added_labels, kept_lines, is_frame}, Laws.is_shown}
+use Rattle.redact.specs.{Laws.VerdictIsServed, Told.{Told, is_seen_class, is_named, holds_needle, kept_outline, visible_count, is_listed, told_of, excerpt_of}}
+use Rattle.redact.specs.{Told.{finds, verdicts_of, excerpt_place, withheld_of, some_seen}, Withheld.{Withheld, withheld_at, withheld_pairs, place_of}}
 use Rattle.redact.specs.inner.Paired.{beside, class_places}
-use Rattle.redact.proofs.Paired.{places-paired}
-use Rattle.redact.proofs.InOrder.{order-lists}
-use Rattle.redact.specs.Laws.{is_shown, VerdictIsServed}
 
 -- ---- listed, served, found
 

@@ -1,20 +1,13 @@
 -- The lines below some paths are dropped. The kept lines of an outline are an outline. The depth of the newest of them
 -- says of the next line whether it is below such a path.
-use Rattle.std.proofs.Common.{◌≡◌, ℕ, suc, ◌<◌, ◌≤◌, Bool, true, false, cond, not, ◌&&◌, ◌⊎◌, inl, inr, List, [], ◌∷◌, refl, sym, ◌∙◌, ap, subst, arith, if◌then◌else◌}
-use Rattle.std.specs.Prelude.{filter, find, nat_lt, nat_le, Option, Some, None}
-use Rattle.std.specs.Option.{option_map_or}
-use Rattle.std.proofs.lemmas.Bool.{false≢true, and_from, lt-ltb, le-ltb, ltb-true, ltb-false, le-leb, leb-true, leb-false, eq-eqb, ne_eqb, cases_lt}
-use Rattle.iodef_tree.specs.Text.{Tokens, is_prefix}
-use Rattle.iodef_tree.specs.Tree.{steps, place_of}
-use Rattle.iodef_tree.specs.Paths.{LocatedLine, is_class_kind, is_one_less_deep, parent_path, place_among, placed}
-use Rattle.iodef_tree.specs.Sound.{counted}
-use Rattle.iodef_tree.specs.Outline.{sibling, deepest, last_sibling, may_follow, is_short, may_come, is_outline_back}
-use Rattle.iodef_tree.specs.Shown.{counted_with}
-use Rattle.iodef_tree.specs.declared.TheConstants.{LINE_LIMIT}
-use Rattle.iodef_tree.specs.declared.line.Line.{Line}
-use Rattle.iodef_tree.proofs.Order.{is_prefix-append}
-use Rattle.iodef_tree.proofs.Outlines.{Came, came, above-line, at-line, past-line, counted-cons}
-use Rattle.redact.specs.Sifted.{is_beyond, shut_by, lines_of, DeepAs, stays, is_shutting, Reach}
+use Rattle.std.proofs.Common.{◌≡◌, ℕ, suc, ◌<◌, ◌≤◌, Bool, true, false, cond, not, ◌&&◌, ◌⊎◌, inl, inr, List, [], ◌∷◌, refl, sym, ◌∙◌, ap, subst, arith}
+use Rattle.std.proofs.{Common.if◌then◌else◌, lemmas.Bool.{false≢true, and_from, lt-ltb, le-ltb, ltb-true, ltb-false, le-leb, leb-true, leb-false, eq-eqb}}
+use Rattle.std.{proofs.lemmas.Bool.{ne_eqb, cases_lt}, specs.{Option.option_map_or, Prelude.{filter, find, nat_lt, nat_le, Option, Some, None}}}
+use Rattle.iodef_tree.{proofs.{Order.is_prefix-append, Outlines.{Came, came, above-line, at-line, past-line, counted-cons}}, specs.Outline.{sibling, deepest}}
+use Rattle.iodef_tree.specs.{Outline.{last_sibling, may_follow, is_short, may_come, is_outline_back}, Paths.{LocatedLine, is_class_kind, is_one_less_deep}}
+use Rattle.iodef_tree.specs.{Paths.{parent_path, place_among, placed}, Shown.counted_with, Sound.counted, Text.{Tokens, is_prefix}, Tree.{steps, place_of}}
+use Rattle.{iodef_tree.specs.declared.{TheConstants.LINE_LIMIT, line.Line.Line}, redact.specs.Sifted.{is_beyond, shut_by, lines_of, DeepAs, stays, is_shutting}}
+use Rattle.redact.specs.Sifted.{Reach}
 
 beyond-less : (o : Option ℕ) (k d : ℕ) → k ≤ d → is_beyond o d ≡ false → is_beyond o k ≡ false
 beyond-less None k d le h = refl

@@ -1,18 +1,9 @@
 -- A gate that refuses at a path refuses below it.
-use Rattle.std.proofs.Common.{◌≡◌, true, false, not, List, [], ◌∷◌, ◌++◌, refl, sym, ◌∙◌, ap, append-nil, append_assoc}
-use Rattle.std.specs.Prelude.{Option, Some, None, is_some, is_none}
-use Rattle.std.specs.Option.{option_or}
-use Rattle.std.specs.Str.{bytes_eq}
-use Rattle.std.proofs.lemmas.Bool.{false≢true, and_parts, and_from, or_from, false_from_ne_true, not-true, and_left}
-use Rattle.iodef_tree.specs.Text.{Bytes, Tokens, is_root, is_prefix}
-use Rattle.iodef_tree.specs.Paths.{LocatedLine}
-use Rattle.iodef_tree.proofs.Order.{bytes_eq-true}
-use Rattle.policy.specs.Verdict.{first_of, refusals_at, refusal_at, is_visible}
-use Rattle.policy.specs.declared.standing.Standing.{Standing}
-use Rattle.policy.specs.declared.rule.Rule.{Rule}
-use Rattle.policy.specs.declared.case.Case.{Case}
-use Rattle.policy.proofs.Steps.{approach_below-at}
-use Rattle.redact.specs.Matters.{is_refused}
+use Rattle.std.proofs.{Common.{◌≡◌, true, false, not, List, [], ◌∷◌, ◌++◌, refl, sym, ◌∙◌, ap, append-nil, append_assoc}, lemmas.Bool.{false≢true, and_parts}}
+use Rattle.std.{proofs.lemmas.Bool.{and_from, or_from, false_from_ne_true, not-true, and_left}, specs.{Option.option_or, Prelude.{Option, Some, None, is_some}}}
+use Rattle.{std.specs.{Prelude.is_none, Str.bytes_eq}, iodef_tree.{proofs.Order.bytes_eq-true, specs.{Paths.LocatedLine, Text.{Bytes, Tokens, is_root}}}}
+use Rattle.{iodef_tree.specs.Text.is_prefix, policy.{proofs.Steps.approach_below-at, specs.Verdict.{first_of, refusals_at, refusal_at, is_visible}}}
+use Rattle.{policy.specs.declared.{case.Case.Case, rule.Rule.Rule, standing.Standing.Standing}, redact.specs.Matters.is_refused}
 
 some-or : (o r : Option Rule) → is_some o ≡ true → is_some (option_or o r) ≡ true
 some-or None r h = absurd (false≢true h)

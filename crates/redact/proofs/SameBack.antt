@@ -1,11 +1,7 @@
 -- Earlier lines that stay, the newest first, have the paths that they have among all lines.
-use Rattle.std.proofs.Common.{◌≡◌, Bool, true, false, not, List, [], ◌∷◌, refl, ◌∙◌, ap, map, if◌then◌else◌}
-use Rattle.std.specs.Prelude.{filter}
-use Rattle.iodef_tree.specs.Text.{Tokens, is_prefix}
-use Rattle.iodef_tree.specs.Paths.{LocatedLine, placed, located_after, located}
-use Rattle.iodef_tree.specs.declared.line.Line.{Line}
-use Rattle.redact.specs.Sifted.{located_onto}
-use Rattle.redact.proofs.SameLocated.{IsPlaced, placed-kept}
+use Rattle.std.{proofs.Common.{◌≡◌, Bool, true, false, not, List, [], ◌∷◌, refl, ◌∙◌, ap, map, if◌then◌else◌}, specs.Prelude.filter}
+use Rattle.iodef_tree.specs.{Paths.{LocatedLine, placed, located_after, located}, Text.{Tokens, is_prefix}, declared.line.Line.Line}
+use Rattle.redact.{proofs.SameLocated.{IsPlaced, placed-kept}, specs.Sifted.located_onto}
 
 placed-onto : (ls : List Line) (before : List LocatedLine) → IsPlaced before → IsPlaced (located_onto before ls)
 placed-onto [] before b = b

@@ -1,11 +1,7 @@
 -- A question to all lines has the same answer for two documents if the lines that differ answer nothing.
 use Rattle.std.proofs.Common.{◌≡◌, ◌+◌, arith, cond, ℕ, Bool, true, false, not, List, [], ◌∷◌, ◌++◌, refl, sym, ◌∙◌, ap, map, if◌then◌else◌, ◌||◌}
-use Rattle.std.specs.Prelude.{filter, count_by, length}
-use Rattle.std.specs.List.{AllByRecursion, flat_map, list_any}
-use Rattle.iodef_tree.specs.Paths.{LocatedLine}
-use Rattle.redact.specs.Alike.{by_class}
-use Rattle.redact.proofs.Counts.{count_by-cons}
-use Rattle.redact.proofs.Filtered.{each-from}
+use Rattle.{std.specs.{List.{AllByRecursion, flat_map, list_any}, Prelude.{filter, count_by, length}}, iodef_tree.specs.Paths.LocatedLine}
+use Rattle.redact.{proofs.{Counts.count_by-cons, Filtered.each-from}, specs.Alike.by_class}
 
 -- ---- joined lists
 

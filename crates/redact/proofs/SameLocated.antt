@@ -1,16 +1,9 @@
 -- If the lines below some paths are taken out, with all that is below them, the other lines keep their paths.
-use Rattle.std.proofs.Common.{◌≡◌, ℕ, ◌+◌, ◌==◌, Bool, true, false, cond, not, List, [], ◌∷◌, ◌++◌, refl, sym, ◌∙◌, ap, map, take, zero-add, arith, if◌then◌else◌}
-use Rattle.std.specs.Prelude.{Some, filter, find, count_by}
-use Rattle.std.specs.Option.{option_map_or}
-use Rattle.std.specs.List.{before_first, prefix_len}
-use Rattle.std.proofs.lemmas.Bool.{true≢false, and_parts, not-true, eqb-true, false_from_ne_true}
-use Rattle.std.proofs.lemmas.List.Sums.{sum_by-cons}
-use Rattle.std.proofs.lemmas.Grind.{common_steps}
-use Rattle.iodef_tree.specs.Text.{Bytes, Tokens, is_prefix}
-use Rattle.iodef_tree.specs.Tree.{steps, place_of}
-use Rattle.iodef_tree.specs.Paths.{LocatedLine, is_one_less_deep, parent_path, is_like, place_among, entry_at, placed, located_after, located}
-use Rattle.iodef_tree.specs.declared.line.Line.{Line}
-use Rattle.iodef_tree.proofs.Order.{is_prefix-append}
+use Rattle.std.proofs.Common.{◌≡◌, ℕ, ◌+◌, ◌==◌, Bool, true, false, cond, not, List, [], ◌∷◌, ◌++◌, refl, sym, ◌∙◌, ap, map, take, zero-add, arith}
+use Rattle.std.proofs.{Common.if◌then◌else◌, lemmas.{Bool.{true≢false, and_parts, not-true, eqb-true, false_from_ne_true}, Grind.common_steps}}
+use Rattle.std.{proofs.lemmas.List.Sums.sum_by-cons, specs.{List.{before_first, prefix_len}, Option.option_map_or, Prelude.{Some, filter, find, count_by}}}
+use Rattle.iodef_tree.{proofs.Order.is_prefix-append, specs.Paths.{LocatedLine, is_one_less_deep, parent_path, is_like, place_among, entry_at, placed}}
+use Rattle.iodef_tree.specs.{Paths.{located_after, located}, Text.{Bytes, Tokens, is_prefix}, Tree.{steps, place_of}, declared.line.Line.Line}
 
 before-here : {X : Type 0} (p : X → Bool) (x : X) (xs : List X) → p x ≡ true → before_first p (x ∷ xs) ≡ []
 before-here {X} p x xs h = ap (λ b. take (cond (not b) (1 + prefix_len (λ y. not (p y)) xs) 0) (x ∷ xs)) h

@@ -1,38 +1,17 @@
 -- A search over members side by side, and by one pass down a document. It finds what the definition finds among the
 -- lines.
-use Rattle.std.proofs.Common.{arith, ◌≡◌, ℕ, suc, ◌+◌, ◌<◌, Bool, ◌||◌, List, [], ◌∷◌, refl, sym, ◌∙◌, ap, decimal, length, get_or, drop, map, Option, Some, None, true, false, ◌&&◌, ◌++◌, append_assoc, append-nil, true≢false}
-use Rattle.std.specs.List.{list_any}
-use Rattle.std.proofs.Math.Bool.{or_assoc, and-true}
-use Rattle.std.proofs.lemmas.Bool.{cond_both}
-use Rattle.std.proofs.lemmas.List.Folds.{list_any-append}
-use Rattle.iodef_tree.specs.Text.{Bytes, Tokens, same_path, is_under}
-use Rattle.iodef_tree.specs.Tree.{Forest, Body, holds, says, Bodies, one, many, in_front, elements, member_front, Content, end, leaf, branch, steps, lines, leaf_line}
-use Rattle.iodef_tree.specs.View.{bodies, members_forest}
-use Rattle.iodef_tree.specs.declared.Text.{Text}
-use Rattle.iodef_tree.specs.declared.object.Member.{Member}
-use Rattle.iodef_tree.proofs.Members.{members-next}
-use Rattle.iodef_tree.specs.Paths.{LocatedLine, is_class, located, below}
-use Rattle.iodef_tree.specs.Sound.{IsSound}
-use Rattle.iodef_tree.specs.Walk.{walk, class_entry, AreBlocks}
-use Rattle.iodef_tree.proofs.Blocks.{blocks-located, below-parents}
-use Rattle.iodef_tree.proofs.Located.{located-lines}
-use Rattle.iodef_tree.proofs.Order.{same_path-refl, same_path-true, same_path-longer, is_false}
-use Rattle.iodef_tree.specs.declared.line.Line.{Line}
-use Rattle.marking.specs.Label.{LabelValue}
-use Rattle.marking.specs.Members.{spelled_in}
-use Rattle.marking.specs.Marks.{written_label}
-use Rattle.marking.proofs.Written.{AreUnderParents, written-block}
-use Rattle.marking.proofs.Placed.{ArePlaced, placed}
-use Rattle.marking.proofs.Bad.{no_class-kind}
-use Rattle.policy.specs.Inherited.{Inherited, enter_array, enter_class, inherited_at, at_root}
-use Rattle.policy.specs.declared.standing.Standing.{Standing}
-use Rattle.policy.specs.declared.case.Case.{Case}
-use Rattle.policy.specs.Verdict.{is_visible}
-use Rattle.policy.proofs.Steps.{at_root-is}
-use Rattle.redact.specs.inner.Pass.{enter}
-use Rattle.redact.specs.inner.Search.{body_hits, bodies_hit, members_hit, found, found_at, found_items, found_member, content_hits, holds_text, any_class}
-use Rattle.redact.specs.Told.{is_named, is_hit, holds_needle, finds, is_listed}
-use Rattle.redact.proofs.Whole.{enter-at, root-bare}
+use Rattle.std.proofs.Common.{arith, ◌≡◌, ℕ, suc, ◌+◌, ◌<◌, Bool, ◌||◌, List, [], ◌∷◌, refl, sym, ◌∙◌, ap, decimal, length, get_or, drop, map, Option, Some}
+use Rattle.std.proofs.{Common.{None, true, false, ◌&&◌, ◌++◌, append_assoc, append-nil, true≢false}, Math.Bool.{or_assoc, and-true}, lemmas.Bool.cond_both}
+use Rattle.{std.{proofs.lemmas.List.Folds.list_any-append, specs.List.list_any}, iodef_tree.proofs.Blocks.{blocks-located, below-parents}}
+use Rattle.iodef_tree.proofs.{Located.located-lines, Members.members-next, Order.{same_path-refl, same_path-true, same_path-longer, is_false}}
+use Rattle.iodef_tree.specs.{Paths.{LocatedLine, is_class, located, below}, Sound.IsSound, Text.{Bytes, Tokens, same_path, is_under}, Tree.{Forest, Body}}
+use Rattle.iodef_tree.specs.Tree.{holds, says, Bodies, one, many, in_front, elements, member_front, Content, end, leaf, branch, steps, lines, leaf_line}
+use Rattle.iodef_tree.specs.{View.{bodies, members_forest}, Walk.{walk, class_entry, AreBlocks}, declared.{Text.Text, line.Line.Line, object.Member.Member}}
+use Rattle.marking.{proofs.{Bad.no_class-kind, Placed.{ArePlaced, placed}, Written.{AreUnderParents, written-block}}, specs.Label.LabelValue}
+use Rattle.{marking.specs.{Marks.written_label, Members.spelled_in}, policy.{proofs.Steps.at_root-is, specs.Inherited.{Inherited, enter_array, enter_class}}}
+use Rattle.policy.specs.{Inherited.{inherited_at, at_root}, Verdict.is_visible, declared.{case.Case.Case, standing.Standing.Standing}}
+use Rattle.redact.{proofs.Whole.{enter-at, root-bare}, specs.{Told.{is_named, is_hit, holds_needle, finds, is_listed}, inner.{Pass.enter, Search.body_hits}}}
+use Rattle.redact.specs.inner.Search.{bodies_hit, members_hit, found, found_at, found_items, found_member, content_hits, holds_text, any_class}
 
 -- ---- members side by side: each, and then the others
 

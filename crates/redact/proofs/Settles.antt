@@ -1,30 +1,17 @@
 -- A label that is written in a class makes it sure that the reader sees the class, whatever lines come.
-use Rattle.std.proofs.Common.{◌≡◌, Bool, true, false, cond, not, ◌&&◌, ◌||◌, List, [], ◌∷◌, ◌++◌, refl, sym, ◌∙◌, ap, if◌then◌else◌}
-use Rattle.std.specs.Prelude.{Option, Some, None, find, filter, map, is_some, is_none, option_map, unwrap_or, codes}
-use Rattle.std.specs.Option.{option_map_or, option_or}
-use Rattle.std.specs.List.{list_any}
-use Rattle.std.specs.Str.{bytes_eq}
-use Rattle.std.proofs.lemmas.Bool.{true≢false, false≢true, and_parts}
-use Rattle.std.proofs.lemmas.List.Folds.{find-append}
-use Rattle.iodef_tree.specs.Text.{Bytes, Tokens, same_path}
-use Rattle.iodef_tree.specs.Paths.{LocatedLine, is_class, class_paths, has_class, placed, located, located_after}
-use Rattle.iodef_tree.specs.declared.line.Kind.{Kind}
+use Rattle.std.proofs.{Common.{◌≡◌, Bool, true, false, cond, not, ◌&&◌, ◌||◌, List, [], ◌∷◌, ◌++◌, refl, sym, ◌∙◌, ap, if◌then◌else◌}, lemmas.Bool.true≢false}
+use Rattle.std.{proofs.lemmas.{Bool.{false≢true, and_parts}, List.Folds.find-append}, specs.{List.list_any, Option.{option_map_or, option_or}, Prelude.Option}}
+use Rattle.std.specs.{Prelude.{Some, None, find, filter, map, is_some, is_none, option_map, unwrap_or, codes}, Str.bytes_eq}
+use Rattle.iodef_tree.{proofs.Order.{bytes_eq-true, same_path-true}, specs.Paths.{LocatedLine, is_class, class_paths, has_class, placed, located}}
+use Rattle.{iodef_tree.specs.{Paths.located_after, Text.{Bytes, Tokens, same_path}, declared.line.{Kind.Kind, Line.Line}}, marking.proofs.Owned.site-self}
+use Rattle.marking.specs.{Label.{LabelValue, public, white, partner, green, need_to_know, amber, private, red, by_arrangement, extended, spelled}, Marks.Held}
+use Rattle.marking.specs.Marks.{absent, one_text, other, held_by_kind, held_by_line, is_member, held_at, restriction_at, ext_restriction_at, spelled_by}
+use Rattle.marking.specs.Marks.{is_rule_kept, is_well_marked, first_bad_marking, written_label, has_default, own_label, site_of, label_at}
+use Rattle.policy.specs.{Verdict.{refusal_at, is_cleared_for, is_covered, is_visible}, declared.{case.Case.Case, standing.Standing.Standing}}
+use Rattle.redact.{proofs.{Lengthened.{located-append, any-stays}, Unrefused.{unrefused, seen}}, specs.{Probed.InEach, Sifted.located_back}}
+use Rattle.redact.specs.{declared.open_classes.Beside.Beside, inner.Seeking.{some_refuses, is_cleared_beside, is_cleared_by, is_cleared_text, IsBeside}}
 use Rattle.iodef_tree.specs.declared.line.Kind.TheVariants as kind
-use Rattle.iodef_tree.specs.declared.line.Line.{Line}
-use Rattle.iodef_tree.proofs.Order.{bytes_eq-true, same_path-true}
-use Rattle.marking.specs.Label.{LabelValue, public, white, partner, green, need_to_know, amber, private, red, by_arrangement, extended, spelled}
-use Rattle.marking.specs.Marks.{Held, absent, one_text, other, held_by_kind, held_by_line, is_member, held_at, restriction_at, ext_restriction_at, spelled_by, is_rule_kept, is_well_marked, first_bad_marking, written_label, has_default, own_label, site_of, label_at}
-use Rattle.marking.proofs.Owned.{site-self}
-use Rattle.policy.specs.Verdict.{refusal_at, is_cleared_for, is_covered, is_visible}
-use Rattle.policy.specs.declared.standing.Standing.{Standing}
-use Rattle.policy.specs.declared.case.Case.{Case}
-use Rattle.redact.specs.Sifted.{located_back}
-use Rattle.redact.specs.Probed.{InEach}
-use Rattle.redact.specs.inner.Seeking.{some_refuses, is_cleared_beside, is_cleared_by, is_cleared_text, IsBeside}
-use Rattle.redact.specs.declared.open_classes.Beside.{Beside}
 use Rattle.redact.specs.declared.open_classes.Beside.TheVariants as beside
-use Rattle.redact.proofs.Lengthened.{located-append, any-stays}
-use Rattle.redact.proofs.Unrefused.{unrefused, seen}
 
 -- ---- an accepted report
 

@@ -1,21 +1,9 @@
 -- A gate at the root that refuses a reader.
-use Rattle.std.proofs.Common.{◌≡◌, Bool, true, false, List, [], ◌∷◌, refl, sym, ◌∙◌, ap, subst, Option, Some, None, is_some, Contains}
-use Rattle.std.proofs.lemmas.Bool.{false≢true, and_right, cond-false}
-use Rattle.iodef_tree.specs.Text.{Bytes, Tokens, is_root, is_prefix}
-use Rattle.iodef_tree.specs.Paths.{is_class, located}
-use Rattle.iodef_tree.specs.declared.line.Line.{Line}
-use Rattle.policy.specs.Gates.{refusal_of_gate}
-use Rattle.policy.specs.Verdict.{is_visible}
-use Rattle.policy.specs.declared.rule.Rule.{Rule}
-use Rattle.policy.specs.declared.standing.Standing.{Standing}
-use Rattle.policy.specs.declared.case.Case.{Case}
-use Rattle.policy.specs.declared.gate.Gate.{Gate}
-use Rattle.policy.proofs.Sight.{visible-passes}
-use Rattle.redact.specs.Laws.{TellsNothing}
-use Rattle.redact.specs.Told.{is_seen_class, is_listed, told_of, finds}
-use Rattle.redact.specs.Wants.{meets_by}
-use Rattle.redact.proofs.Filtered.{each, any-none}
-use Rattle.redact.proofs.Promised.{found-listed}
+use Rattle.std.proofs.{Common.{◌≡◌, Bool, true, false, List, [], ◌∷◌, refl, sym, ◌∙◌, ap, subst, Option, Some, None, is_some, Contains}, lemmas.Bool.false≢true}
+use Rattle.{std.proofs.lemmas.Bool.{and_right, cond-false}, iodef_tree.specs.{Paths.{is_class, located}, Text.{Bytes, Tokens, is_root, is_prefix}}}
+use Rattle.{iodef_tree.specs.declared.line.Line.Line, policy.{proofs.Sight.visible-passes, specs.{Gates.refusal_of_gate, Verdict.is_visible}}}
+use Rattle.{policy.specs.declared.{case.Case.Case, gate.Gate.Gate, rule.Rule.Rule, standing.Standing.Standing}, redact.proofs.Filtered.{each, any-none}}
+use Rattle.redact.{proofs.Promised.found-listed, specs.{Laws.TellsNothing, Told.{is_seen_class, is_listed, told_of, finds}, Wants.meets_by}}
 
 root-is-prefix : (q p : Tokens) → is_root q ≡ true → is_prefix q p ≡ true
 root-is-prefix [] p h = refl

@@ -1,21 +1,12 @@
 -- One more line, which is kept if it matters.
 use Rattle.std.proofs.Common.{◌≡◌, ℕ, Bool, true, false, List, [], ◌∷◌, ◌++◌, refl, sym, ◌∙◌, ap, subst, append-nil, map, arith, if◌then◌else◌}
-use Rattle.std.specs.Prelude.{filter, None}
-use Rattle.std.proofs.lemmas.List.{map-append}
-use Rattle.std.proofs.lemmas.List.Elements.{filter-append}
-use Rattle.iodef_tree.specs.Paths.{LocatedLine, parent_path, placed, located_after, located}
-use Rattle.iodef_tree.specs.Outline.{back, back_onto, may_come, is_outline, is_outline_back}
-use Rattle.iodef_tree.specs.declared.line.Line.{Line}
-use Rattle.iodef_tree.proofs.Outlines.{outline-back}
-use Rattle.policy.specs.declared.standing.Standing.{Standing}
-use Rattle.policy.specs.declared.case.Case.{Case}
-use Rattle.redact.specs.Matters.{is_refused, matters, lines_that_matter}
+use Rattle.std.{proofs.lemmas.{Bool.not-true, List.{map-append, Elements.filter-append}}, specs.Prelude.{filter, None}}
+use Rattle.iodef_tree.{proofs.Outlines.outline-back, specs.{Outline.{back, back_onto, may_come, is_outline, is_outline_back}, Paths.{LocatedLine, parent_path}}}
+use Rattle.{iodef_tree.specs.{Paths.{placed, located_after, located}, declared.line.Line.Line}, policy.specs.declared.case.Case.Case}
+use Rattle.{policy.specs.declared.standing.Standing.Standing, redact.proofs.Reached.{reach-kept, reach-gone, kept-is, gone-is, fits-kept}}
+use Rattle.redact.{proofs.{Refused.{refused-prefix, passed-above}, SameBack.{back-kept, placed-back}}, specs.Matters.{is_refused, matters, lines_that_matter}}
 use Rattle.redact.specs.Sifted.{located_onto, located_back, is_beyond, shut_by, lines_of, stays, is_shutting, Reach, Tracks, Sifts}
 use Rattle.redact.specs.declared.sieve.Sieve.{Sieve}
-use Rattle.std.proofs.lemmas.Bool.{not-true}
-use Rattle.redact.proofs.Refused.{refused-prefix, passed-above}
-use Rattle.redact.proofs.SameBack.{back-kept, placed-back}
-use Rattle.redact.proofs.Reached.{reach-kept, reach-gone, kept-is, gone-is, fits-kept}
 
 -- ---- lists of located lines
 

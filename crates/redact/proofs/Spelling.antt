@@ -1,31 +1,16 @@
 -- The label that is spelled in a class, and in what is kept of it. A class in which no label is spelled has no member
 -- of a label.
-use Rattle.std.proofs.Common.{decimal, arith, ◌≡◌, ℕ, suc, Bool, true, List, [], ◌++◌, refl, sym, ◌∙◌, ap, if◌then◌else◌, Option, Some, None, is_some, is_none, option_map, codes, bytes_eq, false, not, ◌∷◌, subst, ◌&&◌, true≢false}
-use Rattle.std.specs.Option.{option_or}
-use Rattle.std.proofs.Math.Bool.{and-true}
-use Rattle.std.proofs.lemmas.Bool.{cond_both, cond-false, and_parts, or_right, false≢true}
-use Rattle.iodef_tree.specs.Text.{Bytes, Tokens}
-use Rattle.iodef_tree.specs.Tree.{Content, Forest, end, leaf, branch, steps, kind_of, text_of}
-use Rattle.iodef_tree.specs.Paths.{LocatedLine}
-use Rattle.iodef_tree.specs.Walk.{AreBlocks}
-use Rattle.iodef_tree.specs.Laws.{AreApart, HasApart}
-use Rattle.iodef_tree.proofs.Order.{bytes_eq-refl, bytes_eq-true, is_false}
-use Rattle.iodef_tree.proofs.Siblings.{siblings-map}
-use Rattle.marking.specs.Label.{LabelValue, restriction_of, public, spelled}
-use Rattle.marking.specs.Marks.{Held, absent, other, held_by_kind, spelled_by, is_rule_kept, one_text, held_by_line}
-use Rattle.marking.specs.Members.{held_in, is_rule_kept_in, held_by_leaf, spelled_in}
-use Rattle.marking.specs.inner.Pass.{bad_below}
-use Rattle.marking.proofs.Written.{AreUnderParents, written-block}
-use Rattle.marking.proofs.Placed.{ArePlaced}
-use Rattle.policy.specs.declared.standing.Standing.{Standing}
-use Rattle.policy.specs.declared.case.Case.{Case}
-use Rattle.redact.specs.Told.{ext_restriction_of, attributes_by, attributes_of, verdicts_of}
-use Rattle.redact.specs.Kept.{Attribute, Verdicts}
-use Rattle.redact.specs.inner.Judged.{judge, judgment_at, Surrounding, inside, shows_label, left_before, left_with, is_end, put_leaf, attribute_leaf, put_attributes, with_label, cut}
-use Rattle.redact.proofs.Ordered.{Lacks, Fits, LabelsFit, lacks-put, lacks-cut}
-use Rattle.redact.proofs.Counts.{AreLabelNames}
-use Rattle.redact.proofs.Fates.{by_fate, put-keeps}
-use Rattle.redact.proofs.Keeping.{leaf_line-moved}
+use Rattle.std.proofs.Common.{decimal, arith, ◌≡◌, ℕ, suc, Bool, true, List, [], ◌++◌, refl, sym, ◌∙◌, ap, if◌then◌else◌, Option, Some, None, is_some, is_none}
+use Rattle.std.proofs.{Common.{option_map, codes, bytes_eq, false, not, ◌∷◌, subst, ◌&&◌, true≢false}, Math.Bool.and-true, lemmas.Bool.{cond_both, cond-false}}
+use Rattle.{std.{proofs.lemmas.Bool.{and_parts, or_right, false≢true}, specs.Option.option_or}, iodef_tree.proofs.Order.{bytes_eq-refl, bytes_eq-true}}
+use Rattle.iodef_tree.{proofs.{Order.is_false, Siblings.siblings-map}, specs.{Laws.{AreApart, HasApart}, Paths.LocatedLine, Text.{Bytes, Tokens}, Tree.Content}}
+use Rattle.{iodef_tree.specs.{Tree.{Forest, end, leaf, branch, steps, kind_of, text_of}, Walk.AreBlocks}, marking.proofs.Placed.ArePlaced}
+use Rattle.marking.{proofs.Written.{AreUnderParents, written-block}, specs.{Label.{LabelValue, restriction_of, public, spelled}, Marks.{Held, absent, other}}}
+use Rattle.marking.specs.{Marks.{held_by_kind, spelled_by, is_rule_kept, one_text, held_by_line}, Members.{held_in, is_rule_kept_in, held_by_leaf, spelled_in}}
+use Rattle.{marking.specs.inner.Pass.bad_below, policy.specs.declared.{case.Case.Case, standing.Standing.Standing}, redact.proofs.Counts.AreLabelNames}
+use Rattle.redact.{proofs.{Fates.{by_fate, put-keeps}, Keeping.leaf_line-moved, Ordered.{Lacks, Fits, LabelsFit, lacks-put, lacks-cut}}, specs.Kept.Attribute}
+use Rattle.redact.specs.{Kept.Verdicts, Told.{ext_restriction_of, attributes_by, attributes_of, verdicts_of}, inner.Judged.{judge, judgment_at, Surrounding}}
+use Rattle.redact.specs.inner.Judged.{inside, shows_label, left_before, left_with, is_end, put_leaf, attribute_leaf, put_attributes, with_label, cut}
 
 -- ---- a class in which no label is written
 

@@ -1,24 +1,11 @@
 -- A path is refused exactly if a gate on it refuses. One step below a path that isn't refused, it is refused exactly
 -- if a gate there refuses.
 use Rattle.std.proofs.Common.{◌≡◌, Bool, true, false, not, List, [], ◌∷◌, ◌++◌, map, refl, sym, ◌∙◌, ap, arith, if◌then◌else◌, ◌&&◌, ◌||◌}
-use Rattle.std.specs.Prelude.{Option, Some, None, is_some, filter}
-use Rattle.std.specs.Option.{option_or}
-use Rattle.std.specs.List.{AllByRecursion, filter_map, cons_option, flat_map, list_any}
-use Rattle.std.specs.Str.{bytes_eq}
-use Rattle.std.proofs.lemmas.Bool.{false≢true, true≢false, and_right}
-use Rattle.iodef_tree.specs.Text.{Tokens, is_root, same_path, is_prefix, prefixes}
-use Rattle.policy.specs.Gates.{refusal_of_gate}
-use Rattle.policy.specs.Verdict.{first_of, refusals_at, refusal_at}
-use Rattle.policy.specs.Laws.{refuses_on}
-use Rattle.policy.proofs.Steps.{first_of-append, any_same}
-use Rattle.policy.specs.declared.gate.Gate.{Gate}
-use Rattle.policy.specs.declared.standing.Standing.{Standing}
-use Rattle.policy.specs.declared.case.Case.{Case}
-use Rattle.redact.specs.Matters.{is_refused}
-use Rattle.redact.specs.Sifted.{step_tokens, stops}
-use Rattle.redact.specs.declared.steps.Step.{Step}
-use Rattle.redact.proofs.Filtered.{each-from, none-any}
-use Rattle.redact.proofs.Ends.{prefix-step}
+use Rattle.std.{proofs.lemmas.Bool.{false≢true, true≢false, and_right}, specs.List.{AllByRecursion, filter_map, cons_option, flat_map, list_any}}
+use Rattle.{std.specs.{Option.option_or, Prelude.{Option, Some, None, is_some, filter}, Str.bytes_eq}, iodef_tree.specs.Text.{Tokens, is_root, same_path}}
+use Rattle.{iodef_tree.specs.Text.{is_prefix, prefixes}, policy.{proofs.Steps.{first_of-append, any_same}, specs.{Gates.refusal_of_gate, Laws.refuses_on}}}
+use Rattle.policy.specs.{Verdict.{first_of, refusals_at, refusal_at}, declared.{case.Case.Case, gate.Gate.Gate, standing.Standing.Standing}}
+use Rattle.redact.{proofs.{Ends.prefix-step, Filtered.{each-from, none-any}}, specs.{Matters.is_refused, Sifted.{step_tokens, stops}, declared.steps.Step.Step}}
 
 some_or : {A : Type 0} (a b : Option A) → is_some (option_or a b) ≡ (is_some a || is_some b)
 some_or None b = refl

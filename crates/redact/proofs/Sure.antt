@@ -1,46 +1,26 @@
 -- What is sure stays sure as lines come, and what is known of the open classes makes it sure that a want is met.
-use Rattle.std.proofs.Common.{◌≡◌, ℕ, zero, suc, ◌+◌, ◌-◌, ◌^◌, ◌≤◌, ◌<◌, Bool, true, false, not, ◌&&◌, ◌||◌, ◌⊎◌, inl, inr, List, [], ◌∷◌, ◌++◌, length, take, append_assoc, append-nil, refl, sym, ◌∙◌, ap, subst, arith, if◌then◌else◌}
-use Rattle.std.specs.Prelude.{Option, Some, None, Ok, is_none, option_map, string_bytes, codes}
-use Rattle.std.specs.List.{list_any}
-use Rattle.std.specs.Str.{bytes_eq}
-use Rattle.std.proofs.lemmas.Bool.{true≢false, false≢true, and_parts, and_from, or_left, or_right, or_parts, not-true}
-use Rattle.std.proofs.lemmas.List.Folds.{list_any-append}
-use Rattle.std.proofs.lemmas.List.{length-append, length-take-le}
-use Rattle.iodef_tree.specs.Text.{Bytes, Tokens, same_path}
-use Rattle.iodef_tree.specs.Tree.{steps, place_of}
-use Rattle.iodef_tree.specs.Paths.{LocatedLine, is_class_kind, is_class, has_class, parent_path, place_among, placed, located}
-use Rattle.iodef_tree.specs.Outline.{back, deepest, may_come, is_outline}
-use Rattle.iodef_tree.specs.Shown.{Shows}
-use Rattle.iodef_tree.specs.declared.line.Line.{Line}
-use Rattle.iodef_tree.specs.declared.fault.OutlineFault.{OutlineFault}
-use Rattle.iodef_tree.specs.declared.line.Kind.{Kind}
+use Rattle.std.proofs.Common.{◌≡◌, ℕ, zero, suc, ◌+◌, ◌-◌, ◌^◌, ◌≤◌, ◌<◌, Bool, true, false, not, ◌&&◌, ◌||◌, ◌⊎◌, inl, inr, List, [], ◌∷◌, ◌++◌, length, take}
+use Rattle.std.proofs.{Common.{append_assoc, append-nil, refl, sym, ◌∙◌, ap, subst, arith, if◌then◌else◌}, lemmas.Bool.{true≢false, false≢true, and_parts}}
+use Rattle.std.proofs.lemmas.{Bool.{and_from, or_left, or_right, or_parts, not-true}, List.{length-append, length-take-le, Folds.list_any-append}}
+use Rattle.std.specs.{List.list_any, Prelude.{Option, Some, None, Ok, is_none, option_map, string_bytes, codes}, Str.bytes_eq}
+use Rattle.iodef_tree.proofs.{Order.{is_false, bytes_eq-true, same_path-refl, same_path-true}, Outlines.{Came, came, back-push, outline-back}}
+use Rattle.iodef_tree.specs.{Outline.{back, deepest, may_come, is_outline}, Paths.{LocatedLine, is_class_kind, is_class, has_class, parent_path, place_among}}
+use Rattle.iodef_tree.specs.{Paths.{placed, located}, Shown.Shows, Text.{Bytes, Tokens, same_path}, Tree.{steps, place_of}}
+use Rattle.{iodef_tree.specs.declared.{fault.OutlineFault.OutlineFault, line.{Kind.Kind, Line.Line}}, marking.specs.{Label.extended, Marks.{Held, absent}}}
+use Rattle.marking.specs.Marks.{one_text, other, held_by_kind, held_by_line, is_member, held_at, restriction_at, ext_restriction_at, first_bad_marking}
+use Rattle.{policy.specs.{Verdict.{is_cleared_for, is_visible}, declared.{case.Case.Case, standing.Standing.Standing}}, redact.proofs.Fresh.holds-nothing}
+use Rattle.redact.proofs.{Lengthened.{located-append, onto-push, any-stays, any-implied, parent-old, parent-new}, Permitted.follow-seen, Settles.text-stays}
+use Rattle.redact.proofs.{Settles.{held-same, held-first, label-seen}, Taking.more-outline, Tracking.{tracks-none, is-counted, tracks-more}, Unrefused.all-seen}
+use Rattle.redact.specs.{Probed.{InEach, IsSure, ProbeState, ProbesLine}, Sifted.{way, IsCounted, went_on, located_back, Tracks}, Told.is_seen_class}
+use Rattle.redact.specs.{Told.{is_named, is_hit, holds_needle}, Wants.{meets, meets_by}, declared.open_classes.{Beside.Beside, Open.Open, Seeker.Seeker}}
+use Rattle.redact.specs.{declared.{open_classes.Sight.Sight, want.Want.Want}, inner.Seeking.{wants_name_by, wants_name, wants_line_by, wants_line}}
+use Rattle.redact.specs.inner.Seeking.{holds_wanted_by, holds_wanted, is_wanted_at, some_refuses, sees_all, sight_of, is_everything, is_cleared_sight}
+use Rattle.redact.specs.inner.Seeking.{text_by_kind, plain_text, beside_by, first_beside, beside_with, is_cleared_if, is_restriction, shows_class, entered}
+use Rattle.redact.specs.inner.Seeking.{holding, innermost_holding, is_permitted, with_opened_class, open_with_line, is_settled, IsBeside, IsSeen, IsOpen}
+use Rattle.redact.specs.inner.Seeking.{AreOpen, Follows, IsKnown, TakesTo}
 use Rattle.iodef_tree.specs.declared.line.Kind.TheVariants as kind
-use Rattle.iodef_tree.proofs.Order.{is_false, bytes_eq-true, same_path-refl, same_path-true}
-use Rattle.iodef_tree.proofs.Outlines.{Came, came, back-push, outline-back}
-use Rattle.marking.specs.Label.{extended}
-use Rattle.marking.specs.Marks.{Held, absent, one_text, other, held_by_kind, held_by_line, is_member, held_at, restriction_at, ext_restriction_at, first_bad_marking}
-use Rattle.policy.specs.Verdict.{is_cleared_for, is_visible}
-use Rattle.policy.specs.declared.standing.Standing.{Standing}
-use Rattle.policy.specs.declared.case.Case.{Case}
-use Rattle.redact.specs.Told.{is_seen_class, is_named, is_hit, holds_needle}
-use Rattle.redact.specs.Wants.{meets, meets_by}
-use Rattle.redact.specs.Sifted.{way, IsCounted, went_on, located_back, Tracks}
-use Rattle.redact.specs.Probed.{InEach, IsSure, ProbeState, ProbesLine}
-use Rattle.redact.specs.inner.Seeking.{wants_name_by, wants_name, wants_line_by, wants_line, holds_wanted_by, holds_wanted, is_wanted_at, some_refuses, sees_all, sight_of, is_everything, is_cleared_sight, text_by_kind, plain_text, beside_by, first_beside, beside_with, is_cleared_if, is_restriction, shows_class, entered, holding, innermost_holding, is_permitted, with_opened_class, open_with_line, is_settled, IsBeside, IsSeen, IsOpen, AreOpen, Follows, IsKnown, TakesTo}
-use Rattle.redact.specs.declared.open_classes.Sight.{Sight}
 use Rattle.redact.specs.declared.open_classes.Sight.TheVariants as sight
-use Rattle.redact.specs.declared.open_classes.Beside.{Beside}
 use Rattle.redact.specs.declared.open_classes.Beside.TheVariants as beside
-use Rattle.redact.specs.declared.open_classes.Open.{Open}
-use Rattle.redact.specs.declared.open_classes.Seeker.{Seeker}
-use Rattle.redact.specs.declared.want.Want.{Want}
-use Rattle.redact.proofs.Taking.{more-outline}
-use Rattle.redact.proofs.Lengthened.{located-append, onto-push, any-stays, any-implied, parent-old, parent-new}
-use Rattle.redact.proofs.Unrefused.{all-seen}
-use Rattle.redact.proofs.Fresh.{holds-nothing}
-use Rattle.redact.proofs.Permitted.{follow-seen}
-use Rattle.redact.proofs.Tracking.{tracks-none, is-counted, tracks-more}
-use Rattle.redact.proofs.Settles.{text-stays, held-same, held-first, label-seen}
 
 -- ---- one line more
 

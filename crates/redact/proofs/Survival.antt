@@ -1,45 +1,19 @@
 -- The markings of a document survive in its excerpt.
-use Rattle.std.proofs.Common.{◌≡◌, ◌+◌, ◌≤◌, ℕ, suc, Bool, true, false, not, List, [], ◌∷◌, ◌++◌, refl, sym, ◌∙◌, ap, subst, map, filter, length, length-append, arith, if◌then◌else◌, ◌&&◌, Option, Some, None, is_none, unwrap_or, option_map, find, true≢false}
-use Rattle.std.specs.Option.{option_or}
-use Rattle.std.specs.List.{AllByRecursion}
-use Rattle.std.proofs.lemmas.Bool.{cond_both, cond-false, cond-true, and_parts, or_right, or_left, false≢true}
-use Rattle.std.proofs.lemmas.List.Elements.{All-contains, All-from_recursion}
-use Rattle.iodef_tree.specs.Text.{Bytes, Tokens, same_path, is_root}
-use Rattle.iodef_tree.specs.Tree.{Leaf, Forest, end, leaf, branch, steps, lines}
-use Rattle.iodef_tree.specs.Paths.{LocatedLine, is_class, class_paths, located}
-use Rattle.iodef_tree.specs.Sound.{IsSound}
-use Rattle.iodef_tree.specs.Walk.{AreBlocks}
-use Rattle.iodef_tree.specs.Laws.{HasApart}
-use Rattle.iodef_tree.proofs.Apart.{sound-apart}
-use Rattle.iodef_tree.proofs.ClassesBelow.{classes-lines}
-use Rattle.iodef_tree.proofs.Blocks.{blocks-located, below-parents}
-use Rattle.iodef_tree.proofs.Located.{located-lines}
-use Rattle.iodef_tree.proofs.Order.{same_path-true, is_false}
-use Rattle.iodef_tree.proofs.Siblings.{all-append}
-use Rattle.marking.specs.Label.{LabelValue, private}
-use Rattle.marking.specs.Marks.{incident_path, is_well_marked, first_bad_marking, written_label, label_at}
-use Rattle.marking.specs.Members.{spelled_in, is_rule_kept_in}
-use Rattle.marking.specs.inner.Pass.{bad_below}
-use Rattle.marking.proofs.Bad.{first_bad}
-use Rattle.marking.proofs.Marked.{not_root}
-use Rattle.marking.proofs.Owned.{own-class}
-use Rattle.marking.proofs.Placed.{ArePlaced, placed as classes-placed}
-use Rattle.marking.proofs.Sites.{label-steps}
-use Rattle.marking.proofs.Written.{AreUnderParents, written-block, well_marked-block, own-none}
-use Rattle.policy.specs.Inherited.{label_step}
-use Rattle.policy.specs.declared.standing.Standing.{Standing}
-use Rattle.policy.specs.declared.case.Case.{Case}
-use Rattle.redact.specs.Kept.{Attribute, Verdicts, is_kept}
-use Rattle.redact.specs.inner.Judged.{judge, Surrounding, root, inside, keeps_plain, shows_label, left_before, new_place, left_with, moved, is_end, put_leaf, attribute_leaf, put_attributes, cut, places}
-use Rattle.redact.specs.Withheld.{place_of}
-use Rattle.redact.specs.inner.Paired.{class_places, place_by}
-use Rattle.redact.proofs.Paired.{places-paired}
-use Rattle.redact.specs.Told.{verdicts_of, kept_outline}
-use Rattle.redact.specs.Excerpts.{LabelsSurvive}
-use Rattle.redact.proofs.Fates.{by_fates, put-keeps}
-use Rattle.redact.proofs.Spelling.{accepted, framed-rule, seen-spells}
-use Rattle.redact.proofs.Places.{paths-cut, paths-kept, placed}
-use Rattle.redact.proofs.Whole.{says, left-sound, left-lines}
+use Rattle.std.proofs.Common.{◌≡◌, ◌+◌, ◌≤◌, ℕ, suc, Bool, true, false, not, List, [], ◌∷◌, ◌++◌, refl, sym, ◌∙◌, ap, subst, map, filter, length, length-append}
+use Rattle.std.proofs.{Common.{arith, if◌then◌else◌, ◌&&◌, Option, Some, None, is_none, unwrap_or, option_map, find, true≢false}, lemmas.Bool.cond_both}
+use Rattle.std.proofs.lemmas.{Bool.{cond-false, cond-true, and_parts, or_right, or_left, false≢true}, List.Elements.{All-contains, All-from_recursion}}
+use Rattle.{std.specs.{List.AllByRecursion, Option.option_or}, iodef_tree.proofs.{Apart.sound-apart, Blocks.{blocks-located, below-parents}}}
+use Rattle.iodef_tree.{proofs.{ClassesBelow.classes-lines, Located.located-lines, Order.{same_path-true, is_false}, Siblings.all-append}, specs.Laws.HasApart}
+use Rattle.iodef_tree.specs.{Paths.{LocatedLine, is_class, class_paths, located}, Sound.IsSound, Text.{Bytes, Tokens, same_path, is_root}, Tree.{Leaf, Forest}}
+use Rattle.{iodef_tree.specs.{Tree.{end, leaf, branch, steps, lines}, Walk.AreBlocks}, marking.proofs.{Bad.first_bad, Marked.not_root, Owned.own-class}}
+use Rattle.marking.proofs.{Placed.{ArePlaced, placed as classes-placed}, Sites.label-steps, Written.{AreUnderParents, written-block, well_marked-block}}
+use Rattle.marking.{proofs.Written.own-none, specs.{Label.{LabelValue, private}, Marks.{incident_path, is_well_marked, first_bad_marking, written_label}}}
+use Rattle.{marking.specs.{Marks.label_at, Members.{spelled_in, is_rule_kept_in}, inner.Pass.bad_below}, policy.specs.Inherited.label_step}
+use Rattle.{policy.specs.declared.{case.Case.Case, standing.Standing.Standing}, redact.proofs.{Fates.{by_fates, put-keeps}, Paired.places-paired}}
+use Rattle.redact.proofs.{Places.{paths-cut, paths-kept, placed}, Spelling.{accepted, framed-rule, seen-spells}, Whole.{says, left-sound, left-lines}}
+use Rattle.redact.specs.{Excerpts.LabelsSurvive, Kept.{Attribute, Verdicts, is_kept}, Told.{verdicts_of, kept_outline}, Withheld.place_of, inner.Judged.judge}
+use Rattle.redact.specs.inner.Judged.{Surrounding, root, inside, keeps_plain, shows_label, left_before, new_place, left_with, moved, is_end, put_leaf}
+use Rattle.redact.specs.inner.{Judged.{attribute_leaf, put_attributes, cut, places}, Paired.{class_places, place_by}}
 
 -- ---- how the classes of a document are marked, read from its tree
 

@@ -1,18 +1,9 @@
 -- One more line, and lines one after another.
-use Rattle.std.proofs.Common.{◌≡◌, true, false, ◌&&◌, List, [], ◌∷◌, ◌++◌, refl, sym, ◌∙◌, ap, subst}
-use Rattle.std.proofs.Math.Bool.{and-true}
-use Rattle.std.proofs.lemmas.Bool.{and_parts}
-use Rattle.iodef_tree.specs.Outline.{may_come, is_outline, is_outline_after, is_outline_back, back}
-use Rattle.iodef_tree.specs.Shown.{Shows}
-use Rattle.iodef_tree.specs.declared.line.Line.{Line}
-use Rattle.iodef_tree.specs.declared.shape.Shape.{Shape}
-use Rattle.iodef_tree.proofs.Outlines.{outline-back, back-push, outline_after-append}
-use Rattle.policy.specs.declared.standing.Standing.{Standing}
-use Rattle.policy.specs.declared.case.Case.{Case}
-use Rattle.redact.specs.Marked.{Markings, marks_of, none_noted, with_marked_line, with_marked_lines}
-use Rattle.redact.specs.Sifted.{Sifts, Knows}
-use Rattle.redact.specs.declared.marks.Marks.{Marks}
-use Rattle.redact.specs.declared.sieve.Sieve.{Sieve}
+use Rattle.std.proofs.{Common.{◌≡◌, true, false, ◌&&◌, List, [], ◌∷◌, ◌++◌, refl, sym, ◌∙◌, ap, subst}, Math.Bool.and-true, lemmas.Bool.and_parts}
+use Rattle.iodef_tree.{proofs.Outlines.{outline-back, back-push, outline_after-append}, specs.Outline.{may_come, is_outline, is_outline_after, is_outline_back}}
+use Rattle.{iodef_tree.specs.{Outline.back, Shown.Shows, declared.{line.Line.Line, shape.Shape.Shape}}, policy.specs.declared.case.Case.Case}
+use Rattle.{policy.specs.declared.standing.Standing.Standing, redact.specs.Marked.{Markings, marks_of, none_noted, with_marked_line, with_marked_lines}}
+use Rattle.redact.specs.{Sifted.{Sifts, Knows}, declared.{marks.Marks.Marks, sieve.Sieve.Sieve}}
 
 -- lines that are an outline are one with a line more exactly if that may come
 pub more-outline : (ls : List Line) (l : Line) → is_outline_back (back ls) ≡ true → is_outline (ls ++ l ∷ []) ≡ may_come (back ls) l

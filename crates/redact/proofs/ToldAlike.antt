@@ -1,35 +1,18 @@
 -- The three steps between two reports. A reader is served the same on both sides of each.
 use Rattle.std.proofs.Common.{◌≡◌, Bool, true, false, not, List, [], ◌∷◌, refl, sym, ◌∙◌, ap, subst, map, if◌then◌else◌, ◌&&◌, ◌||◌, inl, inr}
-use Rattle.std.specs.Prelude.{filter, Option, Some, None}
-use Rattle.std.specs.List.{AllByRecursion, list_any, filter_map}
-use Rattle.std.proofs.lemmas.Bool.{false≢true, true≢false, not-false, not-true, false_from_ne_true, and_left, and_right, and_parts, and_from, or_from, cond-true, cond-false}
-use Rattle.iodef_tree.specs.Text.{Bytes, Tokens, is_root, same_path, is_prefix, is_under, prefixes}
-use Rattle.iodef_tree.specs.Paths.{LocatedLine, is_class, located, has_class, below}
-use Rattle.iodef_tree.specs.Tree.{lines}
-use Rattle.iodef_tree.specs.Laws.{IsNearestClass}
-use Rattle.iodef_tree.specs.declared.line.Line.{Line}
-use Rattle.iodef_tree.proofs.Order.{same_path-true}
-use Rattle.iodef_tree.proofs.Blocks.{below-parents}
-use Rattle.iodef_tree.proofs.Nearest.{nearest-located}
-use Rattle.iodef_tree.proofs.ByPath.{has_class-root}
-use Rattle.marking.specs.Marks.{written_label}
-use Rattle.policy.specs.Permissions.{holds_for, covers}
-use Rattle.policy.specs.Gates.{refusal_of_gate}
-use Rattle.policy.specs.Verdict.{refusals_at, is_covered, is_visible}
-use Rattle.policy.specs.declared.standing.Standing.{Standing}
-use Rattle.policy.specs.declared.permission.Permission.{Permission}
-use Rattle.policy.specs.declared.gate.Gate.{Gate}
-use Rattle.policy.specs.declared.case.Case.{Case}
-use Rattle.redact.specs.Kept.{Verdicts, is_frame, is_kept}
-use Rattle.redact.specs.Withheld.{withheld_in_order}
-use Rattle.redact.specs.Told.{some_seen, verdicts_of, kept_outline, withheld_of, visible_count, is_listed, told_of, excerpt_of, finds}
-use Rattle.redact.specs.Wants.{meets_by}
-use Rattle.redact.specs.Alike.{Report, class_path, by_class, IsToldAlike, is_plain_of, is_within, is_hidden_from, HasOtherPermissions, HasOtherPlainLines, HasOtherHiddenClass, IsAlikeStep, IsMarked}
-use Rattle.iodef_tree.specs.Laws.{IsDocument}
-use Rattle.redact.proofs.Filtered.{each, each-from, any-kept, any-none, none-any, any-both, filter-within}
-use Rattle.redact.proofs.LabelsStay.{labels-stay}
-use Rattle.redact.proofs.AgreedVerdicts.{Agree, Worlds, outline-same, count-same, listed-same, found-same, pairs-same}
-use Rattle.redact.proofs.DecidedAlike.{Decides, verdicts-agree, written-same, classes-same, prefix-trans, under-prefix, prefixes-are}
+use Rattle.std.proofs.lemmas.Bool.{false≢true, true≢false, not-false, not-true, false_from_ne_true, and_left, and_right, and_parts, and_from, or_from}
+use Rattle.std.{proofs.lemmas.Bool.{cond-true, cond-false}, specs.{List.{AllByRecursion, list_any, filter_map}, Prelude.{filter, Option, Some, None}}}
+use Rattle.iodef_tree.{proofs.{Blocks.below-parents, ByPath.has_class-root, Nearest.nearest-located, Order.same_path-true}, specs.Laws.IsNearestClass}
+use Rattle.iodef_tree.specs.{Laws.IsDocument, Paths.{LocatedLine, is_class, located, has_class, below}, Text.{Bytes, Tokens, is_root, same_path, is_prefix}}
+use Rattle.{iodef_tree.specs.{Text.{is_under, prefixes}, Tree.lines, declared.line.Line.Line}, marking.specs.Marks.written_label}
+use Rattle.policy.specs.{Gates.refusal_of_gate, Permissions.{holds_for, covers}, Verdict.{refusals_at, is_covered, is_visible}, declared.case.Case.Case}
+use Rattle.{policy.specs.declared.{gate.Gate.Gate, permission.Permission.Permission, standing.Standing.Standing}, redact.proofs.AgreedVerdicts.{Agree, Worlds}}
+use Rattle.redact.proofs.{AgreedVerdicts.{outline-same, count-same, listed-same, found-same, pairs-same}, DecidedAlike.{Decides, verdicts-agree, written-same}}
+use Rattle.redact.proofs.{DecidedAlike.{classes-same, prefix-trans, under-prefix, prefixes-are}, Filtered.{each, each-from, any-kept, any-none, none-any}}
+use Rattle.redact.{proofs.{Filtered.{any-both, filter-within}, LabelsStay.labels-stay}, specs.Alike.{Report, class_path, by_class, IsToldAlike, is_plain_of}}
+use Rattle.redact.specs.{Alike.{is_within, is_hidden_from, HasOtherPermissions, HasOtherPlainLines, HasOtherHiddenClass, IsAlikeStep, IsMarked}, Kept.Verdicts}
+use Rattle.redact.specs.{Kept.{is_frame, is_kept}, Told.{some_seen, verdicts_of, kept_outline, withheld_of, visible_count, is_listed, told_of, excerpt_of}}
+use Rattle.redact.specs.{Told.finds, Wants.meets_by, Withheld.withheld_in_order}
 
 -- what is served is the same if each part is
 told-same : (s : Standing) (a b : Report) → kept_outline a.lines a.case s ≡ kept_outline b.lines b.case s → withheld_of a.lines a.case s ≡ withheld_of b.lines b.case s →

@@ -1,27 +1,14 @@
 -- The path of the newest line, after one more line.
-use Rattle.std.proofs.Common.{◌≡◌, ℕ, zero, suc, ◌+◌, ◌-◌, ◌^◌, ◌<◌, ◌≤◌, Bool, true, false, not, cond, ◌&&◌, ◌||◌, ◌⊎◌, inl, inr, List, [], ◌∷◌, ◌++◌, length, take, zero-add, refl, sym, ◌∙◌, ap, subst, arith, if◌then◌else◌, slice_get, bytes_eq, IfSome}
-use Rattle.std.specs.Prelude.{Option, Some, None, is_some}
-use Rattle.std.proofs.lemmas.Bool.{eq-eqb, ne_eqb, cases_lt}
-use Rattle.std.proofs.lemmas.Option.{slice_get_past}
-use Rattle.std.proofs.lemmas.Grind.{common_steps}
-use Rattle.iodef_tree.specs.Text.{Bytes, Tokens, bytes_lt, is_root}
-use Rattle.iodef_tree.specs.Tree.{steps, place_of}
-use Rattle.iodef_tree.specs.Paths.{LocatedLine, is_class_kind, parent_path, place_among, placed}
-use Rattle.iodef_tree.specs.Outline.{sibling, deepest, last_sibling, may_follow, may_come, back}
-use Rattle.iodef_tree.specs.declared.line.Line.{Line}
-use Rattle.iodef_tree.proofs.Order.{bytes_eq-true, bytes_lt-trans, bytes_lt-ne}
-use Rattle.iodef_tree.proofs.Outlines.{Came, came, above-line, at-line, past-line}
-use Rattle.policy.specs.Verdict.{refusal_at}
-use Rattle.policy.specs.declared.standing.Standing.{Standing}
-use Rattle.policy.specs.declared.case.Case.{Case}
-use Rattle.redact.specs.Matters.{is_refused}
-use Rattle.redact.specs.Sifted.{step_tokens, way, next_place, IsCounted, step_of, went_on, located_back, lines_of, sibling_at, is_behind, is_shutting, is_stopped, Leads, Tracks}
-use Rattle.redact.specs.declared.steps.Step.{Step}
-use Rattle.redact.proofs.Reached.{parent-old, parent-new}
-use Rattle.redact.proofs.SameLocated.{place-past, place-here}
-use Rattle.redact.proofs.Ends.{way_more}
-use Rattle.redact.proofs.Stopped.{stopped-is}
-use Rattle.redact.proofs.Sifting.{onto-push, back-lines}
+use Rattle.std.proofs.Common.{◌≡◌, ℕ, zero, suc, ◌+◌, ◌-◌, ◌^◌, ◌<◌, ◌≤◌, Bool, true, false, not, cond, ◌&&◌, ◌||◌, ◌⊎◌, inl, inr, List, [], ◌∷◌, ◌++◌, length}
+use Rattle.std.proofs.{Common.{take, zero-add, refl, sym, ◌∙◌, ap, subst, arith, if◌then◌else◌, slice_get, bytes_eq, IfSome}, lemmas.Bool.{eq-eqb, ne_eqb}}
+use Rattle.std.{proofs.lemmas.{Bool.cases_lt, Grind.common_steps, Option.slice_get_past}, specs.Prelude.{Option, Some, None, is_some}}
+use Rattle.iodef_tree.proofs.{Order.{bytes_eq-true, bytes_lt-trans, bytes_lt-ne}, Outlines.{Came, came, above-line, at-line, past-line}}
+use Rattle.iodef_tree.specs.{Outline.{sibling, deepest, last_sibling, may_follow, may_come, back}, Paths.{LocatedLine, is_class_kind, parent_path, place_among}}
+use Rattle.iodef_tree.specs.{Paths.placed, Text.{Bytes, Tokens, bytes_lt, is_root}, Tree.{steps, place_of}, declared.line.Line.Line}
+use Rattle.{policy.specs.{Verdict.refusal_at, declared.{case.Case.Case, standing.Standing.Standing}}, redact.proofs.{Ends.way_more, Reached.parent-old}}
+use Rattle.redact.proofs.{Reached.parent-new, SameLocated.{place-past, place-here}, Sifting.{onto-push, back-lines}, Stopped.stopped-is}
+use Rattle.redact.specs.{Matters.is_refused, Sifted.{step_tokens, way, next_place, IsCounted, step_of, went_on, located_back, lines_of, sibling_at, is_behind}}
+use Rattle.redact.specs.{Sifted.{is_shutting, is_stopped, Leads, Tracks}, declared.steps.Step.Step}
 
 -- ---- a list that is cut, with one element more
 

@@ -1,22 +1,11 @@
 -- A reader whom no gate of the case refuses, and a reader who sees everything.
-use Rattle.std.proofs.Common.{◌≡◌, Bool, true, false, not, ◌&&◌, ◌||◌, List, [], ◌∷◌, ◌++◌, refl, ◌∙◌, ap, arith, if◌then◌else◌}
-use Rattle.std.specs.Prelude.{Option, Some, None, filter, is_some, is_none}
-use Rattle.std.specs.List.{list_any, flat_map, filter_map, cons_option}
-use Rattle.std.proofs.lemmas.Bool.{true≢false, and_parts, or_parts, not-true}
-use Rattle.iodef_tree.specs.Text.{Tokens, same_path, prefixes}
-use Rattle.iodef_tree.specs.Paths.{LocatedLine}
-use Rattle.marking.specs.Label.{is_at_most}
-use Rattle.marking.specs.Marks.{label_at}
-use Rattle.marking.specs.declared.label.Handling.{Handling}
-use Rattle.marking.specs.declared.label.Handling.TheVariants.{Red}
-use Rattle.policy.specs.Clearance.{clearance_of}
-use Rattle.policy.specs.Gates.{refusal_of_gate}
-use Rattle.policy.specs.Verdict.{first_of, refusals_at, refusal_at, handling_for, is_cleared_for, is_covered, is_visible}
-use Rattle.policy.specs.declared.rule.Rule.{Rule}
-use Rattle.policy.specs.declared.gate.Gate.{Gate}
-use Rattle.policy.specs.declared.standing.Standing.{Standing}
-use Rattle.policy.specs.declared.case.Case.{Case}
-use Rattle.redact.specs.inner.Seeking.{some_refuses, sees_all}
+use Rattle.std.proofs.{Common.{◌≡◌, Bool, true, false, not, ◌&&◌, ◌||◌, List, [], ◌∷◌, ◌++◌, refl, ◌∙◌, ap, arith, if◌then◌else◌}, lemmas.Bool.true≢false}
+use Rattle.std.{proofs.lemmas.Bool.{and_parts, or_parts, not-true}, specs.{List.{list_any, flat_map, filter_map, cons_option}, Prelude.{Option, Some, None}}}
+use Rattle.{std.specs.Prelude.{filter, is_some, is_none}, iodef_tree.specs.{Paths.LocatedLine, Text.{Tokens, same_path, prefixes}}}
+use Rattle.{marking.specs.{Label.is_at_most, Marks.label_at, declared.label.Handling.{Handling, TheVariants.Red}}, policy.specs.Clearance.clearance_of}
+use Rattle.policy.specs.{Gates.refusal_of_gate, Verdict.{first_of, refusals_at, refusal_at, handling_for, is_cleared_for, is_covered, is_visible}}
+use Rattle.{policy.specs.declared.{case.Case.Case, gate.Gate.Gate, rule.Rule.Rule, standing.Standing.Standing}, redact.specs.inner.Seeking.some_refuses}
+use Rattle.redact.specs.inner.Seeking.{sees_all}
 
 passes-none : (s : Standing) (f : Gate → Bool) (gs : List Gate) → list_any (λ g. is_some (refusal_of_gate s g)) gs ≡ false → filter_map (refusal_of_gate s) (filter f gs) ≡ []
 passes-none s f [] h = refl

@@ -1,37 +1,16 @@
 -- The pass over a whole document: what it keeps, lists and counts is as the definitions say.
-use Rattle.std.proofs.Common.{◌≡◌, ◌<◌, ◌^◌, ℕ, suc, ◌+◌, false, true, Bool, List, [], ◌∷◌, ◌++◌, refl, sym, ◌∙◌, ap, append-nil, append_assoc, arith, decimal, Option, Some, None, is_some, count_by}
-use Rattle.iodef_tree.specs.Text.{Bytes, Tokens, same_path}
-use Rattle.iodef_tree.specs.Tree.{Forest, end, leaf, branch, steps, lines}
-use Rattle.iodef_tree.specs.Paths.{LocatedLine, has_class, located, below}
-use Rattle.iodef_tree.specs.Sound.{IsSound}
-use Rattle.iodef_tree.specs.Walk.{walk, AreBlocks}
-use Rattle.iodef_tree.proofs.Blocks.{blocks-located, below-parents}
-use Rattle.iodef_tree.proofs.Located.{located-lines}
-use Rattle.iodef_tree.proofs.Siblings.{siblings-all, walk-all}
-use Rattle.marking.specs.Label.{LabelValue}
-use Rattle.marking.specs.Marks.{first_bad_marking, written_label, label_at}
-use Rattle.marking.specs.Members.{spelled_in}
-use Rattle.marking.proofs.Bad.{first_bad}
-use Rattle.marking.proofs.Placed.{ArePlaced, no_class, placed as classes-placed}
-use Rattle.marking.proofs.Written.{AreUnderParents, written-block}
-use Rattle.policy.specs.Inherited.{inherited_at, enter_class, at_root}
-use Rattle.policy.proofs.Steps.{enter_class-at, enter_array-at, at_root-is}
-use Rattle.policy.specs.declared.standing.Standing.{Standing}
-use Rattle.policy.specs.declared.case.Case.{Case}
-use Rattle.redact.specs.Kept.{Verdicts, kept_lines}
-use Rattle.redact.specs.Withheld.{Withheld, is_among, withheld_pairs, withheld_in_order}
-use Rattle.redact.specs.inner.Paired.{place_by, class_places}
-use Rattle.redact.proofs.Paired.{pairs-paired}
-use Rattle.redact.specs.inner.Judged.{Judged, plain, judge, root, cut, visible_classes, withheld_below}
-use Rattle.redact.specs.Told.{verdicts_of, kept_outline, withheld_of, visible_count}
-use Rattle.redact.specs.inner.Pass.{enter, pass}
-use Rattle.redact.proofs.Keeping.{is_seen, any_seen, SaysBelow}
-use Rattle.redact.proofs.Ordered.{trails-none, ordered-cut}
-use Rattle.redact.proofs.Counts.{within-cut, count-walk, few-seen}
-use Rattle.redact.proofs.Places.{kept-lines, placed}
-use Rattle.redact.proofs.Withheld.{withheld-walk}
-use Rattle.redact.proofs.InOrder.{same_in_order}
-use Rattle.redact.proofs.Spelling.{label-names, labels-fit}
+use Rattle.std.proofs.Common.{◌≡◌, ◌<◌, ◌^◌, ℕ, suc, ◌+◌, false, true, Bool, List, [], ◌∷◌, ◌++◌, refl, sym, ◌∙◌, ap, append-nil, append_assoc, arith, decimal}
+use Rattle.{std.proofs.Common.{Option, Some, None, is_some, count_by}, iodef_tree.proofs.{Blocks.{blocks-located, below-parents}, Located.located-lines}}
+use Rattle.iodef_tree.{proofs.Siblings.{siblings-all, walk-all}, specs.{Paths.{LocatedLine, has_class, located, below}, Sound.IsSound, Text.{Bytes, Tokens}}}
+use Rattle.{iodef_tree.specs.{Text.same_path, Tree.{Forest, end, leaf, branch, steps, lines}, Walk.{walk, AreBlocks}}, marking.proofs.Bad.first_bad}
+use Rattle.marking.{proofs.{Placed.{ArePlaced, no_class, placed as classes-placed}, Written.{AreUnderParents, written-block}}, specs.Label.LabelValue}
+use Rattle.{marking.specs.{Marks.{first_bad_marking, written_label, label_at}, Members.spelled_in}, policy.proofs.Steps.{enter_class-at, enter_array-at}}
+use Rattle.policy.{proofs.Steps.at_root-is, specs.{Inherited.{inherited_at, enter_class, at_root}, declared.{case.Case.Case, standing.Standing.Standing}}}
+use Rattle.redact.proofs.{Counts.{within-cut, count-walk, few-seen}, InOrder.same_in_order, Keeping.{is_seen, any_seen, SaysBelow}, Ordered.trails-none}
+use Rattle.redact.proofs.{Ordered.ordered-cut, Paired.pairs-paired, Places.{kept-lines, placed}, Spelling.{label-names, labels-fit}, Withheld.withheld-walk}
+use Rattle.redact.specs.{Kept.{Verdicts, kept_lines}, Told.{verdicts_of, kept_outline, withheld_of, visible_count}, Withheld.{Withheld, is_among}}
+use Rattle.redact.specs.{Withheld.{withheld_pairs, withheld_in_order}, inner.Judged.{Judged, plain, judge, root, cut, visible_classes, withheld_below}}
+use Rattle.redact.specs.inner.{Paired.{place_by, class_places}, Pass.{enter, pass}}
 
 -- ---- each class is judged as the definitions judge its path
 

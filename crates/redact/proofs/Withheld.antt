@@ -1,20 +1,10 @@
 -- What the pass lists as withheld is what the definitions say.
 use Rattle.std.proofs.Common.{◌≡◌, ℕ, suc, Bool, true, false, not, List, [], ◌∷◌, ◌++◌, refl, sym, ◌∙◌, ap, subst, if◌then◌else◌, ◌&&◌, Option, Some}
-use Rattle.std.specs.List.{AllByRecursion}
-use Rattle.std.proofs.lemmas.Bool.{or_parts}
-use Rattle.std.proofs.lemmas.List.Concat.{flat_map-append}
-use Rattle.std.proofs.lemmas.List.Folds.{list_any-append}
-use Rattle.iodef_tree.specs.Text.{Tokens}
-use Rattle.iodef_tree.specs.Paths.{LocatedLine}
-use Rattle.iodef_tree.specs.Tree.{Forest, end, leaf, branch, steps}
-use Rattle.iodef_tree.specs.Walk.{walk, leaf_entry}
-use Rattle.redact.specs.Kept.{Verdicts, is_wholly_hidden}
-use Rattle.redact.specs.Withheld.{Withheld, told_at_place, withheld_at, withheld_among}
-use Rattle.redact.specs.inner.Judged.{judge, inside, keeps_plain, home_at, left_before, new_place, left_with, is_end, cut, withheld_below, places}
-use Rattle.marking.proofs.Bad.{no_class-kind}
-use Rattle.marking.proofs.Marked.{not_root}
-use Rattle.redact.proofs.Fates.{by_verdict}
-use Rattle.redact.proofs.Keeping.{home-class, is_seen, any_seen, SaysBelow, ends}
+use Rattle.std.{proofs.lemmas.{Bool.or_parts, List.{Concat.flat_map-append, Folds.list_any-append}}, specs.List.AllByRecursion}
+use Rattle.iodef_tree.specs.{Paths.LocatedLine, Text.Tokens, Tree.{Forest, end, leaf, branch, steps}, Walk.{walk, leaf_entry}}
+use Rattle.{marking.proofs.{Bad.no_class-kind, Marked.not_root}, redact.proofs.{Fates.by_verdict, Keeping.{home-class, is_seen, any_seen, SaysBelow, ends}}}
+use Rattle.redact.specs.{Kept.{Verdicts, is_wholly_hidden}, Withheld.{Withheld, told_at_place, withheld_at, withheld_among}, inner.Judged.{judge, inside}}
+use Rattle.redact.specs.inner.Judged.{keeps_plain, home_at, left_before, new_place, left_with, is_end, cut, withheld_below, places}
 
 module _ (v : Verdicts) (place : Tokens → Option Tokens) where
   -- a place of the pass is the place of the definitions

@@ -3,8 +3,8 @@ use Rattle.std.specs.Prelude.{ℕ, suc, Bool, false, ◌&&◌, ◌||◌, not, Li
 use Rattle.iodef_tree.specs.Text.{Bytes, Tokens, bytes_lt, is_root}
 use Rattle.iodef_tree.specs.Paths.{LocatedLine, is_class}
 use Rattle.iodef_tree.specs.declared.line.Line.{Line}
-use Rattle.iodef_tree.specs.declared.line.Kind.TheVariants as kind
 use Rattle.policy.specs.declared.rule.Rule.{Rule}
+use Rattle.iodef_tree.specs.declared.line.Kind.TheVariants as kind
 
 -- a plain member that is a text, by its name and its text
 abbrev pub Attribute : Type 0

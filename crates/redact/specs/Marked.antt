@@ -9,14 +9,14 @@ use Rattle.iodef_tree.specs.Outline.{is_outline}
 use Rattle.marking.specs.Marks.{first_bad_marking}
 use Rattle.iodef_tree.specs.declared.line.Line.{Line}
 use Rattle.iodef_tree.specs.declared.line.Kind.{Kind}
-use Rattle.iodef_tree.specs.declared.line.Kind.TheVariants as kind
 use Rattle.marking.specs.Label.{spelled}
 use Rattle.redact.specs.declared.marks.Restriction.{Restriction}
-use Rattle.redact.specs.declared.marks.Restriction.TheVariants as restriction
 use Rattle.redact.specs.declared.marks.Extension.{Extension}
-use Rattle.redact.specs.declared.marks.Extension.TheVariants as extension
 use Rattle.redact.specs.declared.marks.Marking.{Marking}
 use Rattle.redact.specs.declared.marks.Marks.{Marks}
+use Rattle.iodef_tree.specs.declared.line.Kind.TheVariants as kind
+use Rattle.redact.specs.declared.marks.Restriction.TheVariants as restriction
+use Rattle.redact.specs.declared.marks.Extension.TheVariants as extension
 
 -- what a text is as `restriction`: it spells a label by itself, or with a text beside it, or not at all
 abbrev pub brief_text : Bytes → Restriction

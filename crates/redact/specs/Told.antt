@@ -6,7 +6,6 @@ use Rattle.iodef_tree.specs.Text.{Bytes, Tokens, same_path}
 use Rattle.iodef_tree.specs.Paths.{LocatedLine, is_class, located, below}
 use Rattle.iodef_tree.specs.declared.line.Line.{Line}
 use Rattle.iodef_tree.specs.declared.line.Kind.{Kind}
-use Rattle.iodef_tree.specs.declared.line.Kind.TheVariants as kind
 use Rattle.marking.specs.Label.{LabelValue, extended, restriction_of}
 use Rattle.marking.specs.Marks.{written_label, label_at}
 use Rattle.policy.specs.Verdict.{is_visible, hiding_rule}
@@ -14,6 +13,7 @@ use Rattle.policy.specs.declared.standing.Standing.{Standing}
 use Rattle.policy.specs.declared.case.Case.{Case}
 use Rattle.redact.specs.Kept.{Attribute, Verdicts, kept_lines}
 use Rattle.redact.specs.Withheld.{Withheld, place_of, withheld_pairs, withheld_in_order}
+use Rattle.iodef_tree.specs.declared.line.Kind.TheVariants as kind
 
 -- the value of `ext-restriction`, for an extended label (RFC 7970 section 5.1.1)
 abbrev pub ext_restriction_of : LabelValue → Option Bytes

@@ -1,5 +1,6 @@
 -- What is withheld: the places in the excerpt, and the rules.
-use Rattle.std.specs.Prelude.{Bool, ◌&&◌, not, List, [], ◌∷◌, ◌++◌, Option, Some, None, option_and_then, slice_get, filter, position, map, if◌then◌else◌, Contains}
+use Rattle.std.specs.Prelude.{Bool, ◌&&◌, not, List, [], ◌∷◌, ◌++◌, Option, Some, None, option_and_then, slice_get, filter, position, map, if◌then◌else◌}
+use Rattle.std.specs.Prelude.{Contains}
 use Rattle.std.specs.List.{flat_map, list_any}
 use Rattle.std.specs.List.Sorted.{IsStrictlySortedBy}
 use Rattle.std.specs.declared.cmp.Ordering.{Ordering}

@@ -2,7 +2,8 @@
 //! program between. Each example is the contract of a function that does nothing.
 #![tactic(auto, unfolding(crate::proofs::Computed::computed))]
 
-ghost use Rattle.redact.specs.Examples.{RedEventIsTakenOut, FrameIsBare, FrameInsideIsBare, SourceGetsAll, LabelIsAdded, ArraysCloseUp, GateIsTold, SearchFindsWhatIsSeen, AddedLabelIsNotFound, NothingIsSeen};
+ghost use Rattle.redact.specs.Examples.{RedEventIsTakenOut, FrameIsBare, FrameInsideIsBare, SourceGetsAll, LabelIsAdded, ArraysCloseUp, GateIsTold};
+ghost use Rattle.redact.specs.Examples.{SearchFindsWhatIsSeen, AddedLabelIsNotFound, NothingIsSeen};
 
 /// A red class is taken out with all that it holds, and its rule is listed at its parent.
 pub fn red_event_is_taken_out()

@@ -3,7 +3,8 @@
 
 ghost use Rattle.std.specs.Prelude.{◌≡◌, OnOk};
 ghost use Rattle.std.specs.List.{list_all};
-ghost use Rattle.redact.specs.Marked.{brief_text, brief, extension_brief, no_marking, held_with, marks_of, none_noted, closed_to, innermost_held_with, with_opened_marking, with_marked_line, is_accepted};
+ghost use Rattle.redact.specs.Marked.{brief_text, brief, extension_brief, no_marking, held_with, marks_of, none_noted, closed_to, innermost_held_with};
+ghost use Rattle.redact.specs.Marked.{with_opened_marking, with_marked_line, is_accepted};
 ghost use Rattle.redact.specs.Marked as spec;
 
 use iodef_tree::{Kind, Line};

@@ -10,7 +10,8 @@ ghost use Rattle.redact.specs.declared.want.Want.{Want as TheWant};
 ghost use Rattle.marking.specs.Label.{marking_of};
 ghost use Rattle.policy.specs.Verdict.{is_cleared_for};
 ghost use Rattle.redact.specs.Told.{is_hit};
-ghost use Rattle.redact.specs.inner.Seeking.{sight_of, is_everything, is_cleared_sight, beside_by, beside_with, is_cleared_text, is_cleared_if, shows_class, innermost_holding, with_opened_class, open_with_line, is_settled, IsKnown, TakesTo};
+ghost use Rattle.redact.specs.inner.Seeking.{sight_of, is_everything, is_cleared_sight, beside_by, beside_with, is_cleared_text, is_cleared_if, shows_class};
+ghost use Rattle.redact.specs.inner.Seeking.{innermost_holding, with_opened_class, open_with_line, is_settled, IsKnown, TakesTo};
 ghost use Rattle.redact.specs.inner.Seeking as spec;
 ghost use Rattle.redact.specs.Sifted.{way, IsCounted, went_on};
 

@@ -1,7 +1,8 @@
 //! One pass down a document, which carries what is inherited from above. A class that isn't visible is decided when it
 //! is known what is kept below it.
 
-ghost use Rattle.std.specs.Prelude.{◌≡◌, ◌≤◌, ◌∷◌, ◌++◌, [], IfOk, OnOk, IfSome, length, take, map, option_map, is_none, ◌&&◌, ◌+◌, not, true, false, if◌then◌else◌, Some, None};
+ghost use Rattle.std.specs.Prelude.{◌≡◌, ◌≤◌, ◌∷◌, ◌++◌, [], IfOk, OnOk, IfSome, length, take, map, option_map, is_none, ◌&&◌, ◌+◌, not, true, false};
+ghost use Rattle.std.specs.Prelude.{if◌then◌else◌, Some, None};
 ghost use Rattle.iodef_tree.specs.View.{forest, bodies, body};
 ghost use Rattle.marking.specs.Members.{spelled_in};
 ghost use Rattle.marking.specs.Label.{marking_of};
@@ -17,7 +18,8 @@ ghost use Rattle.std.specs.List.{AllByRecursion};
 ghost use Rattle.iodef_tree.specs.Filled.{IsFilled, IsMemberFilled, IsItemFilled};
 ghost use Rattle.redact.specs.inner.Tokens.{token_of, path_of};
 ghost use Rattle.redact.specs.Withheld.{at_place};
-ghost use Rattle.redact.specs.inner.Left.{home_of, class_left, class_told, class_count, left_at, told_at, count_at, left_items, told_items, count_items, left_member, told_member, count_member, Goes, Tells, Leaves};
+ghost use Rattle.redact.specs.inner.Left.{home_of, class_left, class_told, class_count, left_at, told_at, count_at, left_items, told_items, count_items};
+ghost use Rattle.redact.specs.inner.Left.{left_member, told_member, count_member, Goes, Tells, Leaves};
 
 use crate::attributes::put_label;
 use crate::note::{Note, add};

@@ -1,16 +1,8 @@
 -- What is told of several views, one view more; and what is delivered in all.
-use Rattle.std.proofs.Common.{◌≡◌, refl, sym, ap, ap₂, ◌∙◌, subst, ℕ, zero, suc, ◌+◌, ◌≤◌, ◌<◌, List, [], ◌∷◌, ◌++◌, length, take, drop, get_or, set, map, Ok, Err, IfOk, IfErr, append-nil, append_assoc, arith}
-use Rattle.std.specs.List.{flat_map}
-use Rattle.std.specs.declared.alloc.Global.{Global}
-use Rattle.std.specs.declared.vec.Vec.{Vec}
-use Rattle.redaction.specs.Answers.{text_by, texts_by}
-use Rattle.redaction.specs.Faults.{fault_number}
-use Rattle.redaction.specs.Outcome.{Read, YieldsAs}
-use Rattle.redaction.specs.declared.fault.Fault.{Fault}
-use Rattle.redaction.specs.declared.fault.Fault.TheVariants.{NoMemory}
-use Rattle.redact_c.specs.Delivery.{Placed, DeliversEach, number_for, text_of, told, told_each, refused}
-use Rattle.redact_c.specs.declared.delivery.Answers.{Answers}
-use Rattle.redact_c.specs.declared.delivery.Asked.{Asked}
+use Rattle.std.proofs.Common.{◌≡◌, refl, sym, ap, ap₂, ◌∙◌, subst, ℕ, zero, suc, ◌+◌, ◌≤◌, ◌<◌, List, [], ◌∷◌, ◌++◌, length, take, drop, get_or, set, map, Ok}
+use Rattle.std.{proofs.Common.{Err, IfOk, IfErr, append-nil, append_assoc, arith}, specs.{List.flat_map, declared.{alloc.Global.Global, vec.Vec.Vec}}}
+use Rattle.redaction.specs.{Answers.{text_by, texts_by}, Faults.fault_number, Outcome.{Read, YieldsAs}, declared.fault.Fault.{Fault, TheVariants.NoMemory}}
+use Rattle.redact_c.specs.{Delivery.{Placed, DeliversEach, number_for, text_of, told, told_each, refused}, declared.delivery.{Answers.Answers, Asked.Asked}}
 
 -- ---- one view more
 

@@ -1,10 +1,7 @@
 -- What `clap` reads of an option and of a command that are built step by step.
 use Rattle.std.proofs.Common.{◌≡◌, ℕ, ◌==◌, Bool, true, false, not, ◌&&◌, List, [], ◌∷◌, ◌++◌, length, Result, Ok, Err, IfOk, refl, sym, ◌∙◌, ap, ap₂, Bor}
-use Rattle.std.proofs.Math.Dec.{eqb-suc-zero}
-use Rattle.clap.specs.Words.{App, Rule, AddsArg, AddsConflicts, AddsRequiredUnless, AddsSubcommand, rule_of, with_rule, with_subcommand}
-use Rattle.clap.specs.declared.builder.Arg.{Arg}
-use Rattle.clap.specs.declared.builder.Command.{Command}
-use Rattle.redact_program.specs.Words.{IsArg, IsCommand, bound}
+use Rattle.{std.proofs.Math.Dec.eqb-suc-zero, clap.specs.Words.{App, Rule, AddsArg, AddsConflicts, AddsRequiredUnless, AddsSubcommand, rule_of, with_rule}}
+use Rattle.{clap.specs.{Words.with_subcommand, declared.builder.{Arg.Arg, Command.Command}}, redact_program.specs.Words.{IsArg, IsCommand, bound}}
 
 one_more : {X : Type 0} (xs : List X) (x : X) → (length (xs ++ x ∷ []) == 0) ≡ false
 one_more [] x = refl

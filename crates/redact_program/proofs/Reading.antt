@@ -1,8 +1,5 @@
 -- Reads, one after another.
-use Rattle.std.proofs.Common.{Option, ◌++◌, subst, sym}
-use Rattle.std.specs.Io.KnownBytes.{Consumes}
-use Rattle.std.proofs.KnownBytes.{Consumes-trans}
-use Rattle.iodef_tree.specs.Text.{Bytes}
+use Rattle.{std.{proofs.{Common.{Option, ◌++◌, subst, sym}, KnownBytes.Consumes-trans}, specs.Io.KnownBytes.Consumes}, iodef_tree.specs.Text.Bytes}
 use Rattle.redact_program.specs.Streams.{Takes, Extends}
 
 pub takes_more : (a b c : Option Bytes) (bytes : Bytes) → Consumes a b bytes → Takes b c → Takes a c

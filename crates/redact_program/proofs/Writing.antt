@@ -1,9 +1,6 @@
 -- Writes, one after another.
-use Rattle.std.proofs.Common.{◌≡◌, ◌++◌, Option, Result, Ok, Err, sym, ◌∙◌, ap, append_assoc}
-use Rattle.std.specs.Io.KnownBytes.{Appends, Keeps}
-use Rattle.std.proofs.KnownBytes.{Appends-trans, Appends-kept}
-use Rattle.iodef_tree.specs.Text.{Bytes}
-use Rattle.redact_program.specs.Streams.{AppendsSome, Writes}
+use Rattle.std.proofs.{Common.{◌≡◌, ◌++◌, Option, Result, Ok, Err, sym, ◌∙◌, ap, append_assoc}, KnownBytes.{Appends-trans, Appends-kept}}
+use Rattle.{std.specs.Io.KnownBytes.{Appends, Keeps}, iodef_tree.specs.Text.Bytes, redact_program.specs.Streams.{AppendsSome, Writes}}
 
 -- what is written so far, and what is left of the text
 pub goes_on : (a b c : Option Bytes) (text done rest piece left : Bytes) → Appends a b done → text ≡ done ++ rest

@@ -12,10 +12,10 @@ use Rattle.redact_program.specs.declared.status.Status.TheVariants.{Done, NotFou
 use Rattle.redact_program.specs.declared.words.Whom.{Whom}
 use Rattle.redact_program.specs.declared.words.Whom.TheVariants.{Cleared, Described}
 use Rattle.redact_program.specs.declared.words.Form.{Form}
-use Rattle.redact_program.specs.declared.words.Form.TheVariants as form
 use Rattle.redact_program.specs.declared.words.IncidentId.{IncidentId}
 use Rattle.redact_program.specs.declared.words.Asked.{Asked}
 use Rattle.redact_program.specs.declared.words.Asked.TheVariants.{Excerpt, Explain, Finds, Marks}
+use Rattle.redact_program.specs.declared.words.Form.TheVariants as form
 
 -- the beginning of the short form of a clearance: with the place of the Incident
 abbrev pub open_form : Bytes → ℕ → Bytes

@@ -1,5 +1,6 @@
 -- What a start prints: for what its words ask, and what the view's file and standard input give.
-use Rattle.std.specs.Prelude.{◌≡◌, ◌⊎◌, [], ◌∷◌, ◌++◌, ◌==◌, Bool, true, false, not, Option, Some, None, Result, Ok, Err, codes, decimal, length, take, drop, if◌then◌else◌}
+use Rattle.std.specs.Prelude.{◌≡◌, ◌⊎◌, [], ◌∷◌, ◌++◌, ◌==◌, Bool, true, false, not, Option, Some, None, Result, Ok, Err, codes, decimal, length, take, drop}
+use Rattle.std.specs.Prelude.{if◌then◌else◌}
 use Rattle.std.specs.Str.{bytes_eq}
 use Rattle.input_hints.specs.Marks.{mark_of}
 use Rattle.iodef_tree.specs.Text.{Bytes}
@@ -20,9 +21,9 @@ use Rattle.redact_program.specs.declared.trouble.Trouble.{Trouble}
 use Rattle.redact_program.specs.declared.trouble.Trouble.TheVariants.{NoAnswer}
 use Rattle.redact_program.specs.declared.words.Whom.{Whom}
 use Rattle.redact_program.specs.declared.words.Whom.TheVariants.{Cleared, Described}
-use Rattle.redact_program.specs.declared.words.Form.TheVariants as form
 use Rattle.redact_program.specs.declared.words.Asked.{Asked}
 use Rattle.redact_program.specs.declared.words.Asked.TheVariants.{Excerpt, Explain, Finds, Marks}
+use Rattle.redact_program.specs.declared.words.Form.TheVariants as form
 
 -- an answer with what else is said of it, or why there is none with its place: a JSON pointer into the view or the
 -- report, or an empty text

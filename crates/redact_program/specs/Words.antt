@@ -1,10 +1,10 @@
 -- What the words of the command line ask for. The options and their values are found by `clap`.
-use Rattle.std.specs.Prelude.{◌≡◌, ◌≢◌, ◌<◌, ◌^◌, ℕ, List, [], ◌∷◌, true, false, Option, Some, None, option_copied, unwrap_or, is_some, IfSome, IsSomeAnd, IsTrue, codes, pos}
+use Rattle.std.specs.Prelude.{◌≡◌, ◌≢◌, ◌<◌, ◌^◌, ℕ, List, [], ◌∷◌, true, false, Option, Some, None, option_copied, unwrap_or, is_some, IfSome, IsSomeAnd}
+use Rattle.std.specs.Prelude.{IsTrue, codes, pos}
 use Rattle.std.specs.Str.Parse.{IsNumeral, digits_value, without_leading_plus}
-use Rattle.clap.specs.Words.{App, Row, Rule, Text, first_of, new_app, new_rule, subcommand_of, with_rule, with_subcommand}
+use Rattle.clap.specs.Words.{App, Row, Rule, Text, first_of, new_app, new_rule, subcommand_of, with_rule, with_subcommand, app_of, rule_of}
 use Rattle.clap.specs.declared.builder.ArgAction.TheVariants.{SetTrue}
 use Rattle.clap.specs.declared.builder.ValueParser.TheVariants.{Signed}
-use Rattle.clap.specs.Words.{app_of, rule_of}
 use Rattle.clap.specs.declared.builder.Arg.{Arg}
 use Rattle.clap.specs.declared.builder.Command.{Command}
 use Rattle.redaction.specs.Described.{handling_of_name}
@@ -13,10 +13,10 @@ use Rattle.redact_program.specs.Outcomes.{whom_asked}
 use Rattle.redact_program.specs.declared.words.Whom.{Whom}
 use Rattle.redact_program.specs.declared.words.Whom.TheVariants.{Cleared, Described}
 use Rattle.redact_program.specs.declared.words.Form.{Form}
-use Rattle.redact_program.specs.declared.words.Form.TheVariants as form
 use Rattle.redact_program.specs.declared.words.IncidentId.{IncidentId}
 use Rattle.redact_program.specs.declared.words.Asked.{Asked}
 use Rattle.redact_program.specs.declared.words.Asked.TheVariants.{Excerpt, Explain, Finds, Marks}
+use Rattle.redact_program.specs.declared.words.Form.TheVariants as form
 
 -- ---- the command line, as `clap` reads it
 

@@ -1,24 +1,10 @@
 -- What the definitions say from the documents of a report on is what Asked and Answers say of the report.
 use Rattle.std.proofs.Common.{◌≡◌, ◌≢◌, ◌∙◌, refl, sym, ap, ap₂, subst, ℕ, List, [], ◌∷◌, map, Bool, true, false, Option, Some, None, Ok, Err, IfOk, IfErr}
-use Rattle.std.specs.Prelude.{slice_get}
-use Rattle.std.specs.Borrow.{Bor}
-use Rattle.std.specs.Result.{IsErrAnd}
-use Rattle.std.specs.declared.alloc.Global.{Global}
-use Rattle.std.specs.declared.vec.Vec.{Vec}
-use Rattle.serde_json.specs.Written.{compact_text}
-use Rattle.iodef_tree.specs.Text.{Bytes}
-use Rattle.iodef_tree.specs.Paths.{located}
-use Rattle.iodef_tree.specs.declared.line.Line.{Line}
-use Rattle.redact.specs.Excerpts.{told_by}
-use Rattle.redact.specs.declared.excerpts.Excerpt.{Excerpt}
-use Rattle.redaction.specs.Answers.{excerpt_object, told_by_view, excerpt_text, excerpt_texts, texts_by}
-use Rattle.redaction.specs.Asked.{case_stands, reported, incident_of, asked_of}
-use Rattle.redaction.specs.Described.{described}
-use Rattle.redaction.specs.Outcome.{Read, ◌>>=◌, or_fault, require, YieldsAs}
-use Rattle.redaction.specs.inner.Among.{told_among, text_among}
-use Rattle.redaction.specs.declared.view.View.{View}
-use Rattle.redaction.specs.declared.fault.Fault.{Fault}
-use Rattle.redaction.specs.declared.fault.Fault.TheVariants.{NoMemory, NoIncident, NoClass}
+use Rattle.{std.specs.{Borrow.Bor, Prelude.slice_get, Result.IsErrAnd, declared.{alloc.Global.Global, vec.Vec.Vec}}, serde_json.specs.Written.compact_text}
+use Rattle.{iodef_tree.specs.{Paths.located, Text.Bytes, declared.line.Line.Line}, redact.specs.{Excerpts.told_by, declared.excerpts.Excerpt.Excerpt}}
+use Rattle.redaction.specs.{Answers.{excerpt_object, told_by_view, excerpt_text, excerpt_texts, texts_by}, Asked.{case_stands, reported, incident_of, asked_of}}
+use Rattle.redaction.specs.{Described.described, Outcome.{Read, ◌>>=◌, or_fault, require, YieldsAs}, declared.fault.Fault.{Fault, TheVariants.NoMemory}}
+use Rattle.redaction.specs.{declared.{fault.Fault.TheVariants.{NoIncident, NoClass}, view.View.View}, inner.Among.{told_among, text_among}}
 
 -- two readings go on alike behind the same reading
 pub goes-on : {A B : Type 0} (r : Read A) (f g : A → Read B) → ((x : A) → f x ≡ g x) → (r >>= f) ≡ (r >>= g)

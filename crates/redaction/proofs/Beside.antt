@@ -1,10 +1,9 @@
 -- Two answers side by side, of which either may be want of memory.
-use Rattle.std.proofs.Common.{◌≡◌, ◌≢◌, Ok, Err, refl, ap, ap₂, ◌∙◌}
-use Rattle.redaction.specs.Faults.{earlier}
-use Rattle.redaction.specs.Outcome.{Read, Yields, both}
-use Rattle.redaction.specs.Readings.{Reading, Reads, without_place}
-use Rattle.redaction.specs.declared.fault.Fault.{Fault}
-use Rattle.redaction.specs.declared.fault.Fault.TheVariants.{NoMemory, ViewNotJson, DoubledMember, NotObject, UnknownMember, MissingMember, WrongKind, OutOfRange, BadPointer, BadMoment, SourceUnsaid, NotUtf8, NotJson, NotDocument, Missing, NotWhole, NestedClass, TooDeep, TooManyLines, BadMarking, NoIncident, NoClass, NothingVisible, NotReadable, IdMissing}
+use Rattle.{std.proofs.Common.{◌≡◌, ◌≢◌, Ok, Err, refl, ap, ap₂, ◌∙◌}, redaction.specs.{Faults.earlier, Outcome.{Read, Yields, both}, Readings.Reading}}
+use Rattle.redaction.specs.{Readings.{Reads, without_place}, declared.fault.Fault.{Fault, TheVariants.{NoMemory, ViewNotJson, DoubledMember, NotObject}}}
+use Rattle.redaction.specs.declared.fault.Fault.TheVariants.{UnknownMember, MissingMember, WrongKind, OutOfRange, BadPointer, BadMoment, SourceUnsaid, NotUtf8}
+use Rattle.redaction.specs.declared.fault.Fault.TheVariants.{NotJson, NotDocument, Missing, NotWhole, NestedClass, TooDeep, TooManyLines, BadMarking}
+use Rattle.redaction.specs.declared.fault.Fault.TheVariants.{NoIncident, NoClass, NothingVisible, NotReadable, IdMissing}
 
 -- want of memory is the first of all faults
 first-left : (f : Fault) → earlier NoMemory f ≡ NoMemory

@@ -1,42 +1,21 @@
 -- The document of an excerpt is read exactly if its outline is readable: it is that of a sound tree, and has one
 -- Incident at most.
-use Rattle.std.proofs.Common.{◌≡◌, ◌≤◌, ℕ, suc, ◌+◌, cond, if◌then◌else◌, Bool, true, false, ◌||◌, ◌==◌, List, [], ◌∷◌, map, filter, length, refl, sym, ap, ◌∙◌, subst, arith, true≢false, Option, Some, None, Ok, Err, nat_lt, bytes_eq, codes, Ordering, Less, Equal, Greater, is_lt, is_eq}
-use Rattle.std.specs.List.{AllByRecursion}
-use Rattle.std.specs.Ordering.{nat_cmp, match_ordering}
-use Rattle.std.specs.Cmp.Lexicographic.{slice_cmp}
-use Rattle.std.specs.Str.{is_utf8}
-use Rattle.std.proofs.lemmas.Bool.{and_right, cond_both}
-use Rattle.std.proofs.lemmas.Cmp.{nat_list_cmp_total, tied_itself}
-use Rattle.std.proofs.lemmas.Map.Text.{is_eq-slice_cmp}
+use Rattle.std.proofs.Common.{◌≡◌, ◌≤◌, ℕ, suc, ◌+◌, cond, if◌then◌else◌, Bool, true, false, ◌||◌, ◌==◌, List, [], ◌∷◌, map, filter, length, refl, sym, ap, ◌∙◌}
+use Rattle.std.proofs.Common.{subst, arith, true≢false, Option, Some, None, Ok, Err, nat_lt, bytes_eq, codes, Ordering, Less, Equal, Greater, is_lt, is_eq}
+use Rattle.std.{proofs.lemmas.{Bool.{and_right, cond_both}, Cmp.{nat_list_cmp_total, tied_itself}, Map.Text.is_eq-slice_cmp}, specs.Cmp.Lexicographic.slice_cmp}
+use Rattle.{std.specs.{List.AllByRecursion, Ordering.{nat_cmp, match_ordering}, Str.is_utf8}, serde_json.specs.{Data.{Data, put}, Find.as_object, Read.read}}
+use Rattle.iodef_tree.proofs.{Fitness.bind-ok, Normal.{IsNormal, read-normal}, Order.{bytes_eq-true, bytes_lt-ne_back, bytes_lt-trans, is_false}}
+use Rattle.iodef_tree.specs.{Paths.{LocatedLine, located_after, located}, Reading.{◌>>=◌, or_fault, incidents_of, all_complete, all_fit, parsed, document_of}}
+use Rattle.iodef_tree.specs.{Reading.{if_short, documents, reading}, Sound.IsSound, Text.{Bytes, bytes_lt}, Tree.{Forest, Body, Bodies, holds, says, one, many}}
+use Rattle.iodef_tree.specs.{Tree.{in_front, elements, member_front, lines}, Values.{forest_of_data, bodies_of_data, body_of_data}}
+use Rattle.iodef_tree.specs.declared.{TheConstants.LINE_LIMIT, fault.ReadFault.{ReadFault, TheVariants.{NotDocument, TooManyLines}}, line.Line.Line}
+use Rattle.{marking.specs.Marks.{label_at, first_bad_marking}, policy.specs.declared.{case.Case.Case, standing.Standing.Standing}}
+use Rattle.redact.{proofs.{Counts.AreLabelNames, Spelling.label-names, Whole.{left-sound, left-lines}}, specs.Kept.{Attribute, Verdicts, put as put_line}}
+use Rattle.redact.specs.Kept.{put_all, attribute_line, attribute_lines, stands_before, is_kept, says_label, added_label_lines, with_added_labels}
+use Rattle.{redact.specs.{Told.{verdicts_of, kept_outline}, inner.Judged.{judge, root as document_root, cut}}, redaction.proofs.ReadExactly.{incident, own}}
+use Rattle.redaction.{proofs.ReadExactly.{count-cons, leaf-count, branch-count, read-exactly}, specs.{Laws.IsReadExactly, Readable.outline_text}}
+use Rattle.redaction.specs.Readable.{is_incident_line, incident_count}
 use Rattle.serde_json.specs.Data as json
-use Rattle.serde_json.specs.Data.{Data, put}
-use Rattle.serde_json.specs.Find.{as_object}
-use Rattle.serde_json.specs.Read.{read}
-use Rattle.iodef_tree.specs.Reading.{◌>>=◌, or_fault, incidents_of, all_complete, all_fit, parsed, document_of, if_short, documents, reading}
-use Rattle.iodef_tree.specs.Paths.{LocatedLine, located_after, located}
-use Rattle.iodef_tree.specs.Sound.{IsSound}
-use Rattle.iodef_tree.specs.Text.{Bytes, bytes_lt}
-use Rattle.iodef_tree.specs.Tree.{Forest, Body, Bodies, holds, says, one, many, in_front, elements, member_front, lines}
-use Rattle.iodef_tree.specs.Values.{forest_of_data, bodies_of_data, body_of_data}
-use Rattle.iodef_tree.specs.declared.TheConstants.{LINE_LIMIT}
-use Rattle.iodef_tree.specs.declared.fault.ReadFault.{ReadFault}
-use Rattle.iodef_tree.specs.declared.fault.ReadFault.TheVariants.{NotDocument, TooManyLines}
-use Rattle.iodef_tree.specs.declared.line.Line.{Line}
-use Rattle.iodef_tree.proofs.Fitness.{bind-ok}
-use Rattle.iodef_tree.proofs.Normal.{IsNormal, read-normal}
-use Rattle.iodef_tree.proofs.Order.{bytes_eq-true, bytes_lt-ne_back, bytes_lt-trans, is_false}
-use Rattle.marking.specs.Marks.{label_at, first_bad_marking}
-use Rattle.policy.specs.declared.case.Case.{Case}
-use Rattle.policy.specs.declared.standing.Standing.{Standing}
-use Rattle.redact.specs.Kept.{Attribute, Verdicts, put as put_line, put_all, attribute_line, attribute_lines, stands_before, is_kept, says_label, added_label_lines, with_added_labels}
-use Rattle.redact.specs.Told.{verdicts_of, kept_outline}
-use Rattle.redact.proofs.Counts.{AreLabelNames}
-use Rattle.redact.proofs.Spelling.{label-names}
-use Rattle.redact.proofs.Whole.{left-sound, left-lines}
-use Rattle.redact.specs.inner.Judged.{judge, root as document_root, cut}
-use Rattle.redaction.specs.Laws.{IsReadExactly}
-use Rattle.redaction.specs.Readable.{outline_text, is_incident_line, incident_count}
-use Rattle.redaction.proofs.ReadExactly.{incident, own, count-cons, leaf-count, branch-count, read-exactly}
 
 -- ---- a document that was read has one Incident
 

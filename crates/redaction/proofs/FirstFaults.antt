@@ -1,14 +1,10 @@
 -- Readings side by side: their fault, or what is made of their values.
-use Rattle.std.proofs.Common.{◌≡◌, ℕ, ℤ, [], ◌∷◌, Bool, ◌||◌, Option, Err, sym, ap}
-use Rattle.json.specs.Json.{Json}
-use Rattle.iodef_tree.specs.Text.{Bytes}
-use Rattle.policy.specs.declared.case.Case.{Case}
-use Rattle.policy.specs.declared.standing.Standing.{Standing}
-use Rattle.redaction.specs.Readings.{Reading, ◌>>=◌, ◌&◌}
-use Rattle.redaction.specs.declared.place.Part.TheVariants as part
-use Rattle.redaction.specs.Values.{number_in, only, wanted, given, given_or}
-use Rattle.redaction.specs.Described.{grantee_in, handling_in, short_in, gates_in, permissions_in, case_of, case_in, reader_names, flags_in, lists_in, reader_of, reader_in, has_end, now_in, view_read, long_in}
+use Rattle.{std.proofs.Common.{◌≡◌, ℕ, ℤ, [], ◌∷◌, Bool, ◌||◌, Option, Err, sym, ap}, json.specs.Json.Json, iodef_tree.specs.Text.Bytes}
+use Rattle.{policy.specs.declared.{case.Case.Case, standing.Standing.Standing}, redaction.specs.Described.{grantee_in, handling_in, short_in, gates_in}}
+use Rattle.redaction.specs.Described.{permissions_in, case_of, case_in, reader_names, flags_in, lists_in, reader_of, reader_in, has_end, now_in, view_read}
+use Rattle.redaction.specs.{Described.long_in, Readings.{Reading, ◌>>=◌, ◌&◌}, Values.{number_in, only, wanted, given, given_or}}
 use Rattle.redaction.specs.declared.place.Refusal.{Refusal}
+use Rattle.redaction.specs.declared.place.Part.TheVariants as part
 
 -- a fault goes through the readings that follow
 fault-through : {A B : Type 0} (r : Reading A) (e : Refusal) (f : A → Reading B) → r ≡ Err e → Err e ≡ (r >>= f)

@@ -1,25 +1,16 @@
 -- The members that the tree of a document means. They are in normal form, they are made into the same tree again, and
 -- reading refuses none of them unless the tree is too high.
-use Rattle.std.proofs.Common.{◌≡◌, ◌≤◌, ℕ, zero, suc, ◌+◌, ◌*◌, true, false, ◌&&◌, ◌==◌, refl, sym, ap, ◌∙◌, subst, arith, true≢false, Ordering, Less, Equal, Greater, is_lt, Option, Some, None, is_some, nat_lt, bytes_eq, decimal}
-use Rattle.std.specs.Ordering.{nat_cmp, match_ordering}
-use Rattle.std.specs.Cmp.Lexicographic.{slice_cmp}
-use Rattle.std.proofs.lemmas.Bool.{and_parts, and_right, or_from, eqb-true, le-ltb}
+use Rattle.std.proofs.Common.{◌≡◌, ◌≤◌, ℕ, zero, suc, ◌+◌, ◌*◌, true, false, ◌&&◌, ◌==◌, refl, sym, ap, ◌∙◌, subst, arith, true≢false, Ordering, Less, Equal}
+use Rattle.std.proofs.{Common.{Greater, is_lt, Option, Some, None, is_some, nat_lt, bytes_eq, decimal}, lemmas.Bool.{and_parts, and_right, or_from, eqb-true}}
+use Rattle.{std.{proofs.lemmas.Bool.le-ltb, specs.{Cmp.Lexicographic.slice_cmp, Ordering.{nat_cmp, match_ordering}}}, serde_json.specs.Data.{Data, put, depth}}
+use Rattle.{serde_json.specs.{Data.{items_depth, members_depth}, Find.get_member}, iodef_tree.proofs.{Fitness.{AreClear, clear-joined}, Normal.IsNormal}}
+use Rattle.iodef_tree.{proofs.{Normal.{AreNormal, AreMembersNormal, put-normal}, Order.{bytes_eq-true, bytes_lt-less, bytes_lt-trans}}, specs.Json.content_data}
+use Rattle.iodef_tree.specs.{Sound.{SiblingPlace, may_stand, IsOrderedBehind}, Text.{Bytes, bytes_lt}, Texts.HasTexts, Tree.{Content, says, holds, Body, one}}
+use Rattle.iodef_tree.specs.{Tree.{Forest, end, leaf, branch, in_front, elements, member_front, height}, Values.{nodes, item_nodes, member_nodes}}
+use Rattle.iodef_tree.specs.{Values.{bodies_of_data, body_of_data, items_of_data, forest_of_data}, declared.TheConstants.DEPTH_LIMIT}
+use Rattle.{iodef_tree.specs.inner.{FitValues.is_refused, Written.{placed_member, placed_item, members_of, items_of}}, redaction.proofs.MeantValues.MayBe}
+use Rattle.redaction.proofs.MeantValues.{content-normal, content-low, content-clear, content-body, content-bodies}
 use Rattle.serde_json.specs.Data as json
-use Rattle.serde_json.specs.Data.{Data, put, depth, items_depth, members_depth}
-use Rattle.serde_json.specs.Find.{get_member}
-use Rattle.iodef_tree.specs.inner.FitValues.{is_refused}
-use Rattle.iodef_tree.specs.Json.{content_data}
-use Rattle.iodef_tree.specs.inner.Written.{placed_member, placed_item, members_of, items_of}
-use Rattle.iodef_tree.specs.Sound.{SiblingPlace, may_stand, IsOrderedBehind}
-use Rattle.iodef_tree.specs.Text.{Bytes, bytes_lt}
-use Rattle.iodef_tree.specs.Texts.{HasTexts}
-use Rattle.iodef_tree.specs.Tree.{Content, says, holds, Body, one, Forest, end, leaf, branch, in_front, elements, member_front, height}
-use Rattle.iodef_tree.specs.Values.{nodes, item_nodes, member_nodes, bodies_of_data, body_of_data, items_of_data, forest_of_data}
-use Rattle.iodef_tree.specs.declared.TheConstants.{DEPTH_LIMIT}
-use Rattle.iodef_tree.proofs.Fitness.{AreClear, clear-joined}
-use Rattle.iodef_tree.proofs.Normal.{IsNormal, AreNormal, AreMembersNormal, put-normal}
-use Rattle.iodef_tree.proofs.Order.{bytes_eq-true, bytes_lt-less, bytes_lt-trans}
-use Rattle.redaction.proofs.MeantValues.{MayBe, content-normal, content-low, content-clear, content-body, content-bodies}
 
 -- ---- the names ascend
 

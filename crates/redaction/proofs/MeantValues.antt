@@ -1,24 +1,13 @@
 -- What the plain lines of a document mean: values that are read back, low, and nowhere refused by reading.
-use Rattle.std.proofs.Common.{◌≡◌, ◌≤◌, ℕ, suc, ◌+◌, ◌-◌, Bool, true, false, ◌&&◌, ◌||◌, refl, sym, ap, ◌∙◌, subst, arith, true≢false, Option, Some, None, is_some, is_none, nat_lt, bytes_eq, decimal, unwrap_or, option_map}
-use Rattle.std.specs.Option.{option_map_or}
-use Rattle.std.proofs.lemmas.Bool.{and_parts, and_right, or_from, not-true, ltb-true, le-ltb}
-use Rattle.serde_json.specs.Data as json
-use Rattle.serde_json.specs.Data.{Data, depth, items_depth}
-use Rattle.serde_json.specs.Find.{as_array, as_number, as_object, is_float}
-use Rattle.serde_json.specs.Read.{read}
-use Rattle.serde_json.specs.Written.{compact_text}
-use Rattle.iodef_tree.specs.inner.FitValues.{is_refused}
-use Rattle.iodef_tree.specs.Json.{content_data}
-use Rattle.iodef_tree.specs.Reading.{lacking}
-use Rattle.iodef_tree.specs.Text.{Bytes}
-use Rattle.iodef_tree.specs.Texts.{is_plain, are_plain, is_empty, may_be_value, may_be_text}
-use Rattle.iodef_tree.specs.Tree.{Content, text, value, says, one, kind_of, text_of}
-use Rattle.iodef_tree.specs.Values.{nodes, item_nodes, bodies_of_data, body_of_data}
-use Rattle.iodef_tree.specs.declared.TheConstants.{DEPTH_LIMIT}
-use Rattle.iodef_tree.proofs.Fitness.{AreClear, clear-joined}
-use Rattle.iodef_tree.proofs.Normal.{IsNormal, read-normal}
-use Rattle.iodef_tree.proofs.Order.{bytes_eq-true}
+use Rattle.std.proofs.Common.{◌≡◌, ◌≤◌, ℕ, suc, ◌+◌, ◌-◌, Bool, true, false, ◌&&◌, ◌||◌, refl, sym, ap, ◌∙◌, subst, arith, true≢false, Option, Some, None}
+use Rattle.std.proofs.{Common.{is_some, is_none, nat_lt, bytes_eq, decimal, unwrap_or, option_map}, lemmas.Bool.{and_parts, and_right, or_from, not-true}}
+use Rattle.{std.{proofs.lemmas.Bool.{ltb-true, le-ltb}, specs.Option.option_map_or}, serde_json.specs.{Data.{Data, depth, items_depth}, Find.as_array}}
+use Rattle.{serde_json.specs.{Find.{as_number, as_object, is_float}, Read.read, Written.compact_text}, iodef_tree.proofs.Fitness.{AreClear, clear-joined}}
+use Rattle.iodef_tree.{proofs.{Normal.{IsNormal, read-normal}, Order.bytes_eq-true}, specs.{Json.content_data, Reading.lacking, Text.Bytes, Texts.is_plain}}
+use Rattle.iodef_tree.specs.{Texts.{are_plain, is_empty, may_be_value, may_be_text}, Tree.{Content, text, value, says, one, kind_of, text_of}, Values.nodes}
+use Rattle.iodef_tree.specs.{Values.{item_nodes, bodies_of_data, body_of_data}, declared.TheConstants.DEPTH_LIMIT, inner.FitValues.is_refused}
 use Rattle.redaction.specs.Readable.{is_complete_incident}
+use Rattle.serde_json.specs.Data as json
 
 -- ---- a value that a line may hold is low
 

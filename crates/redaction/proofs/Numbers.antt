@@ -1,18 +1,9 @@
 -- Whole numbers of a description, and the number of elements.
 use Rattle.std.proofs.Common.{◌≡◌, ℕ, ◌<◌, ◌^◌, List, [], ◌∷◌, length, true, false, ◌&&◌, Result, Ok, Err, refl, rules, arith, nat_lt, sym, if◌then◌else◌}
-use Rattle.std.specs.List.{list_all}
-use Rattle.std.specs.Char.{is_ascii_digit}
-use Rattle.std.specs.Result.{OkIff}
-use Rattle.std.specs.Str.Parse.{digits_value, ParsesUnsigned}
-use Rattle.std.proofs.lemmas.Str.Parse.{IsNumeralModel, numerals_by_value, parse_digits}
-use Rattle.std.proofs.lemmas.Grind.{common_steps}
-use Rattle.json.specs.Value.{items_view}
-use Rattle.json.specs.declared.value.Value.{Value}
-use Rattle.redaction.specs.Values.{is_whole, whole, count_of}
+use Rattle.std.{proofs.lemmas.{Grind.common_steps, Str.Parse.{IsNumeralModel, numerals_by_value, parse_digits}}, specs.{Char.is_ascii_digit, List.list_all}}
+use Rattle.{std.specs.{Result.OkIff, Str.Parse.{digits_value, ParsesUnsigned}}, json.specs.{Value.items_view, declared.value.Value.Value}}
 use borrow.Author.Tests.{ltb-true}
-use Rattle.redaction.specs.Readings.{refused}
-use Rattle.redaction.specs.declared.place.Refusal.{Refusal}
-use Rattle.redaction.specs.declared.fault.Fault.TheVariants.{OutOfRange}
+use Rattle.redaction.specs.{Readings.refused, Values.{is_whole, whole, count_of}, declared.{fault.Fault.TheVariants.OutOfRange, place.Refusal.Refusal}}
 
 own : IsNumeralModel (λ ds. list_all is_ascii_digit ds ≡ true) (digits_value 10)
 own = numerals_by_value _ (search rules)

@@ -1,15 +1,8 @@
 -- What a strict reading of a text says of the text.
 use Rattle.std.proofs.Common.{◌≡◌, ℕ, List, Bool, true, false, not, if◌then◌else◌, Option, Some, None, Ok, Err, IsSomeAnd, IsUtf8, refl, sym, ap, ◌∙◌}
-use Rattle.std.specs.Str.{is_utf8}
-use Rattle.std.proofs.lemmas.Str.{is_utf8-from_IsUtf8, IsUtf8-from_is_utf8}
-use Rattle.json.specs.Json.{Json, document}
-use Rattle.json.specs.Strict.{HasUniqueKeys}
-use Rattle.redaction.specs.Readings.{Reading, ◌>>=◌, or_fault, require, refused}
-use Rattle.redaction.specs.Values.{parsed, has_doubled}
-use Rattle.redaction.specs.Described.{undoubled}
-use Rattle.redaction.specs.Words.{word_of}
-use Rattle.redaction.specs.declared.fault.Fault.TheVariants.{ViewNotJson, DoubledMember, NotUtf8}
-use Rattle.redaction.proofs.Unique.{undoubled as unique-is, doubled}
+use Rattle.{std.{proofs.lemmas.Str.{is_utf8-from_IsUtf8, IsUtf8-from_is_utf8}, specs.Str.is_utf8}, json.specs.{Json.{Json, document}, Strict.HasUniqueKeys}}
+use Rattle.redaction.{proofs.Unique.{undoubled as unique-is, doubled}, specs.{Described.undoubled, Readings.{Reading, ◌>>=◌, or_fault, require, refused}}}
+use Rattle.redaction.specs.{Values.{parsed, has_doubled}, Words.word_of, declared.fault.Fault.TheVariants.{ViewNotJson, DoubledMember, NotUtf8}}
 
 is-parsed : (bytes : List ℕ) (o : Option Json) → IsUtf8 bytes → document bytes ≡ o → parsed bytes ≡ or_fault ViewNotJson o
 is-parsed bytes o text e = ap (λ b. or_fault ViewNotJson (if b then document bytes else None)) (is_utf8-from_IsUtf8 bytes text) ∙ ap (or_fault ViewNotJson) e

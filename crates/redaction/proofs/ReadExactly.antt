@@ -1,44 +1,22 @@
 -- The text of a document with one Incident at most is read exactly if its outline is readable.
-use Rattle.std.proofs.Common.{◌≡◌, ◌≤◌, ℕ, zero, suc, ◌+◌, cond, if◌then◌else◌, Bool, true, false, ◌&&◌, ◌==◌, List, [], ◌∷◌, ◌++◌, length, refl, sym, ap, ◌∙◌, subst, arith, true≢false, Option, Some, None, is_some, is_none, option_and_then, Result, Ok, Err, is_ok, nat_lt, nat_le, bytes_eq, codes, Ordering, is_eq}
-use Rattle.std.specs.List.{list_all}
-use Rattle.std.specs.Option.{option_map_or}
-use Rattle.std.specs.Ordering.{nat_cmp, match_ordering}
-use Rattle.std.specs.Cmp.Lexicographic.{slice_cmp}
-use Rattle.std.specs.Str.{is_utf8}
-use Rattle.std.proofs.lemmas.Bool.{and_parts, and_from, and_left, cond-true, cond-false, cond_both, leb-true, le-leb, ltb-false, le-ltb}
-use Rattle.std.proofs.lemmas.List.Folds.{list_all-append}
-use Rattle.std.proofs.lemmas.List.Sums.{sum_by-append, sum_by-cons}
-use Rattle.std.proofs.lemmas.Map.Text.{is_eq-slice_cmp}
-use Rattle.std.proofs.lemmas.Option.{cond_some}
+use Rattle.std.proofs.Common.{◌≡◌, ◌≤◌, ℕ, zero, suc, ◌+◌, cond, if◌then◌else◌, Bool, true, false, ◌&&◌, ◌==◌, List, [], ◌∷◌, ◌++◌, length, refl, sym, ap, ◌∙◌}
+use Rattle.std.proofs.Common.{subst, arith, true≢false, Option, Some, None, is_some, is_none, option_and_then, Result, Ok, Err, is_ok, nat_lt, nat_le, bytes_eq}
+use Rattle.std.proofs.{Common.{codes, Ordering, is_eq}, lemmas.Bool.{and_parts, and_from, and_left, cond-true, cond-false, cond_both, leb-true, le-leb}}
+use Rattle.std.proofs.lemmas.{Bool.{ltb-false, le-ltb}, List.{Folds.list_all-append, Sums.{sum_by-append, sum_by-cons}}, Map.Text.is_eq-slice_cmp}
+use Rattle.std.{proofs.lemmas.Option.cond_some, specs.{Cmp.Lexicographic.slice_cmp, List.list_all, Option.option_map_or, Ordering.{nat_cmp, match_ordering}}}
+use Rattle.{std.specs.Str.is_utf8, serde_json.specs.{Data.Data, Events.items_len, Find.{get_member, as_array, as_object}, Read.read, Written.compact_text}}
+use Rattle.iodef_tree.proofs.{Bodies.found_array, Fitness.{bind-ok, none_if_ok, plain_ok, plain_at_once, head}, Meaning.data-is, NoFloat.whole}
+use Rattle.iodef_tree.{proofs.{Normal.read-compact, Order.{is_false, bytes_eq-true, bytes_eq-refl}, Shallow.low_members}, specs.Json.content_data}
+use Rattle.iodef_tree.specs.Reading.{◌>>=◌, or_fault, unless, parsed, all_objects, are_incidents, if_incidents, incidents_of, lacking, all_complete, all_fit}
+use Rattle.iodef_tree.specs.{Reading.{incident_at, document_of, if_short, documents, reading}, Sound.{SiblingPlace, may_stand, IsOrderedBehind, IsSound}}
+use Rattle.iodef_tree.specs.{Text.Bytes, Texts.HasTexts, Tree.{Content, Leaf, Forest, end, leaf, branch, leaf_line, class_line, lines, height}, Values.node}
+use Rattle.iodef_tree.specs.{Values.{member_nodes, forest_of_data}, declared.TheConstants.{DEPTH_LIMIT, LINE_LIMIT, REPORT_INCIDENT_LIMIT}}
+use Rattle.iodef_tree.specs.declared.{fault.ReadFault.{ReadFault, TheVariants.{NotJson, NotDocument, Missing, TooManyLines}}, line.Line.Line}
+use Rattle.{iodef_tree.specs.inner.Written.{placed_member, placed_item, members_of, items_of}, redaction.proofs.MeantTrees.{ascend, same-name, put-same}}
+use Rattle.redaction.proofs.{MeantTrees.{normal-object, low-tree, again, class-clear, clear-tree}, MeantValues.{MayBe, content-empty}}
+use Rattle.redaction.specs.{Laws.IsReadExactly, Readable.{is_complete_incident, has_complete_incident, is_shallow, is_readable, outline_text, is_incident_line}}
+use Rattle.redaction.specs.Readable.{incident_count}
 use Rattle.serde_json.specs.Data as json
-use Rattle.serde_json.specs.Data.{Data, depth}
-use Rattle.serde_json.specs.Events.{items_len}
-use Rattle.serde_json.specs.Find.{get_member, as_array, as_object}
-use Rattle.serde_json.specs.Read.{read}
-use Rattle.serde_json.specs.Written.{compact_text}
-use Rattle.iodef_tree.specs.Json.{content_data}
-use Rattle.iodef_tree.specs.inner.Written.{placed_member, placed_item, members_of, items_of}
-use Rattle.iodef_tree.specs.Reading.{◌>>=◌, or_fault, unless, parsed, all_objects, are_incidents, if_incidents, incidents_of, lacking, all_complete, all_fit, incident_at, document_of, if_short, documents, reading}
-use Rattle.iodef_tree.specs.Sound.{SiblingPlace, may_stand, IsOrderedBehind, IsSound}
-use Rattle.iodef_tree.specs.Text.{Bytes}
-use Rattle.iodef_tree.specs.Texts.{HasTexts}
-use Rattle.iodef_tree.specs.Tree.{Content, Leaf, Forest, end, leaf, branch, leaf_line, class_line, lines, height}
-use Rattle.iodef_tree.specs.Values.{node, member_nodes, forest_of_data}
-use Rattle.iodef_tree.specs.declared.TheConstants.{DEPTH_LIMIT, LINE_LIMIT, REPORT_INCIDENT_LIMIT}
-use Rattle.iodef_tree.specs.declared.fault.ReadFault.{ReadFault}
-use Rattle.iodef_tree.specs.declared.fault.ReadFault.TheVariants.{NotJson, NotDocument, Missing, TooManyLines}
-use Rattle.iodef_tree.specs.declared.line.Line.{Line}
-use Rattle.iodef_tree.proofs.Bodies.{found_array}
-use Rattle.iodef_tree.proofs.Fitness.{bind-ok, none_if_ok, plain_ok, plain_at_once, head}
-use Rattle.iodef_tree.proofs.Meaning.{data-is}
-use Rattle.iodef_tree.proofs.NoFloat.{whole}
-use Rattle.iodef_tree.proofs.Normal.{read-compact}
-use Rattle.iodef_tree.proofs.Order.{is_false, bytes_eq-true, bytes_eq-refl}
-use Rattle.iodef_tree.proofs.Shallow.{low_members}
-use Rattle.redaction.specs.Laws.{IsReadExactly}
-use Rattle.redaction.specs.Readable.{is_complete_incident, has_complete_incident, is_shallow, is_readable, outline_text, is_incident_line, incident_count}
-use Rattle.redaction.proofs.MeantValues.{MayBe, content-empty}
-use Rattle.redaction.proofs.MeantTrees.{ascend, same-name, put-same, normal-object, low-tree, again, class-clear, clear-tree}
 
 abbrev pub incident : Bytes
 incident = codes "Incident"

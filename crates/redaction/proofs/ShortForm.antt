@@ -1,17 +1,9 @@
 -- The case and the readers of the short form.
-use Rattle.std.proofs.Common.{◌≡◌, Bool, true, false, ◌&&◌, ◌||◌, List, [], ◌∷◌, ◌++◌, None, is_none, refl, ap, ◌∙◌}
-use Rattle.std.specs.List.{flat_map}
-use Rattle.iodef_tree.specs.Paths.{LocatedLine}
-use Rattle.iodef_tree.specs.Text.{Tokens, prefixes}
-use Rattle.marking.specs.Label.{handling_of, is_at_most}
-use Rattle.marking.specs.Marks.{label_at}
-use Rattle.marking.specs.declared.label.Handling.{Handling}
-use Rattle.marking.specs.declared.label.Handling.TheVariants.{Clear, Green, Amber, Strict, Red}
-use Rattle.policy.specs.Clearance.{clearance_of}
-use Rattle.policy.specs.Verdict.{first_of, is_visible, refusal_at, refusals_at}
-use Rattle.policy.specs.declared.standing.Standing.{Standing}
-use Rattle.redaction.specs.Described.{cleared_reader, open_case}
-use Rattle.redaction.specs.Laws.{ShortFormClears, OpenCaseRefusesNobody, ShortFormShowsUpToClearance}
+use Rattle.std.{proofs.Common.{◌≡◌, Bool, true, false, ◌&&◌, ◌||◌, List, [], ◌∷◌, ◌++◌, None, is_none, refl, ap, ◌∙◌}, specs.List.flat_map}
+use Rattle.{iodef_tree.specs.{Paths.LocatedLine, Text.{Tokens, prefixes}}, marking.specs.{Label.{handling_of, is_at_most}, Marks.label_at}}
+use Rattle.{marking.specs.declared.label.Handling.{Handling, TheVariants.{Clear, Green, Amber, Strict, Red}}, policy.specs.Clearance.clearance_of}
+use Rattle.policy.specs.{Verdict.{first_of, is_visible, refusal_at, refusals_at}, declared.standing.Standing.Standing}
+use Rattle.redaction.specs.{Described.{cleared_reader, open_case}, Laws.{ShortFormClears, OpenCaseRefusesNobody, ShortFormShowsUpToClearance}}
 
 pub clears : ShortFormClears
 clears Clear = refl

@@ -1,16 +1,9 @@
 -- Readings side by side, one after another.
-use Rattle.std.proofs.Common.{◌≡◌, ℕ, ◌+◌, ◌<◌, ◌≤◌, List, [], ◌∷◌, ◌++◌, length, drop, get_or, Option, Some, None, Ok, Err, refl, sym, ap, ◌∙◌, arith, append_assoc, append-nil, drop_of_length-le}
-use Rattle.std.proofs.lemmas.List.{drop_more}
-use Rattle.std.proofs.lemmas.Bool.Decides.{nat_tests}
-use Rattle.std.proofs.lemmas.Grind.{common_steps}
-use Rattle.json.specs.Json.{Json, item}
-use Rattle.json.specs.Value.{value_view, items_view}
-use Rattle.json.specs.declared.value.Value.{Value}
-use Rattle.redaction.specs.Readings.{Reading, ◌>>=◌, ◌&◌, at, earlier_of}
-use Rattle.redaction.specs.Values.{each_from}
-use Rattle.redaction.specs.inner.SoFar.{noted, unless, collected}
-use Rattle.redaction.specs.declared.place.Refusal.{Refusal}
-use Rattle.redaction.specs.declared.place.Step.TheVariants.{Item}
+use Rattle.std.proofs.Common.{◌≡◌, ℕ, ◌+◌, ◌<◌, ◌≤◌, List, [], ◌∷◌, ◌++◌, length, drop, get_or, Option, Some, None, Ok, Err, refl, sym, ap, ◌∙◌, arith}
+use Rattle.std.proofs.{Common.{append_assoc, append-nil, drop_of_length-le}, lemmas.{Bool.Decides.nat_tests, Grind.common_steps, List.drop_more}}
+use Rattle.{json.specs.{Json.{Json, item}, Value.{value_view, items_view}, declared.value.Value.Value}, redaction.specs.Readings.{Reading, ◌>>=◌, ◌&◌, at}}
+use Rattle.redaction.specs.{Readings.earlier_of, Values.each_from, declared.place.{Refusal.Refusal, Step.TheVariants.Item}, inner.SoFar.{noted, unless}}
+use Rattle.redaction.specs.inner.SoFar.{collected}
 
 -- the first of three faults, whichever two are compared first
 earlier-assoc : (e f g : Refusal) → earlier_of (earlier_of e f) g ≡ earlier_of e (earlier_of f g)

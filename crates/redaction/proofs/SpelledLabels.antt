@@ -1,17 +1,10 @@
 -- The labels that a tree spells are those that its lines spell.
-use Rattle.std.proofs.Common.{◌≡◌, ◌<◌, ℕ, suc, Bool, true, false, List, [], ◌∷◌, ◌++◌, refl, sym, ap, ◌∙◌, append_assoc, append-nil, arith, if◌then◌else◌, Option, Some, None, is_some, codes, bytes_eq, unwrap_or}
-use Rattle.std.proofs.lemmas.Grind.{common_steps}
-use Rattle.iodef_tree.proofs.Outlines.{above-line, at-line, past-line}
-use Rattle.iodef_tree.specs.Text.{Bytes}
-use Rattle.iodef_tree.specs.Tree.{Content, Forest, end, leaf, branch, Body, holds, says, Bodies, one, many, in_front, elements, member_front, lines, kind_of}
-use Rattle.iodef_tree.specs.declared.line.Line.{Line}
-use Rattle.iodef_tree.specs.Paths.{is_class_kind}
-use Rattle.marking.specs.Label.{LabelValue}
-use Rattle.marking.specs.Marks.{absent, other, spelled_by}
-use Rattle.marking.specs.Members.{held_in, held_by_leaf, spelled_in}
-use Rattle.marking.specs.declared.label.Handling.{Handling}
-use Rattle.marking.specs.declared.label.Handling.TheVariants.{Red}
-use Rattle.redaction.specs.Highest.{held_behind, spelled_behind, with_label, strictest, highest}
+use Rattle.std.proofs.Common.{◌≡◌, ◌<◌, ℕ, suc, Bool, true, false, List, [], ◌∷◌, ◌++◌, refl, sym, ap, ◌∙◌, append_assoc, append-nil, arith, if◌then◌else◌}
+use Rattle.{std.proofs.{Common.{Option, Some, None, is_some, codes, bytes_eq, unwrap_or}, lemmas.Grind.common_steps}, iodef_tree.proofs.Outlines.above-line}
+use Rattle.iodef_tree.{proofs.Outlines.{at-line, past-line}, specs.{Paths.is_class_kind, Text.Bytes, Tree.{Content, Forest, end, leaf, branch, Body, holds}}}
+use Rattle.iodef_tree.specs.{Tree.{says, Bodies, one, many, in_front, elements, member_front, lines, kind_of}, declared.line.Line.Line}
+use Rattle.marking.specs.{Label.LabelValue, Marks.{absent, other, spelled_by}, Members.{held_in, held_by_leaf, spelled_in}, declared.label.Handling.Handling}
+use Rattle.{marking.specs.declared.label.Handling.TheVariants.Red, redaction.specs.Highest.{held_behind, spelled_behind, with_label, strictest, highest}}
 use Rattle.redaction.specs.inner.Labels.{strictest_in, strictest_at, strictest_among, strictest_of}
 
 -- ---- what a class holds

@@ -1,32 +1,14 @@
 -- An answer about a report is an excerpt of one of its documents, and is read exactly if it is readable.
-use Rattle.std.proofs.Common.{◌≡◌, ℕ, zero, suc, Bool, true, false, not, List, [], ◌∷◌, slice_get, refl, sym, ap, ◌∙◌, subst, arith, true≢false, if◌then◌else◌, Option, Some, None, is_some, Result, Ok, Err}
-use Rattle.std.specs.List.{AllByRecursion, list_all}
-use Rattle.std.specs.Str.{is_utf8}
-use Rattle.std.proofs.lemmas.Bool.{and_parts}
-use Rattle.iodef_tree.specs.Laws.{IsDocument}
-use Rattle.iodef_tree.specs.Paths.{located}
-use Rattle.iodef_tree.specs.Reading.{reading}
-use Rattle.iodef_tree.specs.Text.{Bytes}
-use Rattle.iodef_tree.specs.Tree.{lines}
-use Rattle.iodef_tree.specs.declared.fault.ReadFault.{ReadFault}
-use Rattle.iodef_tree.specs.declared.line.Line.{Line}
-use Rattle.iodef_tree.proofs.ReadSound.{readings-are-documents}
-use Rattle.marking.specs.Marks.{first_bad_marking}
-use Rattle.policy.specs.declared.case.Case.{Case}
-use Rattle.policy.specs.declared.standing.Standing.{Standing}
+use Rattle.std.proofs.Common.{◌≡◌, ℕ, zero, suc, Bool, true, false, not, List, [], ◌∷◌, slice_get, refl, sym, ap, ◌∙◌, subst, arith, true≢false, if◌then◌else◌}
+use Rattle.std.{proofs.{Common.{Option, Some, None, is_some, Result, Ok, Err}, lemmas.Bool.and_parts}, specs.{List.{AllByRecursion, list_all}, Str.is_utf8}}
+use Rattle.iodef_tree.{proofs.ReadSound.readings-are-documents, specs.{Laws.IsDocument, Paths.located, Reading.reading, Text.Bytes, Tree.lines}}
+use Rattle.{iodef_tree.specs.declared.{fault.ReadFault.ReadFault, line.Line.Line}, marking.specs.Marks.first_bad_marking, policy.specs.declared.case.Case.Case}
+use Rattle.{policy.specs.declared.standing.Standing.Standing, redact.specs.Told.{Told, kept_outline, excerpt_of, is_listed}}
+use Rattle.redaction.{proofs.ExcerptsRead.{HasOne, read-ones, outline-read}, specs.{Answers.{told_of, told_by_view}, Asked.{or_read_fault, read_of}}}
+use Rattle.redaction.specs.{Asked.{is_well_marked, reported, incident_of, case_stands, asked_of}, Described.described, Laws.IsReadExactly}
+use Rattle.redaction.specs.{Laws.ExcerptsReadExactly, Outcome.{Read, ◌>>=◌, or_fault, require}, Readable.outline_text, declared.asked.Asked.Asked}
+use Rattle.redaction.specs.declared.{fault.Fault.{Fault, TheVariants.{BadMarking, NoIncident, NoClass, NothingVisible}}, view.View.View}
 use Rattle.redact.specs.Told as redact
-use Rattle.redact.specs.Told.{Told, kept_outline, excerpt_of, is_listed}
-use Rattle.redaction.specs.Answers.{told_of, told_by_view}
-use Rattle.redaction.specs.Asked.{or_read_fault, read_of, is_well_marked, reported, incident_of, case_stands, asked_of}
-use Rattle.redaction.specs.Described.{described}
-use Rattle.redaction.specs.Laws.{IsReadExactly, ExcerptsReadExactly}
-use Rattle.redaction.specs.Outcome.{Read, ◌>>=◌, or_fault, require}
-use Rattle.redaction.specs.Readable.{outline_text}
-use Rattle.redaction.specs.declared.asked.Asked.{Asked}
-use Rattle.redaction.specs.declared.view.View.{View}
-use Rattle.redaction.specs.declared.fault.Fault.{Fault}
-use Rattle.redaction.specs.declared.fault.Fault.TheVariants.{BadMarking, NoIncident, NoClass, NothingVisible}
-use Rattle.redaction.proofs.ExcerptsRead.{HasOne, read-ones, outline-read}
 
 -- ---- a reading that has a value
 

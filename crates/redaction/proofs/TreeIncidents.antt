@@ -1,32 +1,17 @@
 -- The one Incident of a tree, as the program finds it, is that of the JSON object that the tree means.
-use Rattle.std.proofs.Common.{◌≡◌, ℕ, zero, suc, max, Bool, true, false, not, ◌&&◌, ◌||◌, if◌then◌else◌, List, [], ◌∷◌, refl, sym, ap, ◌∙◌, subst, arith, true≢false, Option, Some, None, is_some, is_none, nat_le, bytes_eq, codes}
-use Rattle.std.specs.List.{list_all}
-use Rattle.std.specs.Option.{option_map_or}
+use Rattle.std.proofs.Common.{◌≡◌, ℕ, zero, suc, max, Bool, true, false, not, ◌&&◌, ◌||◌, if◌then◌else◌, List, [], ◌∷◌, refl, sym, ap, ◌∙◌, subst, arith}
+use Rattle.std.proofs.{Common.{true≢false, Option, Some, None, is_some, is_none, nat_le, bytes_eq, codes}, lemmas.{Bool.{le-leb, leb-true}, Grind.common_steps}}
+use Rattle.{std.specs.{List.list_all, Option.option_map_or}, serde_json.specs.{Data.Data, Find.get_member}, iodef_tree.proofs.Counts.length-lines}
+use Rattle.iodef_tree.{proofs.{Filled.has_elements, Meaning.data-is}, specs.{Json.content_data, Reading.lacking, Sound.{SiblingPlace, may_stand}}}
+use Rattle.iodef_tree.specs.{Sound.{IsOrderedBehind, IsSound}, Text.Bytes, Texts.HasTexts, Tree.{Content, Forest, end, leaf, branch, Body, holds, says, Bodies}}
+use Rattle.iodef_tree.specs.{Tree.{one, many, in_front, elements, member_front, lines, height}, View.forest_of_members, declared.TheConstants.DEPTH_LIMIT}
+use Rattle.iodef_tree.specs.{declared.{TheConstants.LINE_LIMIT, line.Line.Line}, inner.{FitValues.line_count, Written.{placed_member, placed_item, members_of}}}
+use Rattle.{iodef_tree.specs.inner.Written.{items_of, goes_on, is_later_place}, redaction.proofs.{MeantTrees.same-name, MeantValues.MayBe}}
+use Rattle.redaction.proofs.{MeantValues.{content-incomplete, content-no_incident}, ReadExactly.{get-first, shallow-lines, lines-shallow}}
+use Rattle.redaction.specs.{Readable.{is_complete_incident, has_complete_incident, is_shallow, is_readable}, inner.Trees.{has_name, is_complete, only_class}}
+use Rattle.redaction.specs.inner.Trees.{incident_in, has_complete_incident_in, body_height, tallest, bodies_height}
 use Rattle.serde_json.specs.Data as json
-use Rattle.serde_json.specs.Data.{Data}
-use Rattle.serde_json.specs.Find.{get_member}
-use Rattle.iodef_tree.specs.Reading.{lacking}
-use Rattle.iodef_tree.specs.Sound.{SiblingPlace, may_stand, IsOrderedBehind, IsSound}
-use Rattle.iodef_tree.specs.Text.{Bytes}
-use Rattle.iodef_tree.specs.Texts.{HasTexts}
-use Rattle.iodef_tree.specs.Tree.{Content, Forest, end, leaf, branch, Body, holds, says, Bodies, one, many, in_front, elements, member_front, lines, height}
-use Rattle.iodef_tree.specs.View.{forest_of_members}
-use Rattle.iodef_tree.specs.inner.FitValues.{line_count}
-use Rattle.iodef_tree.specs.Json.{content_data}
-use Rattle.iodef_tree.specs.inner.Written.{placed_member, placed_item, members_of, items_of, goes_on, is_later_place}
-use Rattle.iodef_tree.specs.declared.TheConstants.{DEPTH_LIMIT, LINE_LIMIT}
 use Rattle.iodef_tree.specs.declared.fault.Required.TheVariants as required
-use Rattle.iodef_tree.specs.declared.line.Line.{Line}
-use Rattle.iodef_tree.proofs.Counts.{length-lines}
-use Rattle.iodef_tree.proofs.Filled.{has_elements}
-use Rattle.iodef_tree.proofs.Meaning.{data-is}
-use Rattle.std.proofs.lemmas.Bool.{le-leb, leb-true}
-use Rattle.std.proofs.lemmas.Grind.{common_steps}
-use Rattle.redaction.specs.Readable.{is_complete_incident, has_complete_incident, is_shallow, is_readable}
-use Rattle.redaction.specs.inner.Trees.{has_name, is_complete, only_class, incident_in, has_complete_incident_in, body_height, tallest, bodies_height}
-use Rattle.redaction.proofs.MeantValues.{MayBe, content-incomplete, content-no_incident}
-use Rattle.redaction.proofs.MeantTrees.{same-name}
-use Rattle.redaction.proofs.ReadExactly.{get-first, shallow-lines, lines-shallow}
 
 abbrev incident : Bytes
 incident = codes "Incident"

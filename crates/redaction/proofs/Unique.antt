@@ -1,12 +1,9 @@
 -- No member comes twice: the test, and what a strict reading says.
-use Rattle.std.proofs.Common.{◌≡◌, ℕ, List, [], ◌∷◌, Bool, true, false, ◌||◌, refl, sym, bytes_eq, true≢false}
-use Rattle.std.specs.List.{IsDistinct, AllByRecursion, list_any}
-use Rattle.std.proofs.lemmas.Map.Made.{AllPairs-from_IsDistinct, IsDistinct-from_AllPairs}
-use Rattle.std.proofs.lemmas.Slice.Eq.{bytes_eq-Decides}
-use Rattle.json.specs.Json as json
-use Rattle.json.specs.Json.{Json, Items, Members}
-use Rattle.json.specs.Strict.{keys, HasUniqueKeys, ItemsHaveUniqueKeys, MembersHaveUniqueKeys}
+use Rattle.std.proofs.{Common.{◌≡◌, ℕ, List, [], ◌∷◌, Bool, true, false, ◌||◌, refl, sym, bytes_eq, true≢false}, lemmas.Map.Made.AllPairs-from_IsDistinct}
+use Rattle.std.{proofs.lemmas.{Map.Made.IsDistinct-from_AllPairs, Slice.Eq.bytes_eq-Decides}, specs.List.{IsDistinct, AllByRecursion, list_any}}
+use Rattle.json.specs.{Json.{Json, Items, Members}, Strict.{keys, HasUniqueKeys, ItemsHaveUniqueKeys, MembersHaveUniqueKeys}}
 use Rattle.redaction.specs.Values.{stands_twice, has_doubled, items_have_doubled, members_have_doubled}
+use Rattle.json.specs.Json as json
 
 neither : (a b : Bool) → (a || b) ≡ false → (a ≡ false) × (b ≡ false)
 neither true b h = absurd (true≢false h)

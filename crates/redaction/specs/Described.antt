@@ -1,10 +1,10 @@
 -- What a view description says: the reader for whom a report is redacted, and the case. Nothing is derived: a truth
 -- that is missing is false, and a grant that is missing is not given.
-use Rattle.std.specs.Prelude.{ℕ, ◌+◌, nat_le, ℤ, pos, List, [], ◌∷◌, Bool, true, false, not, ◌&&◌, ◌||◌, ◌==◌, if◌then◌else◌, Option, Some, None, is_some, option_and_then, Ok, Err, codes}
+use Rattle.std.specs.Prelude.{ℕ, ◌+◌, nat_le, ℤ, pos, List, [], ◌∷◌, Bool, true, false, not, ◌&&◌, ◌||◌, ◌==◌, if◌then◌else◌, Option, Some, None, is_some}
+use Rattle.std.specs.Prelude.{option_and_then, Ok, Err, codes}
 use Rattle.std.specs.List.{list_all, list_any}
 use Rattle.std.specs.Option.{option_map_or}
 use Rattle.std.specs.Str.{bytes_eq}
-use Rattle.json.specs.Json as json
 use Rattle.json.specs.Json.{Json, Items}
 use Rattle.json.specs.Find.{get, as_str, as_array}
 use Rattle.iodef_tree.specs.Text.{Bytes, Tokens, is_root, same_path}
@@ -15,21 +15,23 @@ use Rattle.policy.specs.Standing.{stranger}
 use Rattle.policy.specs.declared.case.Case.{Case}
 use Rattle.policy.specs.declared.gate.Gate.{Gate}
 use Rattle.policy.specs.declared.permission.Grantee.{Grantee}
-use Rattle.policy.specs.declared.permission.Grantee.TheVariants as grantee
 use Rattle.policy.specs.declared.permission.Permission.{Permission}
 use Rattle.policy.specs.declared.standing.Standing.{Standing}
 use Rattle.redaction.specs.Outcome.{Read}
 use Rattle.redaction.specs.Places.{part_name}
 use Rattle.redaction.specs.Readings.{Reading, ◌>>=◌, ◌&◌, or_fault, require, at, refused, without_place}
 use Rattle.redaction.specs.declared.place.Part.{Part}
-use Rattle.redaction.specs.declared.place.Part.TheVariants as part
 use Rattle.redaction.specs.declared.place.Step.TheVariants.{Member}
-use Rattle.redaction.specs.Values.{parsed, has_doubled, is_object, object_in, text_in, items_in, number_in, path_in, moment_of, moment_from, only, wanted, given_or, given, flag, numbers_under, each, count_of}
+use Rattle.redaction.specs.Values.{parsed, has_doubled, is_object, object_in, text_in, items_in, number_in, path_in, moment_of, moment_from, only, wanted}
+use Rattle.redaction.specs.Values.{given_or, given, flag, numbers_under, each, count_of}
 use Rattle.redaction.specs.declared.TheConstants.{GATE_LIMIT, PERMISSION_LIMIT}
 use Rattle.redaction.specs.declared.reader.Flags.{Flags}
 use Rattle.redaction.specs.declared.reader.Lists.{Lists}
 use Rattle.redaction.specs.declared.view.View.{View}
 use Rattle.redaction.specs.declared.fault.Fault.TheVariants.{DoubledMember, NotObject, MissingMember, OutOfRange, SourceUnsaid}
+use Rattle.json.specs.Json as json
+use Rattle.policy.specs.declared.permission.Grantee.TheVariants as grantee
+use Rattle.redaction.specs.declared.place.Part.TheVariants as part
 
 -- ---- gates
 

@@ -2,9 +2,12 @@
 use Rattle.std.specs.Prelude.{ℕ, nat_lt, if◌then◌else◌, codes}
 use Rattle.iodef_tree.specs.Text.{Bytes}
 use Rattle.iodef_tree.specs.declared.fault.ReadFault.{ReadFault}
-use Rattle.iodef_tree.specs.declared.fault.ReadFault.TheVariants as read
 use Rattle.redaction.specs.declared.fault.Fault.{Fault}
-use Rattle.redaction.specs.declared.fault.Fault.TheVariants.{NoMemory, ViewNotJson, DoubledMember, NotObject, UnknownMember, MissingMember, WrongKind, OutOfRange, BadPointer, BadMoment, SourceUnsaid, NotUtf8, NotJson, NotDocument, Missing, NotWhole, NestedClass, TooDeep, TooManyLines, BadMarking, NoIncident, NoClass, NothingVisible, NotReadable, IdMissing}
+use Rattle.redaction.specs.declared.fault.Fault.TheVariants.{NoMemory, ViewNotJson, DoubledMember, NotObject, UnknownMember, MissingMember, WrongKind}
+use Rattle.redaction.specs.declared.fault.Fault.TheVariants.{OutOfRange, BadPointer, BadMoment, SourceUnsaid, NotUtf8, NotJson, NotDocument, Missing, NotWhole}
+use Rattle.redaction.specs.declared.fault.Fault.TheVariants.{NestedClass, TooDeep, TooManyLines, BadMarking, NoIncident, NoClass, NothingVisible, NotReadable}
+use Rattle.redaction.specs.declared.fault.Fault.TheVariants.{IdMissing}
+use Rattle.iodef_tree.specs.declared.fault.ReadFault.TheVariants as read
 
 -- the number of a fault: its place in the order, from 1 on
 abbrev pub fault_number : Fault → ℕ

@@ -2,7 +2,7 @@
 -- spells its label, or is in a class that is shown and has the label of that class; a frame spells none.
 use Rattle.std.specs.Prelude.{ℕ, suc, List, [], ◌∷◌, if◌then◌else◌, Option, Some, None, unwrap_or, codes}
 use Rattle.std.specs.Str.{bytes_eq}
-use Rattle.iodef_tree.specs.Json.{by_depth}
+use Rattle.iodef_tree.specs.TreeOf.{by_depth}
 use Rattle.iodef_tree.specs.Paths.{is_class_kind}
 use Rattle.iodef_tree.specs.Text.{Bytes}
 use Rattle.iodef_tree.specs.declared.line.Line.{Line}

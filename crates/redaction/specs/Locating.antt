@@ -1,5 +1,6 @@
 -- The first fault of a view description and a report, with its place.
-use Rattle.std.specs.Prelude.{ℕ, ◌+◌, List, [], ◌∷◌, ◌++◌, Bool, false, not, ◌&&◌, if◌then◌else◌, Option, Some, None, option_map, slice_get, slice_set, Result, Ok, Err, codes, decimal}
+use Rattle.std.specs.Prelude.{ℕ, ◌+◌, List, [], ◌∷◌, ◌++◌, Bool, false, not, ◌&&◌, if◌then◌else◌, Option, Some, None, option_map, slice_get, slice_set, Result}
+use Rattle.std.specs.Prelude.{Ok, Err, codes, decimal}
 use Rattle.std.specs.List.{position_from}
 use Rattle.std.specs.Option.{option_or, option_map_or}
 use Rattle.std.specs.Str.{bytes_eq}
@@ -9,7 +10,6 @@ use Rattle.iodef_tree.specs.Paths.{LocatedLine, located}
 use Rattle.iodef_tree.specs.Pointer.{pointer_text}
 use Rattle.iodef_tree.specs.Reading.{reading, required_name}
 use Rattle.iodef_tree.specs.declared.fault.ReadFault.{ReadFault}
-use Rattle.iodef_tree.specs.declared.fault.ReadFault.TheVariants as read
 use Rattle.iodef_tree.specs.declared.line.Line.{Line}
 use Rattle.marking.specs.Marks.{first_bad_marking}
 use Rattle.policy.specs.declared.case.Case.{Case}
@@ -19,13 +19,14 @@ use Rattle.redaction.specs.Faults.{fault_number, of_report}
 use Rattle.redaction.specs.Places.{part_name, tokens_at}
 use Rattle.redaction.specs.Readings.{Reading}
 use Rattle.redaction.specs.declared.place.Part.{Part}
-use Rattle.redaction.specs.declared.place.Part.TheVariants as part
 use Rattle.redaction.specs.declared.place.Place.{Place}
 use Rattle.redaction.specs.declared.place.Refusal.{Refusal}
 use Rattle.redaction.specs.declared.locating.Found.{Found}
 use Rattle.redaction.specs.declared.view.View.{View}
 use Rattle.redaction.specs.declared.fault.Fault.{Fault}
 use Rattle.redaction.specs.declared.fault.Fault.TheVariants.{BadMarking, NoIncident, NoClass}
+use Rattle.iodef_tree.specs.declared.fault.ReadFault.TheVariants as read
+use Rattle.redaction.specs.declared.place.Part.TheVariants as part
 
 -- a fault, and the reference tokens of its place
 abbrev pub Told : Type 0

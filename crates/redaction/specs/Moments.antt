@@ -1,5 +1,6 @@
 -- How a moment is written (RFC 3339 section 5.6).
-use Rattle.std.specs.Prelude.{ℕ, [], ◌∷◌, ◌==◌, nat_lt, length, drop, Bool, false, not, ◌&&◌, ◌||◌, if◌then◌else◌, Option, Some, None, unwrap_or, option_and_then, codes}
+use Rattle.std.specs.Prelude.{ℕ, [], ◌∷◌, ◌==◌, nat_lt, length, drop, Bool, false, not, ◌&&◌, ◌||◌, if◌then◌else◌, Option, Some, None, unwrap_or}
+use Rattle.std.specs.Prelude.{option_and_then, codes}
 use Rattle.std.specs.List.{position_from}
 use Rattle.std.specs.Option.{option_map_or}
 use Rattle.std.specs.Char.{is_ascii_digit}

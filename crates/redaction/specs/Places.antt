@@ -1,15 +1,15 @@
 -- The places of a view description: the members and the items on the way to a value (RFC 6901 section 3).
 use Rattle.std.specs.Prelude.{ℕ, ◌-◌, ◌==◌, if◌then◌else◌, [], ◌∷◌, ◌++◌, Option, Some, None, option_and_then, decimal, codes}
 use Rattle.std.specs.Option.{option_map_or}
-use Rattle.json.specs.Json as json
 use Rattle.json.specs.Json.{Json, Items, Members}
 use Rattle.json.specs.Find.{get, as_array, as_object}
 use Rattle.iodef_tree.specs.Text.{Bytes, Tokens}
 use Rattle.redaction.specs.declared.place.Part.{Part}
-use Rattle.redaction.specs.declared.place.Part.TheVariants as part
 use Rattle.redaction.specs.declared.place.Step.{Step}
 use Rattle.redaction.specs.declared.place.Step.TheVariants.{Member, Item, Nth}
 use Rattle.redaction.specs.declared.place.Place.{Place}
+use Rattle.json.specs.Json as json
+use Rattle.redaction.specs.declared.place.Part.TheVariants as part
 
 -- the name of a member of a view description
 abbrev pub part_name : Part → Bytes

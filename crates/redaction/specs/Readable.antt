@@ -3,7 +3,6 @@ use Rattle.std.specs.Prelude.{ℕ, List, Bool, false, ◌&&◌, ◌==◌, nat_le
 use Rattle.std.specs.List.{list_all}
 use Rattle.std.specs.Option.{option_map_or}
 use Rattle.std.specs.Str.{bytes_eq}
-use Rattle.serde_json.specs.Data as json
 use Rattle.serde_json.specs.Data.{Data}
 use Rattle.serde_json.specs.Find.{get_member}
 use Rattle.serde_json.specs.Written.{compact_text}
@@ -12,6 +11,7 @@ use Rattle.iodef_tree.specs.Json.{data_of}
 use Rattle.iodef_tree.specs.Reading.{lacking}
 use Rattle.iodef_tree.specs.declared.TheConstants.{DEPTH_LIMIT, LINE_LIMIT}
 use Rattle.iodef_tree.specs.declared.line.Line.{Line}
+use Rattle.serde_json.specs.Data as json
 
 -- whether a value is an array of one Incident, with each member that an Incident must have (RFC 7970 section 3.2)
 abbrev pub is_complete_incident : Data → Bool

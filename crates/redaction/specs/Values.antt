@@ -1,11 +1,11 @@
 -- What the JSON values of a view description say (RFC 8259): each by its kind, and an object by its members.
-use Rattle.std.specs.Prelude.{ℕ, ◌+◌, ◌^◌, List, [], ◌∷◌, length, Bool, false, ◌&&◌, ◌||◌, nat_lt, nat_le, if◌then◌else◌, Option, Some, None, is_some, ℤ, Result, Ok, Err}
+use Rattle.std.specs.Prelude.{ℕ, ◌+◌, ◌^◌, List, [], ◌∷◌, length, Bool, false, ◌&&◌, ◌||◌, nat_lt, nat_le, if◌then◌else◌, Option, Some, None, is_some, ℤ}
+use Rattle.std.specs.Prelude.{Result, Ok, Err}
 use Rattle.std.specs.Option.{option_map_or}
 use Rattle.std.specs.List.{list_all, list_any}
 use Rattle.std.specs.Str.{bytes_eq, is_utf8}
 use Rattle.std.specs.Char.{is_ascii_digit}
 use Rattle.std.specs.Str.Parse.{digits_value}
-use Rattle.json.specs.Json as json
 use Rattle.json.specs.Json.{Json, Items, Members, document}
 use Rattle.json.specs.Find.{get, as_bool, as_number, as_str, as_array, as_object}
 use Rattle.json.specs.Strict.{keys}
@@ -20,6 +20,7 @@ use Rattle.redaction.specs.declared.TheConstants.{NUMBER_LIMIT}
 use Rattle.redaction.specs.declared.place.Part.{Part}
 use Rattle.redaction.specs.declared.place.Step.TheVariants.{Member, Item, Nth}
 use Rattle.redaction.specs.declared.fault.Fault.TheVariants.{ViewNotJson, UnknownMember, MissingMember, WrongKind, OutOfRange, BadPointer, BadMoment}
+use Rattle.json.specs.Json as json
 
 -- ---- a text
 

@@ -1,19 +1,20 @@
 -- An excerpt made a report again by placeholders that say so. An Incident must have four members (RFC 7970 section 3.2),
 -- and an excerpt may lack any of them.
-use Rattle.std.specs.Prelude.{ℕ, suc, List, [], ◌∷◌, ◌++◌, length, take, drop, Bool, true, false, ◌&&◌, ◌||◌, ◌==◌, nat_lt, if◌then◌else◌, Option, Some, None, unwrap_or, Ok, Err, codes}
+use Rattle.std.specs.Prelude.{ℕ, suc, List, [], ◌∷◌, ◌++◌, length, take, drop, Bool, true, false, ◌&&◌, ◌||◌, ◌==◌, nat_lt, if◌then◌else◌, Option, Some, None}
+use Rattle.std.specs.Prelude.{unwrap_or, Ok, Err, codes}
 use Rattle.std.specs.List.{list_any, position_from}
 use Rattle.std.specs.Option.{option_map_or}
 use Rattle.std.specs.Str.{bytes_eq}
 use Rattle.iodef_tree.specs.Text.{Bytes, bytes_lt}
 use Rattle.iodef_tree.specs.Outline.{is_outline}
 use Rattle.iodef_tree.specs.declared.line.Line.{Line}
-use Rattle.iodef_tree.specs.declared.line.Kind.TheVariants as kind
 use Rattle.redaction.specs.Outcome.{Read, ◌>>=◌}
 use Rattle.redaction.specs.Readable.{is_readable}
 use Rattle.redaction.specs.Words.{word_of}
 use Rattle.redaction.specs.declared.whole.Identifier.{Identifier}
 use Rattle.redaction.specs.declared.whole.Named.{Named}
 use Rattle.redaction.specs.declared.fault.Fault.TheVariants.{NotReadable, IdMissing}
+use Rattle.iodef_tree.specs.declared.line.Kind.TheVariants as kind
 
 -- ---- the placeholders
 

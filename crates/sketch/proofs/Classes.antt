@@ -1,25 +1,11 @@
 -- The walk down the tree meets the texts that the definition finds among the lines.
 use Rattle.std.proofs.Common.{◌≡◌, ℕ, suc, List, [], ◌∷◌, ◌++◌, false, cond, ◌&&◌, map, filter, refl, sym, ◌∙◌, ap, append-nil, append_assoc, Option}
-use Rattle.std.specs.List.{flat_map}
-use Rattle.std.proofs.lemmas.Bool.{cond_both, true≢false}
-use Rattle.std.proofs.lemmas.List.{map-append}
-use Rattle.std.proofs.lemmas.List.Concat.{flat_map-append}
-use Rattle.std.proofs.lemmas.List.Elements.{filter-append}
-use Rattle.iodef_tree.specs.Text.{Bytes, Tokens, same_path, is_under}
-use Rattle.iodef_tree.specs.Tree.{Content, text, value, Forest, end, leaf, branch, steps, lines, kind_of, text_of}
-use Rattle.iodef_tree.specs.Paths.{LocatedLine, located, below, is_class, class_paths}
-use Rattle.iodef_tree.specs.Sound.{IsSound}
-use Rattle.iodef_tree.specs.Walk.{walk, leaf_entry, AreBlocks}
-use Rattle.iodef_tree.specs.declared.line.Line.{Line}
-use Rattle.iodef_tree.proofs.Blocks.{blocks-located, below-parents}
-use Rattle.iodef_tree.proofs.Located.{located-lines}
-use Rattle.iodef_tree.proofs.Order.{same_path-refl, same_path-true, same_path-longer, is_false}
-use Rattle.marking.proofs.Bad.{no_class-kind}
-use Rattle.marking.proofs.Written.{AreUnderParents}
-use Rattle.sketch.specs.Holdings.{held_in, is_text_in, texts_at, held_by, holdings}
-use Rattle.redact.specs.Told.{is_text_kind}
-use Rattle.marking.specs.declared.label.Handling.{Handling}
-use Rattle.sketch.specs.Labels.{handling_at, handlings}
+use Rattle.std.{proofs.lemmas.{Bool.{cond_both, true≢false}, List.{map-append, Concat.flat_map-append, Elements.filter-append}}, specs.List.flat_map}
+use Rattle.iodef_tree.proofs.{Blocks.{blocks-located, below-parents}, Located.located-lines, Order.{same_path-refl, same_path-true, same_path-longer, is_false}}
+use Rattle.iodef_tree.specs.{Paths.{LocatedLine, located, below, is_class, class_paths}, Sound.IsSound, Text.{Bytes, Tokens, same_path, is_under}, Tree.Content}
+use Rattle.iodef_tree.specs.{Tree.{text, value, Forest, end, leaf, branch, steps, lines, kind_of, text_of}, Walk.{walk, leaf_entry, AreBlocks}}
+use Rattle.{iodef_tree.specs.declared.line.Line.Line, marking.{proofs.{Bad.no_class-kind, Written.AreUnderParents}, specs.declared.label.Handling.Handling}}
+use Rattle.{redact.specs.Told.is_text_kind, sketch.specs.{Holdings.{held_in, is_text_in, texts_at, held_by, holdings}, Labels.{handling_at, handlings}}}
 use Rattle.sketch.specs.inner.Held.{content_texts, texts_in, left_below, holdings_below}
 
 -- the text of a line

@@ -1,12 +1,7 @@
 -- Handlings by their bytes.
-use Rattle.std.proofs.Common.{◌≡◌, ℕ, List, [], ◌∷◌, map, refl, sym, ◌∙◌, ap, Option, Some, None, if◌then◌else◌, ◌==◌}
-use Rattle.std.specs.List.{flat_map}
-use Rattle.iodef_tree.specs.Text.{Tokens}
-use Rattle.iodef_tree.specs.Paths.{LocatedLine, located, class_paths}
-use Rattle.iodef_tree.specs.declared.line.Line.{Line}
-use Rattle.marking.specs.Marks.{Marked, marked_at, label_at}
-use Rattle.marking.specs.declared.label.Handling.{Handling}
-use Rattle.marking.specs.declared.label.Handling.TheVariants.{Clear, Green, Amber, Strict, Red}
+use Rattle.std.{proofs.Common.{◌≡◌, ℕ, List, [], ◌∷◌, map, refl, sym, ◌∙◌, ap, Option, Some, None, if◌then◌else◌, ◌==◌}, specs.List.flat_map}
+use Rattle.{iodef_tree.specs.{Paths.{LocatedLine, located, class_paths}, Text.Tokens, declared.line.Line.Line}, marking.specs.Marks.{Marked, marked_at}}
+use Rattle.marking.specs.{Marks.label_at, declared.label.Handling.{Handling, TheVariants.{Clear, Green, Amber, Strict, Red}}}
 use Rattle.sketch.specs.Labels.{fixed_handling, code_of, handlings}
 
 -- the handling of a byte

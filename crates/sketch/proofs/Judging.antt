@@ -1,35 +1,15 @@
 -- What a sketch says of a want is so.
-use Rattle.std.proofs.Common.{arith, ℕ, ◌≡◌, ◌≢◌, ◌<◌, ◌≤◌, List, [], ◌∷◌, Bool, true, false, not, ◌&&◌, if◌then◌else◌, length, refl, sym, ◌∙◌, ap, ◌⊎◌, inl, inr, Option, Some, None}
-use Rattle.std.specs.Prelude.{is_none, is_some, option_map, string_bytes}
-use Rattle.std.specs.Option.{option_map_or}
-use Rattle.std.proofs.lemmas.Bool.{and_right, or_left, or_right, false≢true, true≢false}
-use Rattle.iodef_tree.specs.Text.{Bytes, Tokens}
-use Rattle.iodef_tree.specs.Paths.{located}
-use Rattle.iodef_tree.specs.declared.line.Line.{Line}
-use Rattle.iodef_tree.proofs.Order.{is_false}
-use Rattle.marking.specs.Marks.{first_bad_marking}
-use Rattle.policy.specs.Reach.{reach_of}
-use Rattle.policy.specs.declared.standing.Standing.{Standing}
-use Rattle.policy.specs.declared.case.Case.{Case}
-use Rattle.policy.specs.declared.reach.Reach.{Reach}
-use Rattle.redact.specs.Told.{is_listed, finds}
-use Rattle.redact.specs.Wants.{meets_by}
-use Rattle.redact.specs.declared.want.Want.{Want}
-use Rattle.sketch.specs.Bits.{holds}
-use Rattle.sketch.specs.Holdings.{holdings}
-use Rattle.sketch.specs.Labels.{has_some_class}
-use Rattle.sketch.specs.Runs.{runs}
-use Rattle.sketch.specs.Sketched.{runs_in, handled_runs_in, names_in, text_bytes, Summarises, IsKeptOf, IsSketchOf}
-use Rattle.sketch.specs.Judged.{meets_marked, has_words, may_hold, may_show, reader_least, is_cleared, cleared_for, judged_shown, looked_for, judged_by, judged}
-use Rattle.sketch.specs.Laws.{least_for}
-use Rattle.sketch.specs.declared.judged.Judged.{Judged}
-use Rattle.sketch.specs.declared.judged.Judged.TheVariants.{Met, Unmet, Unsure}
-use Rattle.sketch.specs.declared.sketch.Summary.{Summary}
-use Rattle.sketch.specs.declared.sketch.Sketch.{Sketch}
-use Rattle.redact.proofs.Promised.{found-listed}
-use Rattle.sketch.proofs.Sets.{all-held, size-within}
-use Rattle.sketch.proofs.Words.{found-held, found-cleared, kept-words, kept-handled}
-use Rattle.sketch.proofs.Shown.{source-shown, shut-hides, above-hides, within-shows, no-class-shown}
+use Rattle.std.proofs.Common.{arith, ℕ, ◌≡◌, ◌≢◌, ◌<◌, ◌≤◌, List, [], ◌∷◌, Bool, true, false, not, ◌&&◌, if◌then◌else◌, length, refl, sym, ◌∙◌, ap, ◌⊎◌, inl}
+use Rattle.std.{proofs.{Common.{inr, Option, Some, None}, lemmas.Bool.{and_right, or_left, or_right, false≢true, true≢false}}, specs.Option.option_map_or}
+use Rattle.{std.specs.Prelude.{is_none, is_some, option_map, string_bytes}, iodef_tree.{proofs.Order.is_false, specs.{Paths.located, Text.{Bytes, Tokens}}}}
+use Rattle.{iodef_tree.specs.declared.line.Line.Line, marking.specs.Marks.first_bad_marking, policy.specs.{Reach.reach_of, declared.case.Case.Case}}
+use Rattle.{policy.specs.declared.{reach.Reach.Reach, standing.Standing.Standing}, redact.{proofs.Promised.found-listed, specs.Told.{is_listed, finds}}}
+use Rattle.{redact.specs.{Wants.meets_by, declared.want.Want.Want}, sketch.proofs.{Sets.{all-held, size-within}, Shown.{source-shown, shut-hides, above-hides}}}
+use Rattle.sketch.{proofs.{Shown.{within-shows, no-class-shown}, Words.{found-held, found-cleared, kept-words, kept-handled}}, specs.Bits.holds}
+use Rattle.sketch.specs.{Holdings.holdings, Judged.{meets_marked, has_words, may_hold, may_show, reader_least, is_cleared, cleared_for, judged_shown}}
+use Rattle.sketch.specs.{Judged.{looked_for, judged_by, judged}, Labels.has_some_class, Laws.least_for, Runs.runs, Sketched.{runs_in, handled_runs_in}}
+use Rattle.sketch.specs.{Sketched.{names_in, text_bytes, Summarises, IsKeptOf, IsSketchOf}, declared.judged.Judged.{Judged, TheVariants.{Met, Unmet, Unsure}}}
+use Rattle.sketch.specs.declared.sketch.{Sketch.Sketch, Summary.Summary}
 
 -- ---- the tests of `judged_shown`: a class, the source, a gate at the root, the clearance, any gate, any permission
 

@@ -1,10 +1,6 @@
 -- The runs of a text, one after another.
 use Rattle.std.proofs.Common.{arith, ◌≡◌, ℕ, zero, suc, ◌+◌, ◌<◌, ◌≤◌, List, [], ◌∷◌, length, drop, get_or, ◌++◌, refl, Bool, ◌&&◌, sym, ◌∙◌, ap}
-use Rattle.std.specs.List.{list_all}
-use Rattle.std.proofs.lemmas.Grind.{common_steps}
-use Rattle.sketch.specs.Bits.{holds}
-use Rattle.sketch.specs.Runs.{run_of, runs}
-use Rattle.sketch.specs.inner.Puts.{put, put_all}
+use Rattle.{std.{proofs.lemmas.Grind.common_steps, specs.List.list_all}, sketch.specs.{Bits.holds, Runs.{run_of, runs}, inner.Puts.{put, put_all}}}
 
 next : (base : ℕ) (xs : List ℕ) (j : ℕ) → j + 2 < length xs → runs base (drop j xs) ≡ run_of base (get_or xs j 0) (get_or xs (suc j) 0) (get_or xs (suc (suc j)) 0) ∷ runs base (drop (suc j) xs)
 next base [] j h = absurd (omega (arith, h))

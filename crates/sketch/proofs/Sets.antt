@@ -1,18 +1,11 @@
 -- Which bits are set in a set of numbers.
-use Rattle.std.proofs.Common.{arith, ◌≡◌, ◌≢◌, ℕ, ◌+◌, ◌*◌, ◌%◌, ◌^◌, ◌<◌, ◌≤◌, List, [], ◌∷◌, ◌++◌, Bool, true, ◌&&◌, ◌||◌, ◌==◌, length, replicate, get_or, set, drop, map, min, bit_or, w8, refl, sym, ◌∙◌, ap, subst, append_assoc, ◌⊎◌, inl, inr}
-use Rattle.std.specs.List.{list_any, list_all}
-use Rattle.std.proofs.Math.Pow.{pow-lt, pow_mono}
-use Rattle.std.proofs.lemmas.Bool.{and_from, or_left, or_right, eq-eqb, ne_eqb, cases_eq}
-use Rattle.std.proofs.lemmas.List.{get_or-set_same, get_or-set_other, length-set, length-replicate, get_or-replicate, at_drop_more}
-use Rattle.std.proofs.lemmas.List.Folds.{list_any-append}
-use Rattle.std.proofs.lemmas.Nat.Bits.{bit_at_set_same, bit_at_set_other, bit_at-zero}
-use Rattle.sketch.specs.Bits.{byte_of, place_of, is_one, holds, is_at, AreBitsOf}
-use Rattle.sketch.specs.Runs.{runs, base_of}
-use Rattle.sketch.specs.Sketched.{runs_in, handled_runs_in, IsSizeFor}
-use Rattle.sketch.specs.inner.Held.{shown}
-use Rattle.sketch.specs.inner.Puts.{put, put_all}
-use Rattle.sketch.specs.declared.holding.Holding.{Holding}
-use Rattle.sketch.proofs.Numbers.{put_all-append, length-put_all}
+use Rattle.std.proofs.Common.{arith, ◌≡◌, ◌≢◌, ℕ, ◌+◌, ◌*◌, ◌%◌, ◌^◌, ◌<◌, ◌≤◌, List, [], ◌∷◌, ◌++◌, Bool, true, ◌&&◌, ◌||◌, ◌==◌, length, replicate, get_or}
+use Rattle.std.proofs.{Common.{set, drop, map, min, bit_or, w8, refl, sym, ◌∙◌, ap, subst, append_assoc, ◌⊎◌, inl, inr}, Math.Pow.{pow-lt, pow_mono}}
+use Rattle.std.proofs.lemmas.{Bool.{and_from, or_left, or_right, eq-eqb, ne_eqb, cases_eq}, List.{get_or-set_same, get_or-set_other, length-set}}
+use Rattle.std.proofs.lemmas.{List.{length-replicate, get_or-replicate, at_drop_more, Folds.list_any-append}, Nat.Bits.{bit_at_set_same, bit_at_set_other}}
+use Rattle.{std.{proofs.lemmas.Nat.Bits.bit_at-zero, specs.List.{list_any, list_all}}, sketch.proofs.Numbers.{put_all-append, length-put_all}}
+use Rattle.sketch.specs.{Bits.{byte_of, place_of, is_one, holds, is_at, AreBitsOf}, Runs.{runs, base_of}, Sketched.{runs_in, handled_runs_in, IsSizeFor}}
+use Rattle.sketch.specs.{declared.holding.Holding.Holding, inner.{Held.shown, Puts.{put, put_all}}}
 
 -- ---- the place of a bit
 

@@ -1,33 +1,14 @@
 -- What a reader is shown, by the least handling, the gates and the permissions.
 use Rattle.std.proofs.Common.{arith, ◌≡◌, List, [], ◌∷◌, Bool, true, false, cond, ◌&&◌, ◌||◌, map, filter, refl, sym, ◌∙◌, ap, Option, Some, None}
-use Rattle.std.specs.Prelude.{is_none}
-use Rattle.std.specs.List.{list_any}
-use Rattle.std.proofs.Math.Bool.{or_assoc, and-true}
-use Rattle.std.proofs.lemmas.Bool.{and_parts, false≢true}
-use Rattle.std.proofs.lemmas.Bool.Decides.{nat_tests}
-use Rattle.std.proofs.lemmas.List.Folds.{Any-from_list_any}
-use Rattle.iodef_tree.specs.Text.{Tokens, is_root}
-use Rattle.iodef_tree.specs.Paths.{LocatedLine, is_class, class_paths, located}
-use Rattle.iodef_tree.specs.declared.line.Line.{Line}
-use Rattle.iodef_tree.proofs.Order.{is_false}
-use Rattle.marking.specs.Label.{LabelValue, public, white, partner, green, need_to_know, amber, private, red, by_arrangement, extended, is_at_most}
-use Rattle.marking.specs.Marks.{label_at}
-use Rattle.marking.specs.declared.label.Handling.{Handling}
-use Rattle.policy.specs.Reach.{is_refusing, is_shutting, reach_of}
-use Rattle.policy.specs.Clearance.{clearance_of}
-use Rattle.policy.specs.Permissions.{holds_for, reaches, covers}
-use Rattle.policy.specs.Verdict.{refusal_at, handling_for, is_cleared_for, is_covered, is_visible}
-use Rattle.policy.specs.declared.standing.Standing.{Standing}
-use Rattle.policy.specs.declared.case.Case.{Case}
-use Rattle.policy.proofs.Sight.{any-weaker}
-use Rattle.policy.proofs.Steps.{any_same}
-use Rattle.redact.specs.Told.{is_seen_class, is_listed}
-use Rattle.redact.proofs.Searching.{any_map}
-use Rattle.redact.proofs.Shut.{root-tells-nothing}
-use Rattle.redact.proofs.Unrefused.{unrefused}
-use Rattle.sketch.specs.Labels.{fixed_handling, handling_at, handlings, lesser, least_from, least_of, has_some_class}
-use Rattle.sketch.specs.Judged.{reader_least, is_cleared, cleared_for}
-use Rattle.sketch.specs.Laws.{least_for}
+use Rattle.std.proofs.{Math.Bool.{or_assoc, and-true}, lemmas.{Bool.{and_parts, false≢true, Decides.nat_tests}, List.Folds.Any-from_list_any}}
+use Rattle.{std.specs.{List.list_any, Prelude.is_none}, iodef_tree.{proofs.Order.is_false, specs.Paths.{LocatedLine, is_class, class_paths, located}}}
+use Rattle.{iodef_tree.specs.{Text.{Tokens, is_root}, declared.line.Line.Line}, marking.specs.Label.{LabelValue, public, white, partner, green, need_to_know}}
+use Rattle.marking.specs.{Label.{amber, private, red, by_arrangement, extended, is_at_most}, Marks.label_at, declared.label.Handling.Handling}
+use Rattle.policy.{proofs.{Sight.any-weaker, Steps.any_same}, specs.{Clearance.clearance_of, Permissions.{holds_for, reaches, covers}, Reach.is_refusing}}
+use Rattle.policy.specs.{Reach.{is_shutting, reach_of}, Verdict.{refusal_at, handling_for, is_cleared_for, is_covered, is_visible}, declared.case.Case.Case}
+use Rattle.{policy.specs.declared.standing.Standing.Standing, redact.proofs.{Searching.any_map, Shut.root-tells-nothing, Unrefused.unrefused}}
+use Rattle.{redact.specs.Told.{is_seen_class, is_listed}, sketch.specs.{Judged.{reader_least, is_cleared, cleared_for}, Labels.{fixed_handling, handling_at}}}
+use Rattle.sketch.specs.{Labels.{handlings, lesser, least_from, least_of, has_some_class}, Laws.least_for}
 
 -- ---- the least of some handlings
 

@@ -1,13 +1,8 @@
 -- What is kept of a document says what its lines say.
 use Rattle.std.proofs.Common.{arith, ◌≡◌, ℕ, List, [], ◌∷◌, Bool, true, false, cond, not, ◌||◌, ◌==◌, length, map, replicate, filter, refl, sym, ◌∙◌, subst}
-use Rattle.std.specs.List.{list_any}
-use Rattle.iodef_tree.specs.Paths.{LocatedLine, is_class, class_paths, located}
-use Rattle.iodef_tree.specs.declared.line.Line.{Line}
-use Rattle.marking.specs.Marks.{label_at}
-use Rattle.sketch.specs.Bits.{AreBitsOf}
-use Rattle.sketch.specs.Labels.{fixed_handling, handlings, has_some_class}
+use Rattle.{std.specs.List.list_any, iodef_tree.specs.{Paths.{LocatedLine, is_class, class_paths, located}, declared.line.Line.Line}}
+use Rattle.{marking.specs.Marks.label_at, sketch.{proofs.Sets.bits-put, specs.{Bits.AreBitsOf, Labels.{fixed_handling, handlings, has_some_class}}}}
 use Rattle.sketch.specs.inner.Puts.{put_all}
-use Rattle.sketch.proofs.Sets.{bits-put}
 
 -- whether a list has an element
 abbrev pub has_some : {X : Type 0} → List X → Bool

@@ -1,16 +1,10 @@
 -- The texts that classes hold, member by member.
 use Rattle.std.proofs.Common.{◌≡◌, ℕ, suc, ◌+◌, ◌<◌, List, [], ◌∷◌, ◌++◌, map, length, get_or, drop, refl, sym, ◌∙◌, ap, append_assoc, Option, Some, None}
-use Rattle.std.specs.List.{flat_map}
-use Rattle.std.proofs.lemmas.List.{map-append}
-use Rattle.iodef_tree.specs.Text.{Bytes}
-use Rattle.iodef_tree.specs.Tree.{Forest, Body, holds, says, Bodies, one, many, in_front, elements, member_front}
-use Rattle.iodef_tree.specs.View.{bodies, members_forest}
-use Rattle.iodef_tree.specs.declared.Text.{Text}
-use Rattle.iodef_tree.specs.declared.object.Member.{Member}
-use Rattle.marking.specs.declared.label.Handling.{Handling}
-use Rattle.iodef_tree.proofs.Members.{members-next}
-use Rattle.sketch.specs.Holdings.{HeldText, held_in}
-use Rattle.sketch.specs.inner.Held.{body_texts, bodies_texts, texts_in, front, behind, left_below, holdings_below, body_left, body_holdings, many_left, many_holdings, bodies_left, bodies_holdings}
+use Rattle.{std.{proofs.lemmas.List.map-append, specs.List.flat_map}, iodef_tree.{proofs.Members.members-next, specs.{Text.Bytes, Tree.{Forest, Body, holds}}}}
+use Rattle.iodef_tree.specs.{Tree.{says, Bodies, one, many, in_front, elements, member_front}, View.{bodies, members_forest}, declared.Text.Text}
+use Rattle.{iodef_tree.specs.declared.object.Member.Member, marking.specs.declared.label.Handling.Handling, sketch.specs.Holdings.{HeldText, held_in}}
+use Rattle.sketch.specs.inner.Held.{body_texts, bodies_texts, texts_in, front, behind, left_below, holdings_below, body_left, body_holdings, many_left}
+use Rattle.sketch.specs.inner.Held.{many_holdings, bodies_left, bodies_holdings}
 
 -- ---- the texts directly in a class
 

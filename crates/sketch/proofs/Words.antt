@@ -1,28 +1,13 @@
 -- The words of a want. What a search finds is held by a class whose name is kept, in a text whose runs are kept.
 use Rattle.std.proofs.Common.{◌≡◌, ℕ, List, [], ◌∷◌, Bool, true, false, cond, ◌&&◌, ◌||◌, ◌==◌, map, filter, refl, sym, ◌∙◌, ap, Option, Some, None}
-use Rattle.std.specs.Option.{option_map_or}
-use Rattle.std.specs.List.{list_any, list_all, flat_map}
-use Rattle.std.proofs.lemmas.Bool.{and_parts, and_from, or_right, false≢true, eqb-true}
-use Rattle.std.proofs.lemmas.List.Folds.{list_any-append, list_all-append}
-use Rattle.iodef_tree.specs.Text.{Bytes, Tokens, same_path}
-use Rattle.iodef_tree.specs.Paths.{LocatedLine, is_class, located}
-use Rattle.iodef_tree.specs.declared.line.Line.{Line}
-use Rattle.iodef_tree.proofs.Order.{bytes_eq-true}
-use Rattle.marking.specs.declared.label.Handling.{Handling}
-use Rattle.marking.specs.declared.label.Handling.TheVariants.{Clear, Green, Amber, Strict, Red}
-use Rattle.policy.specs.Reach.{reach_of}
-use Rattle.policy.specs.declared.standing.Standing.{Standing}
-use Rattle.policy.specs.declared.case.Case.{Case}
-use Rattle.policy.specs.Verdict.{is_visible}
-use Rattle.policy.proofs.Sight.{any-weaker}
-use Rattle.redact.specs.Told.{begins_with, has_needle, is_named, is_text_kind, is_hit, holds_needle, is_seen_class, finds}
-use Rattle.redact.proofs.Searching.{any_map}
-use Rattle.sketch.specs.Holdings.{HeldText, held_in, is_text_in, texts_at, held_by, holdings}
-use Rattle.sketch.specs.Labels.{handling_at}
-use Rattle.sketch.specs.Runs.{run_of, runs_from, runs_behind, runs, base_of, number_of}
-use Rattle.sketch.specs.Sketched.{runs_in, handled_runs_in, names_in}
-use Rattle.sketch.specs.Judged.{cleared_for, every_handling}
-use Rattle.sketch.proofs.Shown.{visible-cleared}
+use Rattle.std.{proofs.lemmas.{Bool.{and_parts, and_from, or_right, false≢true, eqb-true}, List.Folds.{list_any-append, list_all-append}}, specs.List.list_any}
+use Rattle.{std.specs.{List.{list_all, flat_map}, Option.option_map_or}, iodef_tree.{proofs.Order.bytes_eq-true, specs.Paths.{LocatedLine, is_class, located}}}
+use Rattle.{iodef_tree.specs.{Text.{Bytes, Tokens, same_path}, declared.line.Line.Line}, marking.specs.declared.label.Handling.{Handling, TheVariants.Clear}}
+use Rattle.{marking.specs.declared.label.Handling.TheVariants.{Green, Amber, Strict, Red}, policy.{proofs.Sight.any-weaker, specs.Reach.reach_of}}
+use Rattle.{policy.specs.{Verdict.is_visible, declared.{case.Case.Case, standing.Standing.Standing}}, redact.{proofs.Searching.any_map, specs.Told.begins_with}}
+use Rattle.{redact.specs.Told.{has_needle, is_named, is_text_kind, is_hit, holds_needle, is_seen_class, finds}, sketch.proofs.Shown.visible-cleared}
+use Rattle.sketch.specs.{Holdings.{HeldText, held_in, is_text_in, texts_at, held_by, holdings}, Judged.{cleared_for, every_handling}, Labels.handling_at}
+use Rattle.sketch.specs.{Runs.{run_of, runs_from, runs_behind, runs, base_of, number_of}, Sketched.{runs_in, handled_runs_in, names_in}}
 
 -- ---- the runs of a text that contains another
 

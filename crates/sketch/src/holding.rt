@@ -5,7 +5,8 @@ ghost use Rattle.iodef_tree.specs.View.{forest, bodies, body};
 ghost use Rattle.sketch.specs.Holdings.{held_in};
 ghost use Rattle.sketch.specs.Holdings as spec;
 ghost use Rattle.sketch.specs.Labels.{handlings as of_classes};
-ghost use Rattle.sketch.specs.inner.Held.{shown, body_texts, bodies_texts, texts_in, front, behind, left_below, holdings_below, body_left, body_holdings, bodies_left, bodies_holdings};
+ghost use Rattle.sketch.specs.inner.Held.{shown, body_texts, bodies_texts, texts_in, front, behind, left_below, holdings_below, body_left, body_holdings};
+ghost use Rattle.sketch.specs.inner.Held.{bodies_left, bodies_holdings};
 
 use iodef_tree::{Document, Item, Member, Object};
 use marking::Handling;

@@ -1,7 +1,8 @@
 //! Laws of sketches, for every document, case, reader and want. Each law is the contract of a function that does
 //! nothing.
 
-ghost use Rattle.sketch.specs.Laws.{SourceIsShown, ShutShowsNothing, AboveShowsNothing, WithinShowsSome, FoundIsHeld, FoundIsCleared, ContainedRuns, ShortHasNoRun, NameNeedsNeedle, NeedleIsLookedFor, UnacceptedIsUnmet, SketchIsSmall};
+ghost use Rattle.sketch.specs.Laws.{SourceIsShown, ShutShowsNothing, AboveShowsNothing, WithinShowsSome, FoundIsHeld, FoundIsCleared, ContainedRuns};
+ghost use Rattle.sketch.specs.Laws.{ShortHasNoRun, NameNeedsNeedle, NeedleIsLookedFor, UnacceptedIsUnmet, SketchIsSmall};
 
 /// The source is shown something exactly if there is a class.
 pub fn source_is_shown()

@@ -1,12 +1,12 @@
 -- The parts of a message, as they are put.
-use Rattle.std.specs.Prelude.{ℕ, List, [], ◌++◌, Option, unwrap_or, codes, decimal}
+use Rattle.std.specs.Prelude.{ℕ, List, [], ◌++◌, unwrap_or, codes, decimal}
 use Rattle.http.specs.StatusCode.{reason_phrase}
 use Rattle.serde_json.specs.Written.{compact_text}
 use Rattle.hub_http.specs.Bodies.{refusal_body}
 use Rattle.hub_http.specs.Replies.{message, body_text, challenge, fault_name}
 use Rattle.hub_http.specs.declared.reply.Body.{Body}
-use Rattle.hub_http.specs.declared.reply.Body.TheVariants as body
 use Rattle.hub_http.specs.declared.reply.Message.{Message}
+use Rattle.hub_http.specs.declared.reply.Body.TheVariants as body
 
 -- the reason phrase of a status (RFC 9110 section 15)
 abbrev pub reason_text : ℕ → List ℕ

@@ -5,7 +5,8 @@ use Rattle.circle.specs.declared.command.RowEdit.{RowEdit}
 use Rattle.hub_state.specs.declared.change.Change.{Change}
 use Rattle.hub_state.specs.declared.change.Change.TheVariants.{Directory, Row}
 use Rattle.hub_state.specs.declared.change.RowChange.{RowChange}
-use Rattle.hub_state.specs.declared.change.RowChange.TheVariants.{PutIncident, TakeIncident, TakePolicy, PutGate, TakeGate, PutRecipient, TakeRecipient, PutPermission, TakePermission}
+use Rattle.hub_state.specs.declared.change.RowChange.TheVariants.{PutIncident, TakeIncident, TakePolicy, PutGate, TakeGate, PutRecipient, TakeRecipient}
+use Rattle.hub_state.specs.declared.change.RowChange.TheVariants.{PutPermission, TakePermission}
 use Rattle.hub_state.specs.declared.edit.Edit.{Edit}
 use Rattle.hub_state.specs.declared.edit.Edit.TheVariants as edit
 

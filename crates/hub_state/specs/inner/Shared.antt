@@ -8,8 +8,8 @@ use Rattle.hub_state.specs.Reads.{its_gates, its_permissions, its_recipients}
 use Rattle.hub_state.specs.State.{State, class_gates, recipients_of, permissions_of}
 use Rattle.hub_state.specs.declared.counts_then.Counts.{Counts}
 use Rattle.hub_state.specs.declared.request.Request.{Request}
-use Rattle.hub_state.specs.declared.request.Request.TheVariants as ask
 use Rattle.hub_state.specs.declared.sharing.Sharing.{Sharing}
+use Rattle.hub_state.specs.declared.request.Request.TheVariants as ask
 
 -- how the incident of this number is shared
 abbrev pub sharing_named : ℕ → State → Sharing

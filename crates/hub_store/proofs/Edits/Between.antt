@@ -1,14 +1,7 @@
 -- Between two statements of an edit of an incident.
-use Rattle.std.proofs.Common.{map, Result}
-use Rattle.sqlite.specs.declared.error.Error.{Error}
-use Rattle.sqlite.specs.Effect.{Database}
-use Rattle.sqlite.specs.State.{State}
+use Rattle.{std.proofs.Common.{map, Result}, sqlite.specs.{Effect.Database, State.State, declared.error.Error.Error}, hub_store.proofs.Edits.Steps.on_ok}
+use Rattle.hub_store.specs.{Items.{items_of, item_row}, Means.{Holds, HoldsBetween}, Rows.named_row, inner.Makes.Makes}
 use Rattle.hub_state.specs.State as core
-use Rattle.hub_store.specs.Items.{items_of, item_row}
-use Rattle.hub_store.specs.Rows.{named_row}
-use Rattle.hub_store.specs.inner.Makes.{Makes}
-use Rattle.hub_store.specs.Means.{Holds, HoldsBetween}
-use Rattle.hub_store.proofs.Edits.Steps.{on_ok}
 
 -- the tables of a state are those with its own lines and incidents
 pub as_between : (db : Database) (s : core.State) → Holds db s → HoldsBetween (map item_row (items_of s)) (map named_row s.incidents) db s

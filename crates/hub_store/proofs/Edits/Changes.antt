@@ -1,46 +1,19 @@
 -- What the statements on lines and incidents make of the state, one after another, and tests of rows as tests of elements.
-use Rattle.std.proofs.Common.{◌≡◌, ℕ, pos, List, [], ◌∷◌, ◌++◌, map, filter, not, ◌==◌, Ok, refl, ap, subst, ◌∙◌}
-use Rattle.std.specs.List.Sorted.{IsPermutation}
-use Rattle.sqlite_value.specs.declared.value.Value.TheVariants.{Null, Int, Text}
-use Rattle.sqlite_value.specs.Order.{Row}
-use Rattle.sqlite.specs.Effect.{Database}
-use Rattle.sqlite.specs.State.{State, Executes}
-use Rattle.iodef_tree.specs.Text.{same_path}
-use Rattle.iodef_tree.specs.Pointer.{pointer_text}
-use Rattle.iodef_tree.specs.declared.line.Line.{Line}
+use Rattle.std.{proofs.Common.{◌≡◌, ℕ, pos, List, [], ◌∷◌, ◌++◌, map, filter, not, ◌==◌, Ok, refl, ap, subst, ◌∙◌}, specs.List.Sorted.IsPermutation}
+use Rattle.{sqlite_value.specs.{Order.Row, declared.value.Value.TheVariants.{Null, Int, Text}}, sqlite.specs.{Effect.Database, State.{State, Executes}}}
+use Rattle.{iodef_tree.specs.{Pointer.pointer_text, Text.same_path, declared.line.Line.Line}, hub_state.{proofs.Indexing.paths_by_pointers, specs.Edits.edited}}
+use Rattle.hub_state.specs.{State.{is_gate_at, is_recipient_being, is_permission_being, target_key, grantee_key}, declared.edit.Edit.TheVariants.PutIncident}
+use Rattle.hub_state.specs.declared.{edit.Edit.TheVariants.TakeIncident, request.Target.Target, state.{Gate.Gate, GateKey.GateKey, Incident.Incident}}
+use Rattle.hub_state.specs.declared.state.{Naming.Naming, Permission.Permission, PermissionKey.PermissionKey, Recipient.Recipient}
+use Rattle.hub_store.proofs.Rows.{Compare.{begins, and-true, equal_numbers, equal_texts, cast_int, cast_null, cast_option, cast_flag, past}, Forms.is_param}
+use Rattle.hub_store.proofs.Rows.{Found.filter_rows, Items.items_passing, LineRows.stands_between, PartRows.Stands, Places.{item_place, incident_place}}
+use Rattle.hub_store.proofs.Rows.{SetKinds.{as_parts, from_parts}, Texts.{put_naming, put_naming_is, put_line, put_line_is, take_lines, take_lines_is}}
+use Rattle.hub_store.{proofs.Rows.Texts.{line_terms, take_incident, take_incident_is}, specs.{Fit.IsFit, Items.{Item, items_in, items_of, item_row}}}
+use Rattle.hub_store.specs.{Items.{line_shown, kind_number}, Layout.{newest, newest_tables, in_every_version, item_part, behind_items, incident_part_4}}
+use Rattle.hub_store.specs.{Layout.permission_part_3, Means.{Holds, HoldsBetween}, Parts.{Part, HoldsParts}, Rows.{naming_row, named_row, gate_row}}
+use Rattle.hub_store.specs.{Rows.{recipient_row, permission_row}, Values.number_or_null}
 use Rattle.hub_state.specs.State as core
-use Rattle.hub_state.specs.State.{is_gate_at, is_recipient_being, is_permission_being, target_key, grantee_key}
-use Rattle.hub_state.specs.Edits.{edited}
-use Rattle.hub_state.specs.declared.request.Target.{Target}
-use Rattle.hub_state.specs.declared.state.Incident.{Incident}
-use Rattle.hub_state.specs.declared.state.Naming.{Naming}
-use Rattle.hub_state.specs.declared.state.Gate.{Gate}
-use Rattle.hub_state.specs.declared.state.GateKey.{GateKey}
-use Rattle.hub_state.specs.declared.state.Recipient.{Recipient}
-use Rattle.hub_state.specs.declared.state.Permission.{Permission}
-use Rattle.hub_state.specs.declared.state.PermissionKey.{PermissionKey}
-use Rattle.hub_state.specs.declared.edit.Edit.TheVariants.{PutIncident, TakeIncident}
-use Rattle.hub_state.proofs.Indexing.{paths_by_pointers}
-use Rattle.hub_store.specs.Values.{number_or_null}
-use Rattle.hub_store.specs.Rows.{naming_row, named_row, gate_row, recipient_row, permission_row}
-use Rattle.hub_store.specs.Fit.{IsFit}
-use Rattle.hub_store.specs.Items.{Item, items_in, items_of, item_row, line_shown, kind_number}
-use Rattle.hub_store.specs.Layout.{newest, newest_tables, in_every_version, item_part, behind_items, incident_part_4}
-use Rattle.hub_store.specs.Layout.{permission_part_3}
-use Rattle.hub_store.specs.Means.{Holds, HoldsBetween}
-use Rattle.hub_store.specs.Parts.{Part, HoldsParts}
-use Rattle.hub_store.proofs.Rows.Compare.{begins, and-true, equal_numbers, equal_texts, cast_int, cast_null, cast_option, cast_flag}
-use Rattle.hub_store.proofs.Rows.Compare.{past}
-use Rattle.hub_store.proofs.Rows.Forms.{is_param}
-use Rattle.hub_store.proofs.Rows.Found.{filter_rows}
-use Rattle.hub_store.proofs.Rows.Items.{items_passing}
-use Rattle.hub_store.proofs.Rows.SetKinds.{as_parts, from_parts}
-use Rattle.hub_store.proofs.Rows.LineRows.{stands_between}
 use Rattle.hub_store.proofs.Rows.PartRows as part
-use Rattle.hub_store.proofs.Rows.PartRows.{Stands}
-use Rattle.hub_store.proofs.Rows.Places.{item_place, incident_place}
-use Rattle.hub_store.proofs.Rows.Texts.{put_naming, put_naming_is, put_line, put_line_is, take_lines, take_lines_is, line_terms}
-use Rattle.hub_store.proofs.Rows.Texts.{take_incident, take_incident_is}
 
 -- ---- tests of rows are tests of elements
 

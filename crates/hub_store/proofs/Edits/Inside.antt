@@ -1,16 +1,9 @@
 -- A transaction under any tables: a query, and one call after another.
-use Rattle.std.proofs.Common.{ℕ, List, Option, None, Some, Result, Ok, IsTrue, true, if◌then◌else◌, refl, ap, ◌∙◌}
-use Rattle.sqlite_value.specs.Order.{Row}
+use Rattle.{std.proofs.Common.{ℕ, List, Option, None, Some, Result, Ok, IsTrue, true, if◌then◌else◌, refl, ap, ◌∙◌}, sqlite_value.specs.Order.Row}
+use Rattle.{sqlite_schema.specs.declared.command.Returning.Returning, sqlite_resolve.specs.declared.compiled.Compiled.Compiled, sqlite.specs.Held.{Held, state}}
+use Rattle.{sqlite.specs.{State.{State, HasCleanDisk, Survives, Shows, Shown, ShowsRows}, declared.error.Error.Error}, hub_store.proofs.Edits.Steps.makes_then}
+use Rattle.hub_store.{proofs.Edits.Steps.on_any, specs.{Keeps.Goes, inner.{Makes.Makes, Queries.HasShown}}}
 use Rattle.sqlite_trees.specs.declared.store.Store as store
-use Rattle.sqlite_schema.specs.declared.command.Returning.{Returning}
-use Rattle.sqlite_resolve.specs.declared.compiled.Compiled.{Compiled}
-use Rattle.sqlite.specs.declared.error.Error.{Error}
-use Rattle.sqlite.specs.Held.{Held, state}
-use Rattle.sqlite.specs.State.{State, HasCleanDisk, Survives, Shows, Shown, ShowsRows}
-use Rattle.hub_store.specs.Keeps.{Goes}
-use Rattle.hub_store.specs.inner.Makes.{Makes}
-use Rattle.hub_store.specs.inner.Queries.{HasShown}
-use Rattle.hub_store.proofs.Edits.Steps.{makes_then, on_any}
 
 rows_inside : (old new : State) (sql : List ℕ) (c : Compiled) (params : Row) (rows : List Row) (r : Option Returning) → IsTrue old.in_transaction → ShowsRows old new sql c params rows r → Shows old new new.now old.committed true
 rows_inside old new sql c params rows None inside h = record { was_open = h.3.0.was_open; is_open = h.3.0.is_open; now_is = refl; committed_is = h.3.0.committed_is; mode = h.3.0.mode ∙ inside }

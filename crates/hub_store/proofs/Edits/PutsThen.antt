@@ -1,24 +1,12 @@
 -- Lines that are put by one call and then by another.
-use Rattle.std.proofs.Common.{◌≡◌, ◌+◌, ◌<◌, ℕ, suc, List, [], ◌∷◌, ◌++◌, map, take, get_or, length, Result, Ok, Err, OnOk, IsErrAnd, sym, ap, subst, ◌∙◌, arith, append_assoc}
-use Rattle.std.specs.List.Sorted.{IsPermutation}
-use Rattle.std.proofs.lemmas.List.{map-append, take_more, length-take-le}
-use Rattle.std.proofs.lemmas.List.Sorted.{IsPermutation-trans, IsPermutation-refl, IsPermutation-sym}
-use Rattle.sqlite_value.specs.Order.{Row}
-use Rattle.sqlite.specs.declared.error.Error.{Error}
-use Rattle.sqlite.specs.State.{State}
-use Rattle.iodef_tree.specs.declared.line.Line.{Line}
-use Rattle.hub_state.specs.Documents.{Lines}
-use Rattle.hub_store.specs.Items.{items_from, item_row}
-use Rattle.hub_store.specs.Layout.{newest, in_every_version, in_versions_1_and_2, incident_part, item_part, behind_items}
-use Rattle.hub_store.specs.inner.Beside.{CanStand}
-use Rattle.hub_store.specs.Keeps.{Goes}
-use Rattle.hub_store.specs.inner.Makes.{Makes}
-use Rattle.hub_store.specs.inner.PutsLines.{PutsLines, HasMore}
-use Rattle.hub_store.proofs.Rows.Items.{past_both}
-use Rattle.hub_store.proofs.Rows.PartRows.{exchanged_rows}
-use Rattle.hub_store.proofs.Versions.Standing.{stand_permuted, stand_behind}
-use Rattle.hub_store.proofs.Edits.Steps.{makes_then, fails_then, fails_passed, on_any, kept_itself, survives_itself}
-use Rattle.hub_store.proofs.Rows.Counting.{as_far, further}
+use Rattle.std.proofs.Common.{◌≡◌, ◌+◌, ◌<◌, ℕ, suc, List, [], ◌∷◌, ◌++◌, map, take, get_or, length, Result, Ok, Err, OnOk, IsErrAnd, sym, ap, subst, ◌∙◌}
+use Rattle.std.proofs.{Common.{arith, append_assoc}, lemmas.List.{map-append, take_more, length-take-le, Sorted.{IsPermutation-trans, IsPermutation-refl}}}
+use Rattle.{std.{proofs.lemmas.List.Sorted.IsPermutation-sym, specs.List.Sorted.IsPermutation}, sqlite_value.specs.Order.Row, sqlite.specs.State.State}
+use Rattle.{sqlite.specs.declared.error.Error.Error, iodef_tree.specs.declared.line.Line.Line, hub_state.specs.Documents.Lines}
+use Rattle.hub_store.proofs.{Edits.Steps.{makes_then, fails_then, fails_passed, on_any, kept_itself, survives_itself}, Rows.Counting.{as_far, further}}
+use Rattle.hub_store.{proofs.{Rows.{Items.past_both, PartRows.exchanged_rows}, Versions.Standing.{stand_permuted, stand_behind}}, specs.Items.items_from}
+use Rattle.hub_store.specs.{Items.item_row, Keeps.Goes, Layout.{newest, in_every_version, in_versions_1_and_2, incident_part, item_part, behind_items}}
+use Rattle.hub_store.specs.inner.{Beside.CanStand, Makes.Makes, PutsLines.{PutsLines, HasMore}}
 
 pub items_then : (n place : ℕ) (ls ms : Lines) → items_from n place (ls ++ ms) ≡ items_from n place ls ++ items_from n (place + length ls) ms
 items_then n place [] ms = ap (λ k. items_from n k ms) (as_far place)

@@ -1,16 +1,10 @@
 -- Edits one after another, and the transaction around them.
-use Rattle.std.proofs.Common.{◌≡◌, ℕ, ◌+◌, ◌<◌, List, [], ◌∷◌, ◌++◌, take, length, get_or, sym, ap, subst, ◌∙◌, IsTrue, true, false}
-use Rattle.std.proofs.lemmas.List.{take_more}
+use Rattle.std.proofs.{Common.{◌≡◌, ℕ, ◌+◌, ◌<◌, List, [], ◌∷◌, ◌++◌, take, length, get_or, sym, ap, subst, ◌∙◌, IsTrue, true, false}, lemmas.List.take_more}
+use Rattle.{sqlite.specs.{Held.{Held, state}, State.{State, Shows, IsUnchanged}}, hub_state.{proofs.Then.after_append, specs.Edits.{edited, with_edits}}}
+use Rattle.{hub_state.specs.declared.edit.Edit.Edit, hub_store.specs.{Content.{HasAs, Has, CommitsState}, Keeps.{Knows, KeepsCommitted}, Means.HoldsAs}}
+use Rattle.hub_store.specs.Means.{Holds}
 use Rattle.sqlite_trees.specs.declared.store.Store as store
-use Rattle.sqlite.specs.Held.{Held, state}
-use Rattle.sqlite.specs.State.{State, Shows, IsUnchanged}
 use Rattle.hub_state.specs.State as core
-use Rattle.hub_state.specs.Edits.{edited, with_edits}
-use Rattle.hub_state.specs.declared.edit.Edit.{Edit}
-use Rattle.hub_state.proofs.Then.{after_append}
-use Rattle.hub_store.specs.Content.{HasAs, Has, CommitsState}
-use Rattle.hub_store.specs.Keeps.{Knows, KeepsCommitted}
-use Rattle.hub_store.specs.Means.{HoldsAs, Holds}
 
 pub after_more : (edits : List Edit) (i : ℕ) (edit : Edit) (s : core.State) → i < length edits → edit ≡ get_or edits i edit → with_edits (take (i + 1) edits) s ≡ edited edit (with_edits (take i edits) s)
 after_more edits i edit s low is = ap (λ l. with_edits l s) (take_more edits i edit low) ∙ ap (λ e. with_edits (take i edits ++ e ∷ []) s) (sym is) ∙ after_append (take i edits) (edit ∷ []) s

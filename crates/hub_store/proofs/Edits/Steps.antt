@@ -1,19 +1,11 @@
 -- Several statements in a transaction.
 use Rattle.std.proofs.Common.{◌≡◌, ◌≢◌, ℕ, List, Result, Ok, Err, OnOk, OnErr, IfErr, IsErrAnd, IsTrue, inl, refl, sym, subst, ◌∙◌, arith}
-use Rattle.std.proofs.lemmas.Result.{IfErr-weaker}
-use Rattle.sqlite_value.specs.Order.{Row}
+use Rattle.{std.proofs.lemmas.Result.IfErr-weaker, sqlite_value.specs.Order.Row, sqlite.{proofs.StateLemmas.survives_then, specs.{Effect.Database, Held.Held}}}
+use Rattle.sqlite.specs.{Held.state, State.{State, HasCleanDisk, KeepsCommit, Survives, Executes, ExecutesInside}, declared.error.Error.Error}
+use Rattle.{sqlite.specs.declared.error.Error.TheVariants.SqliteFailure, hub_store.{proofs.Versions.Causes.reason_after, specs.Failing.{HasReason, IsUnheld}}}
+use Rattle.hub_store.specs.{Keeps.{Goes, HasRun, HasFailed}, inner.Makes.{Makes, FailsOnly, Creates}}
 use Rattle.sqlite_trees.specs.declared.store.Store as store
-use Rattle.sqlite.specs.declared.error.Error.{Error}
-use Rattle.sqlite.specs.declared.error.Error.TheVariants.{SqliteFailure}
 use Rattle.sqlite.specs.declared.error.ErrorCode.TheVariants as code
-use Rattle.sqlite.specs.Effect.{Database}
-use Rattle.sqlite.specs.Held.{Held, state}
-use Rattle.sqlite.specs.State.{State, HasCleanDisk, KeepsCommit, Survives, Executes, ExecutesInside}
-use Rattle.sqlite.proofs.StateLemmas.{survives_then}
-use Rattle.hub_store.specs.Keeps.{Goes, HasRun, HasFailed}
-use Rattle.hub_store.specs.inner.Makes.{Makes, FailsOnly, Creates}
-use Rattle.hub_store.specs.Failing.{HasReason, IsUnheld}
-use Rattle.hub_store.proofs.Versions.Causes.{reason_after}
 
 pub on_ok : {T E : Type 0} (r : Result T E) (P Q : Type 0) → (P → Q) → OnOk r P → OnOk r Q
 on_ok (Ok x) P Q f h = f h

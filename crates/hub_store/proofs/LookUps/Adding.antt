@@ -1,18 +1,9 @@
 -- Rows that were shown, put into a state by edits.
 use Rattle.std.proofs.Common.{◌≡◌, ◌+◌, ◌<◌, ℕ, List, [], ◌∷◌, ◌++◌, map, length, take, get_or, Result, Ok, Err, IfOk, IsErrAnd, refl, sym, ap, subst, ◌∙◌}
-use Rattle.std.proofs.lemmas.List.{take_more, map-append}
-use Rattle.sqlite_value.specs.Order.{Row}
-use Rattle.sqlite.specs.declared.error.Error.{Error}
-use Rattle.sqlite.specs.State.{State}
+use Rattle.{std.proofs.lemmas.List.{take_more, map-append}, sqlite_value.specs.Order.Row, sqlite.specs.{State.State, declared.error.Error.Error}}
+use Rattle.{hub_state.{proofs.Then.after_append, specs.{Edits.with_edits, declared.edit.Edit.Edit}}, hub_store.proofs.LookUps.Finding.{all_are, shows_more}}
+use Rattle.hub_store.{proofs.LookUps.Reading.{read_then, read_turned}, specs.inner.{Adds.{ArePut, Adds}, Queries.IsReadInside, Shown.{IsShownBy, ShowsAll}}}
 use Rattle.hub_state.specs.State as core
-use Rattle.hub_state.specs.Edits.{with_edits}
-use Rattle.hub_state.specs.declared.edit.Edit.{Edit}
-use Rattle.hub_state.proofs.Then.{after_append}
-use Rattle.hub_store.specs.inner.Shown.{IsShownBy, ShowsAll}
-use Rattle.hub_store.specs.inner.Adds.{ArePut, Adds}
-use Rattle.hub_store.specs.inner.Queries.{IsReadInside}
-use Rattle.hub_store.proofs.LookUps.Finding.{all_are, shows_more}
-use Rattle.hub_store.proofs.LookUps.Reading.{read_then, read_turned}
 
 -- ---- row by row
 

@@ -1,35 +1,18 @@
 -- What a query of a whole table lists in the order of its key.
-use Rattle.std.proofs.Common.{◌≡◌, ℕ, pos, negsuc, List, [], ◌∷◌, map, true, nat_cmp, refl, ap, ◌∙◌}
-use Rattle.std.specs.Ordering.{ordering_then}
-use Rattle.std.specs.Cmp.Lexicographic.{slice_cmp}
-use Rattle.std.specs.declared.cmp.Ordering.{Ordering}
-use Rattle.std.specs.declared.cmp.Ordering.TheVariants.{Less, Equal, Greater}
-use Rattle.sqlite_value.specs.declared.value.Value.TheVariants.{Int}
-use Rattle.sqlite_value.specs.Order.{Row, column}
-use Rattle.sqlite_value.proofs.OrderLemmas.{value_cmp-Int, value_cmp-Text}
-use Rattle.sqlite_trees.specs.Tree.{Trees, IsAscending}
-use Rattle.sqlite_sql.specs.Term.{Term, lit, col}
-use Rattle.sqlite_sql.specs.Query.{IsAnswer, Output, output_cmp}
-use Rattle.iodef_tree.specs.Pointer.{pointer_text}
-use Rattle.circle.specs.Directory.{org_number, account_number, community_number, group_number}
-use Rattle.circle.specs.Sound.{CountsFrom}
+use Rattle.std.{proofs.Common.{◌≡◌, ℕ, pos, negsuc, List, [], ◌∷◌, map, true, nat_cmp, refl, ap, ◌∙◌}, specs.Cmp.Lexicographic.slice_cmp}
+use Rattle.std.specs.{Ordering.ordering_then, declared.cmp.Ordering.{Ordering, TheVariants.{Less, Equal, Greater}}}
+use Rattle.sqlite_value.{proofs.OrderLemmas.{value_cmp-Int, value_cmp-Text}, specs.{Order.{Row, column}, declared.value.Value.TheVariants.Int}}
+use Rattle.{sqlite_trees.specs.Tree.{Trees, IsAscending}, sqlite_sql.specs.{Query.{IsAnswer, Output, output_cmp}, Term.{Term, lit, col}}}
+use Rattle.{iodef_tree.specs.Pointer.pointer_text, circle.specs.{Directory.{org_number, account_number, community_number, group_number}, Sound.CountsFrom}}
+use Rattle.hub_state.specs.{Sound.IsSound, State.{incident_number, gate_cmp, recipient_cmp, permission_cmp, target_key, grantee_key}}
+use Rattle.{hub_state.specs.declared.state.Incident.Incident, hub_store.proofs.LookUps.Listed.{listed, listed_past, in_order, columns_after, outs, int_below}}
+use Rattle.hub_store.proofs.{LookUps.Placed.{int_as_nat, last_two, last_three}, Rows.{Forms.{one_table, by_column, ordered_by}, Found.{filter_all, map_each}}}
+use Rattle.hub_store.proofs.Rows.Places.{org_place, org_tree, person_place, person_tree, community_place, community_tree, grp_place, grp_tree, incident_place}
+use Rattle.hub_store.proofs.Rows.Places.{incident_tree, gate_place, gate_tree, recipient_place, recipient_tree, permission_place, permission_tree, held_of}
+use Rattle.hub_store.{proofs.Rows.{Rising.{rising, counted}, Statements.shows}, specs.Holdings.{IsHeld, holding_by_number, holding_without_rowids}}
+use Rattle.hub_store.specs.{Means.Means, Rows.{org_row, account_row, community_row, group_row, named_row, gate_row, recipient_row, permission_row}}
+use Rattle.hub_store.specs.inner.{Adds.{org_shown, account_shown, community_shown, namings}, Shown.naming_shown, ShownPairs.group_shown}
 use Rattle.hub_state.specs.State as core
-use Rattle.hub_state.specs.State.{incident_number, gate_cmp, recipient_cmp, permission_cmp, target_key, grantee_key}
-use Rattle.hub_state.specs.Sound.{IsSound}
-use Rattle.hub_state.specs.declared.state.Incident.{Incident}
-use Rattle.hub_store.specs.Holdings.{IsHeld, holding_by_number, holding_without_rowids}
-use Rattle.hub_store.specs.Means.{Means}
-use Rattle.hub_store.specs.Rows.{org_row, account_row, community_row, group_row, named_row, gate_row, recipient_row, permission_row}
-use Rattle.hub_store.specs.inner.Adds.{org_shown, account_shown, community_shown, namings}
-use Rattle.hub_store.specs.inner.Shown.{naming_shown}
-use Rattle.hub_store.specs.inner.ShownPairs.{group_shown}
-use Rattle.hub_store.proofs.Rows.Forms.{one_table, by_column, ordered_by}
-use Rattle.hub_store.proofs.Rows.Found.{filter_all, map_each}
-use Rattle.hub_store.proofs.LookUps.Listed.{listed, listed_past, in_order, columns_after, outs, int_below}
-use Rattle.hub_store.proofs.LookUps.Placed.{int_as_nat, last_two, last_three}
-use Rattle.hub_store.proofs.Rows.Places.{org_place, org_tree, person_place, person_tree, community_place, community_tree, grp_place, grp_tree, incident_place, incident_tree, gate_place, gate_tree, recipient_place, recipient_tree, permission_place, permission_tree, held_of}
-use Rattle.hub_store.proofs.Rows.Rising.{rising, counted}
-use Rattle.hub_store.proofs.Rows.Statements.{shows}
 
 -- ---- rows with a number
 

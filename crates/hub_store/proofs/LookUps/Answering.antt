@@ -1,21 +1,11 @@
 -- A query in a transaction that is rolled back shows the last commit.
-use Rattle.std.proofs.Common.{◌≡◌, List, ℕ, inl, Result, Ok, Err, IfOk, OnOk, IsErrAnd, IsTrue, true, ◌∙◌}
-use Rattle.sqlite_value.specs.Order.{Row}
-use Rattle.sqlite_sql.specs.Query.{Query, IsAnswer}
+use Rattle.{std.proofs.Common.{◌≡◌, List, ℕ, inl, Result, Ok, Err, IfOk, OnOk, IsErrAnd, IsTrue, true, ◌∙◌}, sqlite_value.specs.Order.Row}
+use Rattle.{sqlite_sql.specs.Query.{Query, IsAnswer}, sqlite.{proofs.Callers.survives_begin, specs.{Held.{Held, state}, State.{HasCleanDisk, IsUnchanged}}}}
+use Rattle.{sqlite.specs.{State.{IsRolledBack, Survives}, declared.error.Error.Error}, hub_state.specs.Sound.IsSound, hub_store.proofs.Edits.Runs.knows}
+use Rattle.hub_store.proofs.{Edits.{Runs.has_now, Steps.{on_ok, on_any, clean_before, survives_on}}, LookUps.Asking.{asked_same, asked_rows}, Rows.Forms.Asks}
+use Rattle.hub_store.{proofs.Rows.Outcomes.unchanged_keeps, specs.{Means.Holds, inner.Queries.{HasShown, IsReadInside, IsReadOutside}}}
 use Rattle.sqlite_trees.specs.declared.store.Store as store
-use Rattle.sqlite.specs.declared.error.Error.{Error}
-use Rattle.sqlite.specs.Held.{Held, state}
-use Rattle.sqlite.specs.State.{HasCleanDisk, IsUnchanged, IsRolledBack, Survives}
-use Rattle.sqlite.proofs.Callers.{survives_begin}
 use Rattle.hub_state.specs.State as core
-use Rattle.hub_state.specs.Sound.{IsSound}
-use Rattle.hub_store.specs.Means.{Holds}
-use Rattle.hub_store.specs.inner.Queries.{HasShown, IsReadInside, IsReadOutside}
-use Rattle.hub_store.proofs.Rows.Forms.{Asks}
-use Rattle.hub_store.proofs.Rows.Outcomes.{unchanged_keeps}
-use Rattle.hub_store.proofs.LookUps.Asking.{asked_same, asked_rows}
-use Rattle.hub_store.proofs.Edits.Runs.{knows, has_now}
-use Rattle.hub_store.proofs.Edits.Steps.{on_ok, on_any, clean_before, survives_on}
 
 pub read_shown : {S : Type 0} (g : store.Ghosts S) {text : List ℕ} {q : Query} → Asks text q → (params : Row) (old new : Held S)
     (rows : List Row) {T : Type 0} (Right : core.State → T → Type 0) (result : Result T Error)

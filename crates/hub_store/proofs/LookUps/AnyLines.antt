@@ -1,16 +1,11 @@
 -- The query of an incident's lines under any schema: it returns nothing of a write, and reads no clock.
 use Rattle.std.proofs.Common.{◌≡◌, ℕ, ◌+◌, List, [], Bool, true, false, cond, None, Ok, Err, refl, sym, subst, ◌∙◌}
-use Rattle.sqlite_schema.specs.declared.schema.Schema.{Schema}
+use Rattle.{sqlite_schema.specs.declared.schema.Schema.Schema, sqlite_resolve.specs.Compile.{compiled, first, planned, meaning, returning, timed, command}}
+use Rattle.sqlite_resolve.specs.{Compile.{small, with_command}, Lowering.and_then, declared.compiled.Compiled.Compiled}
+use Rattle.{sqlite_resolve.specs.declared.error.CompileError.TheVariants.NoSuchTable, sqlite_tied.specs.Compute.everything, sqlite.specs.Listing.understood}
+use Rattle.{sqlite.specs.Listing.{reads_listing, listing_schema, if_select}, hub_store.proofs.{Rows.Texts.lines_of_incident, Versions.AnySchema.bare_one}}
 use Rattle.sqlite_ast.specs.declared.Select as written
 use Rattle.sqlite_ast.specs.declared.Statement.TheVariants as statement
-use Rattle.sqlite_resolve.specs.declared.compiled.Compiled.{Compiled}
-use Rattle.sqlite_resolve.specs.declared.error.CompileError.TheVariants.{NoSuchTable}
-use Rattle.sqlite_resolve.specs.Lowering.{and_then}
-use Rattle.sqlite_resolve.specs.Compile.{compiled, first, planned, meaning, returning, timed, command, small, with_command}
-use Rattle.sqlite_tied.specs.Compute.{everything}
-use Rattle.sqlite.specs.Listing.{understood, reads_listing, listing_schema, if_select}
-use Rattle.hub_store.proofs.Versions.AnySchema.{bare_one}
-use Rattle.hub_store.proofs.Rows.Texts.{lines_of_incident}
 
 -- the text is a SELECT
 the_select : (s : written.Select) × (names : List (List ℕ)) × (start : ℕ) × (stop : ℕ) × (tail : ℕ) × (first lines_of_incident ≡ Ok (record { statement = statement.Select s; names = names; formats = []; start = start; end = stop; tail = tail }))

@@ -1,41 +1,20 @@
 -- What queries of the table of pairs show of one of its sets.
-use Rattle.std.proofs.Common.{◌≡◌, ℕ, pos, negsuc, List, [], ◌∷◌, map, filter, drop, Bool, true, false, ◌==◌, codes, Option, Some, None, nat_cmp, refl, ap, subst, ◌∙◌}
-use Rattle.std.specs.Option.{option_to_list}
-use Rattle.std.specs.List.Sorted.{IsPermutation}
-use Rattle.std.specs.declared.cmp.Ordering.TheVariants.{Less}
-use Rattle.std.proofs.lemmas.Bool.{and_parts, eqb-true, false_from_ne_true}
-use Rattle.sqlite_value.specs.declared.value.Value.TheVariants.{Int, Text}
-use Rattle.sqlite_value.specs.declared.keys.Key.{Key}
-use Rattle.sqlite_value.specs.Order.{Row, column}
-use Rattle.sqlite_value.proofs.OrderLemmas.{value_cmp-Int}
-use Rattle.sqlite_trees.specs.Tree.{Trees, IsAscending}
-use Rattle.sqlite_trees.proofs.ListLemmas.{all_weaker, ascending-map}
-use Rattle.sqlite_sql.specs.Term.{Term, lit, col, eval_all}
-use Rattle.sqlite_sql.specs.Query.{IsAnswer, Output, output_cmp}
-use Rattle.sqlite.proofs.Callers.{one_permutation}
-use Rattle.circle.specs.Ordered.{pair_cmp}
-use Rattle.circle.specs.Directory.{Directory}
+use Rattle.std.proofs.Common.{◌≡◌, ℕ, pos, negsuc, List, [], ◌∷◌, map, filter, drop, Bool, true, false, ◌==◌, codes, Option, Some, None, nat_cmp, refl, ap}
+use Rattle.std.{proofs.{Common.{subst, ◌∙◌}, lemmas.Bool.{and_parts, eqb-true, false_from_ne_true}}, specs.{List.Sorted.IsPermutation, Option.option_to_list}}
+use Rattle.{std.specs.declared.cmp.Ordering.TheVariants.Less, sqlite_value.{proofs.OrderLemmas.value_cmp-Int, specs.Order.{Row, column}}}
+use Rattle.{sqlite_value.specs.declared.{keys.Key.Key, value.Value.TheVariants.{Int, Text}}, sqlite_trees.proofs.ListLemmas.{all_weaker, ascending-map}}
+use Rattle.{sqlite_trees.specs.Tree.{Trees, IsAscending}, sqlite_sql.specs.{Query.{IsAnswer, Output, output_cmp}, Term.{Term, lit, col, eval_all}}}
+use Rattle.{sqlite.proofs.Callers.one_permutation, circle.specs.{Directory.Directory, Ordered.pair_cmp}, hub_state.specs.Sound.IsSound}
+use Rattle.hub_store.proofs.LookUps.{Finding.{seen_through, of_elements, only_one, Once, no_permutation}, Listed.{in_its_order, int_below, not_less}}
+use Rattle.hub_store.proofs.{LookUps.{Listed.{first_decides, next_decides, outs, past_outs}, Placed.{int_as_nat, last_two}}, Rows.Compare.begins}
+use Rattle.hub_store.proofs.Rows.{Compare.{equal_numbers, and-true, column_past, past}, Forms.{one_table, is_param, by_column, ordered_by}, Found.filter_all}
+use Rattle.hub_store.proofs.Rows.{OneKind.{kind_alone, is_of}, Places.{pair_place, pair_tree, held_of}, Rising.rising, Statements.{keeps, shows, selected}}
+use Rattle.hub_store.specs.{Holdings.holding_without_rowids, Means.Means, Pairs.{Pair, pair_row, rows_of_pairs}, Rows.{pair_sets, client_pair, membership_pair}}
+use Rattle.hub_store.specs.{Rows.{connection_pair, group_member_pair, arrangement_pair}, declared.pair_kind.PairKind.PairKind, inner.Adds.pair_shown}
+use Rattle.hub_store.specs.inner.PairKinds.{kind_name, pairs_of, is_between, pair_between, pairs_from, pairs_to, value_shown, first_shown, second_shown}
 use Rattle.circle.specs.Sound as circle
 use Rattle.hub_state.specs.State as core
-use Rattle.hub_state.specs.Sound.{IsSound}
-use Rattle.hub_store.specs.Holdings.{holding_without_rowids}
-use Rattle.hub_store.specs.Means.{Means}
-use Rattle.hub_store.specs.Pairs.{Pair, pair_row, rows_of_pairs}
-use Rattle.hub_store.specs.inner.PairKinds.{kind_name, pairs_of, is_between, pair_between, pairs_from, pairs_to, value_shown, first_shown, second_shown}
-use Rattle.hub_store.specs.inner.Adds.{pair_shown}
-use Rattle.hub_store.specs.Rows.{pair_sets, client_pair, membership_pair, connection_pair, group_member_pair, arrangement_pair}
-use Rattle.hub_store.specs.declared.pair_kind.PairKind.{PairKind}
 use Rattle.hub_store.specs.declared.pair_kind.PairKind.TheVariants as kind
-use Rattle.hub_store.proofs.Rows.Compare.{begins, equal_numbers, and-true, column_past, past}
-use Rattle.hub_store.proofs.LookUps.Finding.{seen_through, of_elements, only_one, Once, no_permutation}
-use Rattle.hub_store.proofs.Rows.Forms.{one_table, is_param, by_column, ordered_by}
-use Rattle.hub_store.proofs.LookUps.Listed.{in_its_order, int_below, not_less, first_decides, next_decides, outs, past_outs}
-use Rattle.hub_store.proofs.Rows.OneKind.{kind_alone, is_of}
-use Rattle.hub_store.proofs.Rows.Found.{filter_all}
-use Rattle.hub_store.proofs.LookUps.Placed.{int_as_nat, last_two}
-use Rattle.hub_store.proofs.Rows.Statements.{keeps, shows, selected}
-use Rattle.hub_store.proofs.Rows.Rising.{rising}
-use Rattle.hub_store.proofs.Rows.Places.{pair_place, pair_tree, held_of}
 
 -- ---- one set of the table
 

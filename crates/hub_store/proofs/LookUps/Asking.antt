@@ -1,19 +1,9 @@
 -- What a query that was prepared and showed its rows says, under the schema of the hub.
-use Rattle.std.proofs.Common.{◌≡◌, ℕ, List, false, ap, subst, ◌∙◌}
-use Rattle.sqlite_value.specs.Order.{Row}
-use Rattle.sqlite_sql.specs.Query.{Query, IsAnswer}
-use Rattle.sqlite_schema.specs.declared.command.Command.TheVariants.{Select}
+use Rattle.{std.proofs.Common.{◌≡◌, ℕ, List, false, ap, subst, ◌∙◌}, sqlite_value.specs.Order.Row, sqlite_sql.specs.Query.{Query, IsAnswer}}
+use Rattle.{sqlite_schema.specs.declared.command.Command.TheVariants.Select, sqlite.proofs.Callers.{IsPlain, command_of, unchanged_then}}
+use Rattle.{sqlite.specs.{Effect.Database, Held.{Held, state}, Listing.{understood, reads_listing}, State.IsUnchanged}, hub_store.proofs.Rows.Forms.program}
+use Rattle.hub_store.{proofs.Rows.Outcomes.{shown_same, answered}, specs.{Keeps.Knows, Tables.hub_schema, inner.Queries.HasShown}}
 use Rattle.sqlite_trees.specs.declared.store.Store as store
-use Rattle.sqlite.specs.Effect.{Database}
-use Rattle.sqlite.specs.Held.{Held, state}
-use Rattle.sqlite.specs.Listing.{understood, reads_listing}
-use Rattle.sqlite.specs.State.{IsUnchanged}
-use Rattle.sqlite.proofs.Callers.{IsPlain, command_of, unchanged_then}
-use Rattle.hub_store.specs.Tables.{hub_schema}
-use Rattle.hub_store.specs.Keeps.{Knows}
-use Rattle.hub_store.specs.inner.Queries.{HasShown}
-use Rattle.hub_store.proofs.Rows.Forms.{program}
-use Rattle.hub_store.proofs.Rows.Outcomes.{shown_same, answered}
 
 module _ {S : Type 0} (g : store.Ghosts S) (text : List ℕ) (params : Row) (old new : Held S) (rows : List Row) (plain : IsPlain (understood hub_schema text)) (it : HasShown g text params old new rows) where
   -- nothing has changed

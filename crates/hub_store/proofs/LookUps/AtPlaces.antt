@@ -1,14 +1,8 @@
 -- Rows with the places 1, 2, 3 and so on, and the lines that they show.
-use Rattle.std.proofs.Common.{◌≡◌, ◌+◌, ℕ, suc, List, [], ◌∷◌, ◌++◌, map, length, refl, sym, ap, subst, ◌∙◌, arith}
-use Rattle.std.proofs.lemmas.List.{map-append, length-append}
-use Rattle.sqlite_value.specs.Order.{Row}
-use Rattle.iodef_tree.specs.declared.line.Line.{Line}
-use Rattle.hub_state.specs.Documents.{Lines}
-use Rattle.hub_store.specs.Items.{placed_shown, placed_from}
-use Rattle.hub_store.specs.inner.Shown.{IsShownBy, ShowsAll, ShowsPlaced}
-use Rattle.hub_store.specs.declared.item_rows.PlacedLine.{PlacedLine}
-use Rattle.hub_store.proofs.LookUps.Finding.{all_are, first_are, shows_more}
-use Rattle.hub_store.proofs.Rows.Counting.{as_far, further}
+use Rattle.std.proofs.{Common.{◌≡◌, ◌+◌, ℕ, suc, List, [], ◌∷◌, ◌++◌, map, length, refl, sym, ap, subst, ◌∙◌, arith}, lemmas.List.{map-append, length-append}}
+use Rattle.{sqlite_value.specs.Order.Row, iodef_tree.specs.declared.line.Line.Line, hub_state.specs.Documents.Lines, hub_store.proofs.LookUps.Finding.all_are}
+use Rattle.hub_store.{proofs.{LookUps.Finding.{first_are, shows_more}, Rows.Counting.{as_far, further}}, specs.Items.{placed_shown, placed_from}}
+use Rattle.hub_store.specs.{declared.item_rows.PlacedLine.PlacedLine, inner.Shown.{IsShownBy, ShowsAll, ShowsPlaced}}
 
 placed_then : (place : ℕ) (ls ms : Lines) → placed_from place (ls ++ ms) ≡ placed_from place ls ++ placed_from (place + length ls) ms
 placed_then place [] ms = ap (λ k. placed_from k ms) (as_far place)

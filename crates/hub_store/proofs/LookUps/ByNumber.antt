@@ -1,29 +1,14 @@
 -- What a query of a table with numbers finds, also by a number.
-use Rattle.std.proofs.Common.{◌≡◌, ℕ, pos, List, [], ◌∷◌, map, filter, find, length, Bool, true, false, cond, not, ◌||◌, ◌==◌, is_some, option_map, Some, refl, ap, subst, ◌∙◌}
-use Rattle.std.specs.List.{list_any}
-use Rattle.std.specs.Option.{option_to_list}
-use Rattle.std.specs.List.Sorted.{IsPermutation}
-use Rattle.sqlite_value.specs.declared.value.Value.TheVariants.{Int}
-use Rattle.sqlite_value.specs.Order.{Row, column}
-use Rattle.sqlite_trees.specs.Tree.{Trees}
-use Rattle.sqlite_sql.specs.Term.{Term, col}
-use Rattle.sqlite_sql.specs.Query.{IsAnswer}
-use Rattle.circle.specs.Directory.{has_org, has_community, org_number, community_number, account_number}
-use Rattle.circle.specs.Reads.{person_in, person_of, community_of}
-use Rattle.circle.specs.Sound.{CountsFrom}
+use Rattle.std.proofs.Common.{◌≡◌, ℕ, pos, List, [], ◌∷◌, map, filter, find, length, Bool, true, false, cond, not, ◌||◌, ◌==◌, is_some, option_map, Some, refl}
+use Rattle.{std.{proofs.Common.{ap, subst, ◌∙◌}, specs.{List.{list_any, Sorted.IsPermutation}, Option.option_to_list}}, sqlite_value.specs.Order.{Row, column}}
+use Rattle.{sqlite_value.specs.declared.value.Value.TheVariants.Int, sqlite_trees.specs.Tree.Trees, sqlite_sql.specs.{Query.IsAnswer, Term.{Term, col}}}
+use Rattle.circle.specs.{Directory.{has_org, has_community, org_number, community_number, account_number}, Reads.{person_in, person_of, community_of}}
+use Rattle.{circle.specs.Sound.CountsFrom, hub_state.specs.Sound.IsSound, hub_store.proofs.LookUps.Finding.{Once, seen_through, of_elements, only_one}}
+use Rattle.hub_store.proofs.{LookUps.{Finding.{once_numbered, as_viewed}, Whether.any_shown}, Rows.Compare.{is_same, equal_numbers, and-true}}
+use Rattle.hub_store.proofs.Rows.{Forms.{one_table, is_param}, Places.{community_place, community_tree, org_place, org_tree, person_place, person_tree}}
+use Rattle.hub_store.{proofs.Rows.{Places.held_of, Statements.{keeps, shows, selected}}, specs.{Holdings.{IsHeld, holding_by_number}, Means.Means}}
+use Rattle.hub_store.specs.{Rows.{org_row, account_row, community_row}, inner.{Adds.community_shown, Shown.person_shown}}
 use Rattle.hub_state.specs.State as core
-use Rattle.hub_state.specs.Sound.{IsSound}
-use Rattle.hub_store.specs.Holdings.{IsHeld, holding_by_number}
-use Rattle.hub_store.specs.Means.{Means}
-use Rattle.hub_store.specs.Rows.{org_row, account_row, community_row}
-use Rattle.hub_store.specs.inner.Shown.{person_shown}
-use Rattle.hub_store.specs.inner.Adds.{community_shown}
-use Rattle.hub_store.proofs.Rows.Compare.{is_same, equal_numbers, and-true}
-use Rattle.hub_store.proofs.Rows.Forms.{one_table, is_param}
-use Rattle.hub_store.proofs.Rows.Statements.{keeps, shows, selected}
-use Rattle.hub_store.proofs.LookUps.Finding.{Once, seen_through, of_elements, only_one, once_numbered, as_viewed}
-use Rattle.hub_store.proofs.LookUps.Whether.{any_shown}
-use Rattle.hub_store.proofs.Rows.Places.{community_place, community_tree, org_place, org_tree, person_place, person_tree, held_of}
 
 module _ {X : Type 0} (db : Trees) (tree : ℕ) (row : X → Row) (xs : List X) (terms project : List Term) (params : Row) (q : X → Bool) (rows : List Row) (same : (x : X) → keeps terms params (row x) ≡ q x) where
   -- the rows show those that pass

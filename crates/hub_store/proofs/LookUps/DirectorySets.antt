@@ -1,37 +1,17 @@
 -- Queries of the directory, by its pairs.
-use Rattle.std.proofs.Common.{◌≡◌, ℕ, ◌<◌, pos, List, [], ◌∷◌, ◌++◌, map, filter, find, Bool, true, false, ◌&&◌, ◌||◌, ◌==◌, is_some, Option, Some, None, option_map, nat_cmp, refl, sym, ap, subst, ◌∙◌, arith}
-use Rattle.std.specs.List.{list_any}
-use Rattle.std.specs.Option.{option_to_list}
-use Rattle.std.specs.declared.cmp.Ordering.TheVariants.{Less}
-use Rattle.std.proofs.lemmas.Bool.Decides.{nat_tests}
-use Rattle.std.proofs.lemmas.List.Folds.{list_any-append}
-use Rattle.std.proofs.Math.Bool.{and_comm}
-use Rattle.sqlite_value.specs.declared.value.Value.{Value}
-use Rattle.sqlite_value.specs.declared.value.Value.TheVariants.{Int}
-use Rattle.sqlite_value.specs.Order.{Row}
-use Rattle.sqlite_trees.proofs.ListLemmas.{map-map, ascending-map, ascending_weaker}
-use Rattle.circle.specs.declared.directory.Membership.{Membership}
-use Rattle.circle.specs.declared.directory.Connection.{Connection}
-use Rattle.circle.specs.declared.directory.GroupMember.{GroupMember}
-use Rattle.circle.specs.declared.directory.Arrangement.{Arrangement}
-use Rattle.circle.specs.Directory.{Directory, has_membership, has_group_member}
+use Rattle.std.proofs.Common.{◌≡◌, ℕ, ◌<◌, pos, List, [], ◌∷◌, ◌++◌, map, filter, find, Bool, true, false, ◌&&◌, ◌||◌, ◌==◌, is_some, Option, Some, None}
+use Rattle.std.proofs.{Common.{option_map, nat_cmp, refl, sym, ap, subst, ◌∙◌, arith}, Math.Bool.and_comm, lemmas.Bool.Decides.nat_tests}
+use Rattle.std.{proofs.lemmas.List.Folds.list_any-append, specs.{List.list_any, Option.option_to_list, declared.cmp.Ordering.TheVariants.Less}}
+use Rattle.{sqlite_value.specs.{Order.Row, declared.value.Value.{Value, TheVariants.Int}}, sqlite_trees.proofs.ListLemmas.{map-map, ascending-map}}
+use Rattle.{sqlite_trees.proofs.ListLemmas.ascending_weaker, circle.{proofs.Lookup.any_having, specs.Directory.{Directory, has_membership, has_group_member}}}
 use Rattle.circle.specs.Reads.{communities_of, members_of, connected_to, memberships_in_groups, share_community, joins, are_connected, arranged}
-use Rattle.circle.specs.Sound.{IsSound}
-use Rattle.circle.proofs.Lookup.{any_having}
-use Rattle.hub_state.proofs.Counted.{any_same}
-use Rattle.hub_state.proofs.Keeping.{any_map}
-use Rattle.hub_store.specs.Pairs.{Pair}
-use Rattle.hub_store.specs.inner.PairKinds.{pairs_of, pair_between, is_between, pairs_from, pairs_to, value_shown, first_shown}
-use Rattle.hub_store.specs.Rows.{one_if, membership_pair, connection_pair, group_member_pair, arrangement_pair}
-use Rattle.hub_store.specs.inner.ShownPairs.{handling_shown, joined_shown, joined_of, AreRising, is_one_of, linked_with}
-use Rattle.hub_store.specs.Values.{flag}
+use Rattle.circle.specs.{Sound.IsSound, declared.directory.{Arrangement.Arrangement, Connection.Connection, GroupMember.GroupMember, Membership.Membership}}
+use Rattle.{hub_state.proofs.{Counted.any_same, Keeping.any_map}, hub_store.proofs.LookUps.{AskedPairs.{Below, pairs_rise}, ByNumber.some_passes}}
+use Rattle.hub_store.{proofs.{LookUps.{Listed.{rising_passing, first_decides}, PairRows.{found_pair, viewed_pairs}}, Rows.Found.map_each}, specs.Pairs.Pair}
+use Rattle.hub_store.specs.{Rows.{one_if, membership_pair, connection_pair, group_member_pair, arrangement_pair}, Values.flag}
+use Rattle.hub_store.specs.{declared.pair_kind.PairKind.PairKind, inner.PairKinds.{pairs_of, pair_between, is_between, pairs_from, pairs_to, value_shown}}
+use Rattle.hub_store.specs.inner.{PairKinds.first_shown, ShownPairs.{handling_shown, joined_shown, joined_of, AreRising, is_one_of, linked_with}}
 use Rattle.hub_store.specs.declared.pair_kind.PairKind.TheVariants as kind
-use Rattle.hub_store.specs.declared.pair_kind.PairKind.{PairKind}
-use Rattle.hub_store.proofs.LookUps.AskedPairs.{Below, pairs_rise}
-use Rattle.hub_store.proofs.LookUps.ByNumber.{some_passes}
-use Rattle.hub_store.proofs.Rows.Found.{map_each}
-use Rattle.hub_store.proofs.LookUps.Listed.{rising_passing, first_decides}
-use Rattle.hub_store.proofs.LookUps.PairRows.{found_pair, viewed_pairs}
 
 -- ---- arrangements and groups
 

@@ -1,24 +1,12 @@
 -- Members of a group that may extend it, by the flag of their row.
-use Rattle.std.proofs.Common.{◌≡◌, ℕ, List, [], ◌∷◌, map, find, Bool, true, false, ◌&&◌, ◌==◌, is_some, Option, Some, None, option_map, Result, Ok, Err, IfOk, sym, ap, subst, ◌∙◌}
-use Rattle.std.specs.List.{AllByRecursion, list_any}
-use Rattle.std.specs.Option.{option_map_or, option_to_list}
-use Rattle.std.proofs.lemmas.Iterator.Adapters.{option_map_id}
-use Rattle.sqlite_value.specs.Order.{Row}
-use Rattle.sqlite.specs.declared.error.Error.{Error}
-use Rattle.circle.specs.declared.directory.GroupMember.{GroupMember}
-use Rattle.circle.specs.Directory.{Directory, has_extender}
+use Rattle.std.proofs.Common.{◌≡◌, ℕ, List, [], ◌∷◌, map, find, Bool, true, false, ◌&&◌, ◌==◌, is_some, Option, Some, None, option_map, Result, Ok, Err, IfOk}
+use Rattle.std.{proofs.{Common.{sym, ap, subst, ◌∙◌}, lemmas.Iterator.Adapters.option_map_id}, specs.{List.{AllByRecursion, list_any}, Option.option_map_or}}
+use Rattle.{std.specs.Option.option_to_list, sqlite_value.specs.Order.Row, sqlite.specs.declared.error.Error.Error, circle.specs.Directory.Directory}
+use Rattle.{circle.specs.{Directory.has_extender, declared.directory.GroupMember.GroupMember}, hub_store.proofs.LookUps.AskedPairs.{once_between, pairs_rise}}
+use Rattle.hub_store.{proofs.LookUps.{ByNumber.some_passes, DirectorySets.as_flag, Finding.Once, PairRows.found_pair, Whether.one_passes}, specs.Pairs.Pair}
+use Rattle.hub_store.specs.{Rows.group_member_pair, inner.{FirstShown.ShowsFlagOrFalse, PairKinds.{is_between, pair_between, value_shown}}}
 use Rattle.circle.specs.Sound as circle
-use Rattle.hub_store.specs.inner.FirstShown.{ShowsFlagOrFalse}
-use Rattle.hub_store.specs.inner.PairKinds.{is_between, pair_between, value_shown}
-use Rattle.hub_store.specs.Pairs.{Pair}
-use Rattle.hub_store.specs.Rows.{group_member_pair}
 use Rattle.hub_store.specs.declared.pair_kind.PairKind.TheVariants as kind
-use Rattle.hub_store.proofs.LookUps.AskedPairs.{once_between, pairs_rise}
-use Rattle.hub_store.proofs.LookUps.ByNumber.{some_passes}
-use Rattle.hub_store.proofs.LookUps.DirectorySets.{as_flag}
-use Rattle.hub_store.proofs.LookUps.Finding.{Once}
-use Rattle.hub_store.proofs.LookUps.PairRows.{found_pair}
-use Rattle.hub_store.proofs.LookUps.Whether.{one_passes}
 
 -- there is such a pair exactly if there is such an element
 pub pair_there : {X : Type 0} (pair : X → Pair) (a b : ℕ) (xs : List X) → is_some (find (is_between a b) (map pair xs)) ≡ list_any (λ x. is_between a b (pair x)) xs

@@ -1,24 +1,12 @@
 -- What a query finds: the elements that pass, and the values that the rows show.
-use Rattle.std.proofs.Common.{◌≡◌, ◌≢◌, ℕ, List, [], ◌∷◌, ◌++◌, map, filter, find, Bool, true, false, cond, ◌==◌, Option, Some, None, option_map, Result, Ok, Err, IfOk, nat_cmp, refl, sym, ap, subst, ◌∙◌, arith}
-use Rattle.std.specs.Option.{option_to_list}
-use Rattle.std.specs.Str.{bytes_eq}
-use Rattle.std.specs.List.Sorted.{IsPermutation}
-use Rattle.std.specs.declared.cmp.Ordering.TheVariants.{Less}
-use Rattle.std.proofs.lemmas.Bool.{false_from_ne_true}
-use Rattle.std.proofs.lemmas.Bool.Decides.{nat_tests}
-use Rattle.std.proofs.lemmas.List.Sorted.{IsPermutation-map, IsPermutation-trans, length_permutation}
-use Rattle.sqlite_value.specs.Order.{Row}
-use Rattle.sqlite_trees.specs.Tree.{Trees}
-use Rattle.sqlite_trees.proofs.ListLemmas.{map-map, filter-map, filter_same, filter_none, all_weaker, IsPermutation-filter}
-use Rattle.sqlite.specs.declared.error.Error.{Error}
-use Rattle.sqlite.proofs.Callers.{one_permutation}
-use Rattle.iodef_tree.proofs.Order.{bytes_eq-true}
-use Rattle.circle.specs.Sound.{Pairwise, CountsFrom, Differ}
-use Rattle.hub_store.specs.Holdings.{Holding, IsHeld}
-use Rattle.hub_store.specs.inner.Shown.{IsShownBy, ShowsFirst, ShowsAll}
-use Rattle.hub_store.proofs.Rows.Found.{always, filter_rows, map_each}
-use Rattle.hub_store.proofs.Rows.Lists.{Rises}
-use Rattle.hub_store.proofs.Rows.Rising.{counted}
+use Rattle.std.proofs.Common.{◌≡◌, ◌≢◌, ℕ, List, [], ◌∷◌, ◌++◌, map, filter, find, Bool, true, false, cond, ◌==◌, Option, Some, None, option_map, Result, Ok}
+use Rattle.std.proofs.{Common.{Err, IfOk, nat_cmp, refl, sym, ap, subst, ◌∙◌, arith}, lemmas.Bool.{false_from_ne_true, Decides.nat_tests}}
+use Rattle.std.{proofs.lemmas.List.Sorted.{IsPermutation-map, IsPermutation-trans, length_permutation}, specs.List.Sorted.IsPermutation}
+use Rattle.{std.specs.{Option.option_to_list, Str.bytes_eq, declared.cmp.Ordering.TheVariants.Less}, sqlite_value.specs.Order.Row}
+use Rattle.sqlite_trees.{proofs.ListLemmas.{map-map, filter-map, filter_same, filter_none, all_weaker, IsPermutation-filter}, specs.Tree.Trees}
+use Rattle.{sqlite.{proofs.Callers.one_permutation, specs.declared.error.Error.Error}, iodef_tree.proofs.Order.bytes_eq-true, circle.specs.Sound.Pairwise}
+use Rattle.{circle.specs.Sound.{CountsFrom, Differ}, hub_store.proofs.Rows.{Found.{always, filter_rows, map_each}, Lists.Rises, Rising.counted}}
+use Rattle.hub_store.specs.{Holdings.{Holding, IsHeld}, inner.Shown.{IsShownBy, ShowsFirst, ShowsAll}}
 
 -- ---- the elements that pass
 

@@ -1,34 +1,15 @@
 -- The groups of an organisation, as queries find them.
 use Rattle.std.proofs.Common.{◌≡◌, ℕ, pos, List, [], ◌∷◌, map, filter, find, Bool, true, false, cond, ◌==◌, Option, Some, None, option_map, refl, sym, ap, ◌∙◌}
-use Rattle.std.specs.Prelude.{is_some}
-use Rattle.std.specs.List.{AllByRecursion, list_any, filter_map, cons_option}
-use Rattle.std.specs.Option.{option_to_list}
-use Rattle.std.specs.List.Sorted.{IsPermutation}
-use Rattle.std.proofs.lemmas.Bool.{eqb-true, false≢true}
-use Rattle.std.proofs.Math.Bool.{or-false}
-use Rattle.sqlite_value.specs.declared.value.Value.TheVariants.{Int}
-use Rattle.sqlite_value.specs.Order.{Row}
-use Rattle.sqlite_trees.specs.Tree.{Trees}
-use Rattle.sqlite_sql.specs.Term.{col}
-use Rattle.sqlite_sql.specs.Query.{IsAnswer}
-use Rattle.circle.specs.declared.directory.Group.{Group}
-use Rattle.circle.specs.declared.directory.GroupMember.{GroupMember}
-use Rattle.circle.specs.Directory.{Directory, group_number, has_group_being}
-use Rattle.circle.specs.Reads.{group_of, memberships_in_groups, groups_joined, active_groups_joined}
+use Rattle.std.{proofs.{Math.Bool.or-false, lemmas.Bool.{eqb-true, false≢true}}, specs.List.{AllByRecursion, list_any, filter_map, cons_option}}
+use Rattle.{std.specs.{List.Sorted.IsPermutation, Option.option_to_list, Prelude.is_some}, sqlite_value.specs.{Order.Row, declared.value.Value.TheVariants.Int}}
+use Rattle.{sqlite_trees.specs.Tree.Trees, sqlite_sql.specs.{Query.IsAnswer, Term.col}, circle.proofs.{Keeping.{each_left, each_weaker}, Lookup.any_having}}
+use Rattle.circle.specs.{Directory.{Directory, group_number, has_group_being}, Reads.{group_of, memberships_in_groups, groups_joined, active_groups_joined}}
+use Rattle.{circle.specs.declared.directory.{Group.Group, GroupMember.GroupMember}, hub_state.specs.{Reads.joined, Sound.IsSound}}
+use Rattle.{hub_state.specs.declared.reply.JoinedGroup.JoinedGroup, hub_store.proofs.LookUps.{ByNumber.{one_with_number, some_passes}, Finding.only_one}}
+use Rattle.hub_store.{proofs.{LookUps.Finding.once_numbered, Rows.{Forms.{one_table, is_param}, Places.{grp_place, grp_tree, held_of}}}, specs.Means.Means}
+use Rattle.hub_store.specs.{Rows.group_row, inner.ShownPairs.{group_shown, joined_of, group_if_any, groups_in}}
 use Rattle.circle.specs.Sound as circle
-use Rattle.circle.proofs.Keeping.{each_left, each_weaker}
-use Rattle.circle.proofs.Lookup.{any_having}
 use Rattle.hub_state.specs.State as core
-use Rattle.hub_state.specs.Sound.{IsSound}
-use Rattle.hub_state.specs.Reads.{joined}
-use Rattle.hub_state.specs.declared.reply.JoinedGroup.{JoinedGroup}
-use Rattle.hub_store.specs.Means.{Means}
-use Rattle.hub_store.specs.Rows.{group_row}
-use Rattle.hub_store.specs.inner.ShownPairs.{group_shown, joined_of, group_if_any, groups_in}
-use Rattle.hub_store.proofs.LookUps.ByNumber.{one_with_number, some_passes}
-use Rattle.hub_store.proofs.LookUps.Finding.{only_one, once_numbered}
-use Rattle.hub_store.proofs.Rows.Forms.{one_table, is_param}
-use Rattle.hub_store.proofs.Rows.Places.{grp_place, grp_tree, held_of}
 
 pub group_found : (db : Trees) (s : core.State) (n : ℕ) (rows : List Row) → IsSound s → Means db s → IsAnswer (one_table grp_tree (is_param 0 0 ∷ []) (col 1 0 ∷ col 1 2 ∷ col 1 3 ∷ col 1 4 ∷ col 1 5 ∷ [])) db (Int (pos n) ∷ []) rows
     → IsPermutation (map group_shown (option_to_list (group_of n s.directory))) rows

@@ -1,11 +1,8 @@
 -- What a binary search finds in numbers that rise.
-use Rattle.std.proofs.Common.{◌≡◌, ◌⊎◌, inl, inr, ℕ, suc, ◌<◌, ◌≤◌, List, [], ◌∷◌, length, get_or, false, ◌||◌, ◌==◌, Result, Ok, Err, is_ok, MatchResult, nat_cmp, refl, sym, ap, subst, ◌∙◌, arith}
-use Rattle.std.specs.List.Sorted.{IsBinarySearchResult}
-use Rattle.std.proofs.lemmas.Bool.{cases_lt, eq-eqb, ne_eqb}
-use Rattle.std.proofs.lemmas.List.Folds.{list_any_at}
-use Rattle.std.proofs.lemmas.List.Sorted.{searched}
-use Rattle.sqlite_trees.proofs.ListLemmas.{ascending-get_or}
-use Rattle.hub_store.specs.inner.ShownPairs.{AreRising, is_one_of}
+use Rattle.std.proofs.Common.{◌≡◌, ◌⊎◌, inl, inr, ℕ, suc, ◌<◌, ◌≤◌, List, [], ◌∷◌, length, get_or, false, ◌||◌, ◌==◌, Result, Ok, Err, is_ok, MatchResult}
+use Rattle.std.proofs.{Common.{nat_cmp, refl, sym, ap, subst, ◌∙◌, arith}, lemmas.{Bool.{cases_lt, eq-eqb, ne_eqb}, List.{Folds.list_any_at, Sorted.searched}}}
+use Rattle.{std.specs.List.Sorted.IsBinarySearchResult, sqlite_trees.proofs.ListLemmas.ascending-get_or, hub_store.specs.inner.ShownPairs.AreRising}
+use Rattle.hub_store.specs.inner.ShownPairs.{is_one_of}
 
 not_falling : (xs : List ℕ) → AreRising xs → (i j : ℕ) → i ≤ j → j < length xs → get_or xs i 0 ≤ get_or xs j 0
 not_falling xs up i j le low = go (cases_lt i j)

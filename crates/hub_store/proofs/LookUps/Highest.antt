@@ -1,36 +1,16 @@
 -- The highest number of a table whose numbers have no gap: how many rows there are.
-use Rattle.std.proofs.Common.{◌≡◌, ℕ, zero, suc, pos, ◌+◌, ◌<◌, List, [], ◌∷◌, ◌++◌, map, take, length, reverse, true, nat_lt, nat_cmp, Result, Ok, Err, IfOk, refl, sym, ap, subst, ◌∙◌, arith}
-use Rattle.std.specs.List.{AllByRecursion}
-use Rattle.std.specs.declared.cmp.Ordering.TheVariants.{Less}
-use Rattle.std.proofs.lemmas.Bool.Decides.{nat_tests}
-use Rattle.std.proofs.lemmas.List.{map-append}
-use Rattle.std.proofs.lemmas.List.Sorted.{IsPermutation-map, IsPermutation-reverse}
+use Rattle.std.proofs.Common.{◌≡◌, ℕ, zero, suc, pos, ◌+◌, ◌<◌, List, [], ◌∷◌, ◌++◌, map, take, length, reverse, true, nat_lt, nat_cmp, Result, Ok, Err, IfOk}
+use Rattle.std.proofs.{Common.{refl, sym, ap, subst, ◌∙◌, arith}, lemmas.{Bool.Decides.nat_tests, List.{map-append, Sorted.IsPermutation-map}}}
+use Rattle.std.{proofs.lemmas.List.Sorted.IsPermutation-reverse, specs.{List.AllByRecursion, declared.cmp.Ordering.TheVariants.Less}}
 use mathlib.Core.List.{reverse-cons}
-use Rattle.sqlite_value.specs.declared.value.Value.TheVariants.{Int}
-use Rattle.sqlite_value.specs.declared.keys.Collation.TheVariants.{Binary}
-use Rattle.sqlite_value.specs.declared.keys.Key.{Key}
-use Rattle.sqlite_value.specs.Order.{Row, column}
-use Rattle.sqlite_value.proofs.OrderLemmas.{value_cmp-Int}
-use Rattle.sqlite_trees.specs.Tree.{Trees, IsAscending}
-use Rattle.sqlite_trees.proofs.ListLemmas.{all_weaker, all-permutation, ascending-append}
-use Rattle.sqlite_sql.specs.Term.{Term, lit, col, op2, eval_all}
-use Rattle.sqlite_sql.specs.Ops.{binary, is_true}
-use Rattle.sqlite_sql.specs.declared.ops.BinaryOp.TheVariants.{Compare}
-use Rattle.sqlite_sql.specs.declared.ops.CompareOp.TheVariants.{Gt}
-use Rattle.sqlite_sql.specs.Query.{IsAnswer, Output}
-use Rattle.sqlite.specs.declared.error.Error.{Error}
-use Rattle.iodef_tree.proofs.Siblings.{filter-all}
-use Rattle.circle.specs.Sound.{CountsFrom}
-use Rattle.hub_state.proofs.Keeping.{numbers_above}
+use Rattle.sqlite_value.{proofs.OrderLemmas.value_cmp-Int, specs.{Order.{Row, column}, declared.keys.{Collation.TheVariants.Binary, Key.Key}}}
+use Rattle.{sqlite_value.specs.declared.value.Value.TheVariants.Int, sqlite_trees.proofs.ListLemmas.{all_weaker, all-permutation, ascending-append}}
+use Rattle.{sqlite_trees.specs.Tree.{Trees, IsAscending}, sqlite_sql.specs.{Ops.{binary, is_true}, Query.{IsAnswer, Output}, Term.{Term, lit, col, op2}}}
+use Rattle.{sqlite_sql.specs.{Term.eval_all, declared.ops.{BinaryOp.TheVariants.Compare, CompareOp.TheVariants.Gt}}, sqlite.specs.declared.error.Error.Error}
+use Rattle.{iodef_tree.proofs.Siblings.filter-all, circle.specs.Sound.CountsFrom, hub_state.proofs.Keeping.numbers_above}
+use Rattle.hub_store.proofs.{LookUps.Listed.{listed, int_below}, Rows.{Compare.{more_than, and-true}, Found.map_each, Held.permuted, Rising.less}}
+use Rattle.hub_store.{proofs.Rows.{Statements.{keeps, shows}, TextsHighest.highest_query}, specs.Holdings.{IsHeld, holding_by_number}}
 use Rattle.hub_store.specs.inner.FirstShown.{number_shown, ShowsNumberOrZero}
-use Rattle.hub_store.specs.Holdings.{IsHeld, holding_by_number}
-use Rattle.hub_store.proofs.Rows.Compare.{more_than, and-true}
-use Rattle.hub_store.proofs.Rows.Found.{map_each}
-use Rattle.hub_store.proofs.Rows.Held.{permuted}
-use Rattle.hub_store.proofs.LookUps.Listed.{listed, int_below}
-use Rattle.hub_store.proofs.Rows.Statements.{keeps, shows}
-use Rattle.hub_store.proofs.Rows.TextsHighest.{highest_query}
-use Rattle.hub_store.proofs.Rows.Rising.{less}
 
 -- ---- lists
 

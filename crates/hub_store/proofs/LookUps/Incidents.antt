@@ -1,43 +1,17 @@
 -- What queries find of incidents.
-use Rattle.std.proofs.Common.{◌≡◌, ℕ, pos, List, [], ◌∷◌, map, filter, take, ◌==◌, nat_lt, Option, Some, None, option_map, Result, Ok, Err, IfOk, nat_cmp, refl, sym, ap, subst, ◌∙◌}
-use Rattle.std.specs.Option.{option_to_list}
-use Rattle.std.specs.List.Sorted.{IsPermutation}
-use Rattle.std.specs.declared.cmp.Ordering.TheVariants.{Less}
-use Rattle.std.proofs.lemmas.Bool.{eqb-true}
-use Rattle.std.proofs.lemmas.List.{take-map}
-use Rattle.sqlite_value.specs.declared.value.Value.TheVariants.{Int}
-use Rattle.sqlite_value.specs.declared.keys.Key.{Key}
-use Rattle.sqlite_value.specs.Order.{Row}
-use Rattle.sqlite_value.proofs.OrderLemmas.{value_cmp-Int}
-use Rattle.sqlite_trees.specs.Tree.{Trees}
-use Rattle.sqlite_trees.proofs.ListLemmas.{map-map}
-use Rattle.sqlite_sql.specs.Term.{Term, col, eval_all}
-use Rattle.sqlite_sql.specs.Query.{Query, IsAnswer, Output}
-use Rattle.sqlite.specs.declared.error.Error.{Error}
-use Rattle.iodef_tree.specs.Json.{incident_id}
-use Rattle.hub_state.specs.Documents.{Lines}
-use Rattle.hub_state.specs.Reads.{naming_of, entry_of, entries_after, its_gates, its_permissions, case_for, case_of}
+use Rattle.std.proofs.Common.{◌≡◌, ℕ, pos, List, [], ◌∷◌, map, filter, take, ◌==◌, nat_lt, Option, Some, None, option_map, Result, Ok, Err, IfOk, nat_cmp, refl}
+use Rattle.std.{proofs.{Common.{sym, ap, subst, ◌∙◌}, lemmas.{Bool.eqb-true, List.take-map}}, specs.{List.Sorted.IsPermutation, Option.option_to_list}}
+use Rattle.{std.specs.declared.cmp.Ordering.TheVariants.Less, sqlite_value.{proofs.OrderLemmas.value_cmp-Int, specs.{Order.Row, declared.keys.Key.Key}}}
+use Rattle.{sqlite_value.specs.declared.value.Value.TheVariants.Int, sqlite_trees.{proofs.ListLemmas.map-map, specs.Tree.Trees}, sqlite_sql.specs.Query.Query}
+use Rattle.{sqlite_sql.specs.{Query.{IsAnswer, Output}, Term.{Term, col, eval_all}}, sqlite.specs.declared.error.Error.Error, iodef_tree.specs.Json.incident_id}
+use Rattle.hub_state.{proofs.Keeping.{found_is, found_each}, specs.{Documents.Lines, Reads.{naming_of, entry_of, entries_after, its_gates, its_permissions}}}
+use Rattle.hub_state.specs.{Reads.{case_for, case_of}, Sound.IsSound, State.{incident_number, incident_of}, declared.state.{Incident.Incident, Naming.Naming}}
+use Rattle.{policy.specs.declared.case.Case.Case, hub_store.proofs.LookUps.{AtPlaces.lines_are, ByNumber.one_with_number, Finding.as_viewed, Listed.listed}}
+use Rattle.hub_store.proofs.{LookUps.Listed.int_below, Rows.{Compare.{more_than, and-true}, Forms.{one_table, is_param, is_above, by_column}}}
+use Rattle.hub_store.proofs.Rows.{Items.{lines_query, its_lines, lines_listed}, Places.{incident_place, incident_tree, held_of}, Rising.counted}
+use Rattle.hub_store.{proofs.Rows.Statements.{keeps, shows}, specs.{Items.{placed_shown, placed_from}, Means.Means, Rows.named_row, inner.Shown.ShowsLines}}
+use Rattle.hub_store.specs.inner.Shown.{IsCase, entry_shown, naming_shown}
 use Rattle.hub_state.specs.State as core
-use Rattle.hub_state.specs.State.{incident_number, incident_of}
-use Rattle.hub_state.specs.Sound.{IsSound}
-use Rattle.hub_state.proofs.Keeping.{found_is, found_each}
-use Rattle.hub_state.specs.declared.state.Naming.{Naming}
-use Rattle.hub_state.specs.declared.state.Incident.{Incident}
-use Rattle.policy.specs.declared.case.Case.{Case}
-use Rattle.hub_store.specs.Means.{Means}
-use Rattle.hub_store.specs.Rows.{named_row}
-use Rattle.hub_store.specs.Items.{placed_shown, placed_from}
-use Rattle.hub_store.specs.inner.Shown.{ShowsLines, IsCase, entry_shown, naming_shown}
-use Rattle.hub_store.proofs.LookUps.ByNumber.{one_with_number}
-use Rattle.hub_store.proofs.Rows.Compare.{more_than, and-true}
-use Rattle.hub_store.proofs.Rows.Forms.{one_table, is_param, is_above, by_column}
-use Rattle.hub_store.proofs.Rows.Statements.{keeps, shows}
-use Rattle.hub_store.proofs.LookUps.AtPlaces.{lines_are}
-use Rattle.hub_store.proofs.LookUps.Finding.{as_viewed}
-use Rattle.hub_store.proofs.LookUps.Listed.{listed, int_below}
-use Rattle.hub_store.proofs.Rows.Items.{lines_query, its_lines, lines_listed}
-use Rattle.hub_store.proofs.Rows.Rising.{counted}
-use Rattle.hub_store.proofs.Rows.Places.{incident_place, incident_tree, held_of}
 
 -- ---- by the number
 

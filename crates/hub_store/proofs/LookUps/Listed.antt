@@ -1,31 +1,14 @@
 -- What a query of one table lists in the order of a key.
-use Rattle.std.proofs.Common.{◌≡◌, ℕ, suc, pos, negsuc, List, [], ◌∷◌, Vec, map, filter, drop, Bool, true, false, cond, ◌==◌}
-use Rattle.std.proofs.Common.{Result, Ok, Err, IfOk, nat_cmp, refl, ap, ap₂, subst, ◌∙◌, arith}
-use Rattle.std.specs.List.{AllByRecursion}
-use Rattle.std.specs.List.Sorted.{IsPermutation}
-use Rattle.std.specs.Ordering.{int_cmp, ordering_then}
-use Rattle.std.specs.declared.alloc.Global.{Global}
-use Rattle.std.specs.declared.cmp.Ordering.{Ordering}
-use Rattle.std.specs.declared.cmp.Ordering.TheVariants.{Less, Equal, Greater}
-use Rattle.std.proofs.lemmas.Bool.{eqb-true}
-use Rattle.std.proofs.lemmas.Bool.Decides.{nat_tests}
-use Rattle.sqlite_value.specs.declared.keys.Key.{Key}
-use Rattle.sqlite_value.specs.declared.value.Value.TheVariants.{Int}
-use Rattle.sqlite_value.specs.Order.{Row, column}
-use Rattle.sqlite_trees.specs.Tree.{Trees, IsAscending}
-use Rattle.sqlite_trees.proofs.ListLemmas.{map-map, all_weaker, ascending-map, ascending_weaker}
-use Rattle.sqlite_sql.specs.Term.{Term, lit, col, eval, eval_all}
-use Rattle.sqlite_sql.specs.Query.{Query, IsAnswer, Output, output_cmp, limited, as_count}
-use Rattle.sqlite_sql.proofs.QueryLemmas.{output_cmp_total}
-use Rattle.sqlite.specs.declared.error.Error.{Error}
-use Rattle.hub_store.specs.Holdings.{IsHeld}
-use Rattle.hub_store.specs.inner.Shown.{IsShownBy, ShowsAll}
-use Rattle.hub_store.proofs.Rows.Compare.{column_past}
-use Rattle.hub_store.proofs.Rows.Forms.{one_table, by_column, ordered_by}
-use Rattle.hub_store.proofs.Rows.Lists.{Rises}
-use Rattle.hub_store.proofs.Rows.Orders.{sorted_as}
-use Rattle.hub_store.proofs.Rows.Statements.{keeps, shows, ordered_rows}
-use Rattle.hub_store.proofs.LookUps.Finding.{seen_through, of_elements, all_are}
+use Rattle.std.proofs.Common.{◌≡◌, ℕ, suc, pos, negsuc, List, [], ◌∷◌, Vec, map, filter, drop, Bool, true, false, cond, ◌==◌, Result, Ok, Err, IfOk, nat_cmp}
+use Rattle.std.{proofs.{Common.{refl, ap, ap₂, subst, ◌∙◌, arith}, lemmas.Bool.{eqb-true, Decides.nat_tests}}, specs.List.AllByRecursion}
+use Rattle.std.specs.{List.Sorted.IsPermutation, Ordering.{int_cmp, ordering_then}, declared.{alloc.Global.Global, cmp.Ordering.{Ordering, TheVariants.Less}}}
+use Rattle.{std.specs.declared.cmp.Ordering.TheVariants.{Equal, Greater}, sqlite_value.specs.{Order.{Row, column}, declared.keys.Key.Key}}
+use Rattle.{sqlite_value.specs.declared.value.Value.TheVariants.Int, sqlite_trees.proofs.ListLemmas.{map-map, all_weaker, ascending-map, ascending_weaker}}
+use Rattle.{sqlite_trees.specs.Tree.{Trees, IsAscending}, sqlite_sql.{proofs.QueryLemmas.output_cmp_total, specs.Query.{Query, IsAnswer, Output, output_cmp}}}
+use Rattle.{sqlite_sql.specs.{Query.{limited, as_count}, Term.{Term, lit, col, eval, eval_all}}, sqlite.specs.declared.error.Error.Error}
+use Rattle.hub_store.proofs.{LookUps.Finding.{seen_through, of_elements, all_are}, Rows.{Compare.column_past, Forms.{one_table, by_column, ordered_by}}}
+use Rattle.hub_store.{proofs.Rows.{Lists.Rises, Orders.sorted_as, Statements.{keeps, shows, ordered_rows}}, specs.{Holdings.IsHeld, inner.Shown.IsShownBy}}
+use Rattle.hub_store.specs.inner.Shown.{ShowsAll}
 
 -- ---- lists that rise, and what passes of them
 

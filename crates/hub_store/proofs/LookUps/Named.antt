@@ -1,33 +1,13 @@
 -- The incident that a query finds by its source and ident.
-use Rattle.std.proofs.Common.{◌≡◌, ◌≢◌, ℕ, pos, List, [], ◌∷◌, map, Bool, true, false, ◌==◌, ◌&&◌, Option, Some, None, option_map, Result, Ok, Err, IfOk, refl, ap, subst}
-use Rattle.std.specs.Option.{option_to_list}
-use Rattle.std.specs.Str.{bytes_eq}
-use Rattle.std.specs.List.Sorted.{IsPermutation}
-use Rattle.std.proofs.lemmas.Bool.{false_from_ne_true}
-use Rattle.sqlite_value.specs.declared.value.Value.TheVariants.{Int, Text}
-use Rattle.sqlite_value.specs.Order.{Row, column}
-use Rattle.sqlite_trees.specs.Tree.{Trees}
-use Rattle.sqlite_trees.proofs.ListLemmas.{all_weaker}
-use Rattle.sqlite_sql.specs.Term.{col}
-use Rattle.sqlite_sql.specs.Query.{IsAnswer}
-use Rattle.sqlite.specs.declared.error.Error.{Error}
-use Rattle.circle.specs.Sound.{Differ}
+use Rattle.std.proofs.Common.{◌≡◌, ◌≢◌, ℕ, pos, List, [], ◌∷◌, map, Bool, true, false, ◌==◌, ◌&&◌, Option, Some, None, option_map, Result, Ok, Err, IfOk, refl}
+use Rattle.std.{proofs.{Common.{ap, subst}, lemmas.Bool.false_from_ne_true}, specs.{List.Sorted.IsPermutation, Option.option_to_list, Str.bytes_eq}}
+use Rattle.{sqlite_value.specs.{Order.{Row, column}, declared.value.Value.TheVariants.{Int, Text}}, sqlite_trees.proofs.ListLemmas.all_weaker}
+use Rattle.{sqlite_trees.specs.Tree.Trees, sqlite_sql.specs.{Query.IsAnswer, Term.col}, sqlite.specs.declared.error.Error.Error, circle.specs.Sound.Differ}
+use Rattle.hub_state.{proofs.Found.one_name, specs.{Sound.IsSound, State.{incident_named, incident_number}, declared.state.Incident.Incident}}
+use Rattle.hub_store.proofs.{LookUps.{ByNumber.found_once, Finding.{Once, as_viewed, reads_first}}, Rows.Compare.{equal_numbers, equal_texts, and-true}}
+use Rattle.hub_store.{proofs.Rows.{Forms.{one_table, is_param}, Places.{incident_place, incident_tree, held_of}, Statements.shows}, specs.Means.Means}
+use Rattle.hub_store.specs.{Rows.named_row, inner.{FirstShown.number_shown, Shown.{IsShownBy, ShowsFirst}, ShownPairs.ShowsNumber}}
 use Rattle.hub_state.specs.State as core
-use Rattle.hub_state.specs.State.{incident_named, incident_number}
-use Rattle.hub_state.specs.Sound.{IsSound}
-use Rattle.hub_state.specs.declared.state.Incident.{Incident}
-use Rattle.hub_state.proofs.Found.{one_name}
-use Rattle.hub_store.specs.Means.{Means}
-use Rattle.hub_store.specs.inner.FirstShown.{number_shown}
-use Rattle.hub_store.specs.Rows.{named_row}
-use Rattle.hub_store.specs.inner.Shown.{IsShownBy, ShowsFirst}
-use Rattle.hub_store.specs.inner.ShownPairs.{ShowsNumber}
-use Rattle.hub_store.proofs.LookUps.ByNumber.{found_once}
-use Rattle.hub_store.proofs.Rows.Compare.{equal_numbers, equal_texts, and-true}
-use Rattle.hub_store.proofs.Rows.Forms.{one_table, is_param}
-use Rattle.hub_store.proofs.Rows.Statements.{shows}
-use Rattle.hub_store.proofs.LookUps.Finding.{Once, as_viewed, reads_first}
-use Rattle.hub_store.proofs.Rows.Places.{incident_place, incident_tree, held_of}
 
 abbrev is_named : ℕ → List ℕ → Incident → Bool
 is_named source ident i = i.naming.source == source && bytes_eq i.naming.ident ident

@@ -1,17 +1,10 @@
 -- What the rows of pairs are read as.
-use Rattle.std.proofs.Common.{◌≡◌, ℕ, pos, List, [], ◌∷◌, Vec, map, filter, find, length, Bool, true, false, cond, not, ◌==◌, is_some, Option, Some, None, option_map, Result, Ok, Err, IfOk, refl, ap, subst, ◌∙◌}
-use Rattle.std.specs.Option.{option_to_list}
-use Rattle.std.specs.declared.alloc.Global.{Global}
-use Rattle.std.specs.List.Sorted.{IsPermutation}
-use Rattle.std.proofs.lemmas.List.Sorted.{IsPermutation-refl}
-use Rattle.sqlite_value.specs.declared.value.Value.TheVariants.{Int}
-use Rattle.sqlite_value.specs.Order.{Row, column}
-use Rattle.sqlite_trees.proofs.ListLemmas.{map-map, filter-map}
-use Rattle.sqlite.specs.declared.error.Error.{Error}
-use Rattle.hub_store.specs.inner.Shown.{ShowsAll, ShowsFirst, IsShownBy}
-use Rattle.hub_store.specs.inner.ShownPairs.{ShowsNumber}
-use Rattle.hub_store.specs.Pairs.{Pair}
-use Rattle.hub_store.proofs.LookUps.Finding.{reads_first}
+use Rattle.std.proofs.Common.{◌≡◌, ℕ, pos, List, [], ◌∷◌, Vec, map, filter, find, length, Bool, true, false, cond, not, ◌==◌, is_some, Option, Some, None}
+use Rattle.std.proofs.{Common.{option_map, Result, Ok, Err, IfOk, refl, ap, subst, ◌∙◌}, lemmas.List.Sorted.IsPermutation-refl}
+use Rattle.{std.specs.{List.Sorted.IsPermutation, Option.option_to_list, declared.alloc.Global.Global}, sqlite_value.specs.Order.{Row, column}}
+use Rattle.{sqlite_value.specs.declared.value.Value.TheVariants.Int, sqlite_trees.proofs.ListLemmas.{map-map, filter-map}}
+use Rattle.{sqlite.specs.declared.error.Error.Error, hub_store.{proofs.LookUps.Finding.reads_first, specs.{Pairs.Pair, inner.Shown.{ShowsAll, ShowsFirst}}}}
+use Rattle.hub_store.specs.inner.{Shown.IsShownBy, ShownPairs.ShowsNumber}
 
 -- a row is shown if there is an element
 pub any_alone : {X : Type 0} (shown : X → Row) (o : Option X) (rows : List Row) → rows ≡ map shown (option_to_list o) → not (length rows == 0) ≡ is_some o

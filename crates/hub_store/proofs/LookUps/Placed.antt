@@ -1,33 +1,15 @@
 -- The gates, the permissions and the recipients of an incident, as queries list them.
-use Rattle.std.proofs.Common.{◌≡◌, ℕ, pos, List, [], ◌∷◌, map, filter, true, ◌==◌, nat_cmp, refl, sym, ◌∙◌, arith}
-use Rattle.std.specs.Ordering.{ordering_then, int_cmp}
-use Rattle.std.specs.Cmp.Lexicographic.{slice_cmp}
-use Rattle.std.specs.declared.cmp.Ordering.{Ordering}
-use Rattle.std.specs.declared.cmp.Ordering.TheVariants.{Less, Equal, Greater}
-use Rattle.std.proofs.lemmas.Bool.{eqb-true}
-use Rattle.std.proofs.lemmas.Bool.Decides.{nat_tests}
-use Rattle.sqlite_value.specs.declared.value.Value.TheVariants.{Int}
-use Rattle.sqlite_value.specs.Order.{Row}
-use Rattle.sqlite_value.proofs.OrderLemmas.{value_cmp-Int, value_cmp-Text}
-use Rattle.sqlite_trees.specs.Tree.{Trees}
-use Rattle.sqlite_trees.proofs.ListLemmas.{map-map}
-use Rattle.sqlite_sql.specs.Query.{IsAnswer}
-use Rattle.iodef_tree.specs.Pointer.{pointer_text}
+use Rattle.std.proofs.{Common.{◌≡◌, ℕ, pos, List, [], ◌∷◌, map, filter, true, ◌==◌, nat_cmp, refl, sym, ◌∙◌, arith}, lemmas.Bool.{eqb-true, Decides.nat_tests}}
+use Rattle.std.specs.{Cmp.Lexicographic.slice_cmp, Ordering.{ordering_then, int_cmp}, declared.cmp.Ordering.{Ordering, TheVariants.{Less, Equal, Greater}}}
+use Rattle.sqlite_value.{proofs.OrderLemmas.{value_cmp-Int, value_cmp-Text}, specs.{Order.Row, declared.value.Value.TheVariants.Int}}
+use Rattle.{sqlite_trees.{proofs.ListLemmas.map-map, specs.Tree.Trees}, sqlite_sql.specs.Query.IsAnswer, iodef_tree.specs.Pointer.pointer_text}
+use Rattle.hub_state.specs.{Reads.{its_gates, its_recipients, its_permissions}, Sound.IsSound, State.{gate_cmp, recipient_cmp, permission_cmp, target_key}}
+use Rattle.hub_state.specs.{State.grantee_key, declared.state.{Gate.Gate, Permission.Permission, Recipient.Recipient}}
+use Rattle.hub_store.proofs.{LookUps.Listed.{listed_past, in_order, columns_after, int_below, not_less, next_decides}, Rows.Compare.{begins, equal_numbers}}
+use Rattle.hub_store.proofs.Rows.{Compare.{and-true, past}, Forms.{one_table, is_param, ordered_by}, Places.{gate_place, gate_tree, permission_place}}
+use Rattle.hub_store.{proofs.Rows.{Places.{permission_tree, recipient_place, recipient_tree, held_of}, Rising.rising}, specs.{Means.Means, Rows.gate_row}}
+use Rattle.hub_store.specs.{Rows.{recipient_row, permission_row}, inner.Shown.{gate_shown, target_shown, permission_shown}}
 use Rattle.hub_state.specs.State as core
-use Rattle.hub_state.specs.State.{gate_cmp, recipient_cmp, permission_cmp, target_key, grantee_key}
-use Rattle.hub_state.specs.Reads.{its_gates, its_recipients, its_permissions}
-use Rattle.hub_state.specs.Sound.{IsSound}
-use Rattle.hub_state.specs.declared.state.Gate.{Gate}
-use Rattle.hub_state.specs.declared.state.Recipient.{Recipient}
-use Rattle.hub_state.specs.declared.state.Permission.{Permission}
-use Rattle.hub_store.specs.Means.{Means}
-use Rattle.hub_store.specs.Rows.{gate_row, recipient_row, permission_row}
-use Rattle.hub_store.specs.inner.Shown.{gate_shown, target_shown, permission_shown}
-use Rattle.hub_store.proofs.Rows.Compare.{begins, equal_numbers, and-true, past}
-use Rattle.hub_store.proofs.Rows.Forms.{one_table, is_param, ordered_by}
-use Rattle.hub_store.proofs.LookUps.Listed.{listed_past, in_order, columns_after, int_below, not_less, next_decides}
-use Rattle.hub_store.proofs.Rows.Rising.{rising}
-use Rattle.hub_store.proofs.Rows.Places.{gate_place, gate_tree, permission_place, permission_tree, recipient_place, recipient_tree, held_of}
 
 pub gates_listed : (db : Trees) (s : core.State) (n : ℕ) (rows : List Row) → IsSound s → Means db s
     → IsAnswer (ordered_by (in_order (1 ∷ [])) (one_table gate_tree (is_param 1 0 ∷ []) (columns_after (1 ∷ 2 ∷ 3 ∷ [])))) db (Int (pos n) ∷ []) rows

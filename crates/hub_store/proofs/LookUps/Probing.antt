@@ -1,31 +1,12 @@
 -- The result of a search that read an incident's lines, or as many as made it sure.
 use Rattle.std.proofs.Common.{◌≡◌, ℕ, ◌==◌, [], ◌++◌, Bool, true, false, Option, Some, None, unwrap_or, option_map, Ok, append-nil, refl, sym, ap, subst, ◌∙◌}
-use Rattle.std.specs.Option.{option_map_or}
-use Rattle.std.proofs.lemmas.Bool.{true≢false}
-use Rattle.std.proofs.lemmas.List.Elements.{All-contains, All-from_recursion}
-use Rattle.sqlite.specs.State.{State}
-use Rattle.iodef_tree.specs.Laws.{IsDocument, LinesAreAnOutline}
-use Rattle.iodef_tree.specs.Outline.{is_outline}
-use Rattle.iodef_tree.specs.Paths.{located}
-use Rattle.iodef_tree.specs.Text.{Bytes}
-use Rattle.iodef_tree.proofs.ReadSound.{readings-are-documents}
-use Rattle.marking.specs.Marks.{first_bad_marking}
-use Rattle.policy.specs.declared.standing.Standing.{Standing}
-use Rattle.policy.specs.declared.case.Case.{Case}
-use Rattle.redact.specs.Probed.{ProbeState, IsSure}
-use Rattle.redact.specs.Wants.{meets, meets_by}
-use Rattle.redact.specs.declared.want.Want.{Want}
-use Rattle.hub_state.specs.Documents.{Lines}
-use Rattle.hub_state.specs.Reads.{met_by_incident}
-use Rattle.hub_state.specs.Sound.{IsSound, IsAccepted}
+use Rattle.{std.{proofs.lemmas.{Bool.true≢false, List.Elements.{All-contains, All-from_recursion}}, specs.Option.option_map_or}, sqlite.specs.State.State}
+use Rattle.iodef_tree.{proofs.ReadSound.readings-are-documents, specs.{Laws.{IsDocument, LinesAreAnOutline}, Outline.is_outline, Paths.located, Text.Bytes}}
+use Rattle.{marking.specs.Marks.first_bad_marking, policy.specs.declared.{case.Case.Case, standing.Standing.Standing}, redact.specs.Probed.{ProbeState, IsSure}}
+use Rattle.{redact.specs.{Wants.{meets, meets_by}, declared.want.Want.Want}, hub_state.{proofs.{Keeping.found_each, Marked.met_found}, specs.Documents.Lines}}
+use Rattle.hub_state.specs.{Reads.met_by_incident, Sound.{IsSound, IsAccepted}, State.incident_of, declared.state.Incident.Incident}
+use Rattle.hub_store.specs.inner.{FeedsRows.lines_of, ProbesRows.{HasProbed, AreFirst}, Queries.IsReadOutside}
 use Rattle.hub_state.specs.State as core
-use Rattle.hub_state.specs.State.{incident_of}
-use Rattle.hub_state.specs.declared.state.Incident.{Incident}
-use Rattle.hub_state.proofs.Keeping.{found_each}
-use Rattle.hub_state.proofs.Marked.{met_found}
-use Rattle.hub_store.specs.inner.FeedsRows.{lines_of}
-use Rattle.hub_store.specs.inner.ProbesRows.{HasProbed, AreFirst}
-use Rattle.hub_store.specs.inner.Queries.{IsReadOutside}
 
 pub probed_on : (old mid new : ProbeState) → HasProbed old mid → HasProbed mid new → HasProbed old new
 probed_on old mid new first then = record {

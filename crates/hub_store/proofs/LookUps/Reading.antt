@@ -1,16 +1,9 @@
 -- Several reads in a transaction, and what is made of them.
-use Rattle.std.proofs.Common.{inl, Result, Ok, Err, IfOk, sym, ap, subst, ◌∙◌}
-use Rattle.sqlite.specs.declared.error.Error.{Error}
-use Rattle.sqlite.specs.Effect.{Database}
-use Rattle.sqlite.specs.State.{State, IsUnchanged}
-use Rattle.sqlite.proofs.Callers.{unchanged_then}
-use Rattle.hub_state.specs.State as core
-use Rattle.hub_state.specs.Sound.{IsSound}
-use Rattle.hub_store.specs.Keeps.{Knows}
-use Rattle.hub_store.specs.Means.{Holds}
+use Rattle.{std.proofs.Common.{inl, Result, Ok, Err, IfOk, sym, ap, subst, ◌∙◌}, sqlite.{proofs.Callers.unchanged_then, specs.{Effect.Database, State.State}}}
+use Rattle.{sqlite.specs.{State.IsUnchanged, declared.error.Error.Error}, hub_state.specs.Sound.IsSound, hub_store.proofs.Edits.Steps.{on_any, on_ok}}
+use Rattle.hub_store.{proofs.{Edits.Steps.{clean_before, survives_on, kept_then}, Rows.Outcomes.unchanged_keeps}, specs.{Keeps.Knows, Means.Holds}}
 use Rattle.hub_store.specs.inner.Queries.{IsReadInside}
-use Rattle.hub_store.proofs.Rows.Outcomes.{unchanged_keeps}
-use Rattle.hub_store.proofs.Edits.Steps.{on_any, on_ok, clean_before, survives_on, kept_then}
+use Rattle.hub_state.specs.State as core
 
 still_knows : (a b : State) → IsUnchanged a b → Knows a → Knows b
 still_knows a b same knows up = ap (λ (d : Database). d.schema) same.0.now_is ∙ knows same.0.was_open

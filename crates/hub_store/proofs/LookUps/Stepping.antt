@@ -1,16 +1,9 @@
 -- Loops over what was read, by what remains.
-use Rattle.std.proofs.Common.{◌≡◌, ℕ, ◌+◌, ◌<◌, ◌≤◌, List, [], ◌∷◌, ◌++◌, map, drop, length, get_or, Bool, true, false, ◌||◌, Option, Some, None, option_map, append_assoc, refl, sym, ap, ◌∙◌}
-use Rattle.std.specs.List.{list_any, filter_map, cons_option}
-use Rattle.std.proofs.lemmas.List.{at_drop_more, drop_all, append-nil}
-use Rattle.std.proofs.lemmas.List.Folds.{list_any-append}
-use Rattle.circle.specs.declared.directory.Group.{Group}
-use Rattle.circle.specs.Directory.{Directory}
-use Rattle.circle.specs.Reads.{group_of}
-use Rattle.hub_state.specs.declared.reply.JoinedGroup.{JoinedGroup}
-use Rattle.hub_store.specs.Pairs.{Pair}
-use Rattle.hub_store.specs.inner.PairKinds.{pairs_from, pairs_to}
-use Rattle.hub_store.specs.inner.ShownPairs.{joined_group, group_if_any, is_one_of, linked_with}
-use Rattle.hub_store.specs.declared.joined_rows.Joined.{Joined}
+use Rattle.std.proofs.Common.{◌≡◌, ℕ, ◌+◌, ◌<◌, ◌≤◌, List, [], ◌∷◌, ◌++◌, map, drop, length, get_or, Bool, true, false, ◌||◌, Option, Some, None, option_map}
+use Rattle.std.proofs.{Common.{append_assoc, refl, sym, ap, ◌∙◌}, lemmas.List.{at_drop_more, drop_all, append-nil, Folds.list_any-append}}
+use Rattle.{std.specs.List.{list_any, filter_map, cons_option}, circle.specs.{Directory.Directory, Reads.group_of, declared.directory.Group.Group}}
+use Rattle.{hub_state.specs.declared.reply.JoinedGroup.JoinedGroup, hub_store.specs.{Pairs.Pair, declared.joined_rows.Joined.Joined}}
+use Rattle.hub_store.specs.inner.{PairKinds.{pairs_from, pairs_to}, ShownPairs.{joined_group, group_if_any, is_one_of, linked_with}}
 use Rattle.hub_store.specs.declared.pair_kind.PairKind.TheVariants as kind
 
 -- ---- what is found for each

@@ -1,43 +1,19 @@
 -- The query of an incident's lines outside a transaction, whose rows are read one at a time.
-use Rattle.std.proofs.Common.{◌≡◌, inl, inr, ℕ, suc, pos, List, [], ◌∷◌, ◌++◌, map, length, unwrap_or, Option, Some, None, option_map, Result, Ok, Err, OnErr, IsErrAnd, IsTrue, append-nil, refl, sym, ap, subst, ◌∙◌}
-use Rattle.sqlite_value.specs.declared.value.Value.TheVariants.{Int}
-use Rattle.sqlite_value.specs.Order.{Row}
+use Rattle.std.proofs.Common.{◌≡◌, inl, inr, ℕ, suc, pos, List, [], ◌∷◌, ◌++◌, map, length, unwrap_or, Option, Some, None, option_map, Result, Ok, Err, OnErr}
+use Rattle.{std.proofs.Common.{IsErrAnd, IsTrue, append-nil, refl, sym, ap, subst, ◌∙◌}, sqlite_value.specs.{Order.Row, declared.value.Value.TheVariants.Int}}
+use Rattle.{sqlite_trees.specs.Tree.Trees, sqlite_schema.specs.declared.command.Command.{Command, TheVariants.Select}}
+use Rattle.{sqlite_resolve.specs.declared.{compiled.Compiled.Compiled, error.CompileError.CompileError}, sqlite_sql.specs.Query.IsAnswer}
+use Rattle.sqlite.{proofs.{Callers.{EndsIn, command_of, begins_shown, given_begin, unchanged_then}, StateLemmas.survives_weaker}, specs.Effect.Database}
+use Rattle.sqlite.specs.{Given.{HasGiven, HasBegun, IsRefused, Returns, Advances}, Held.{Held, state}, Listing.understood, State.{State, HasCleanDisk}}
+use Rattle.sqlite.specs.{State.{IsUnchanged, Survives, Shown, CommitsShowing, FailsToQuery}, declared.error.Error.Error}
+use Rattle.{iodef_tree.specs.declared.line.Line.Line, hub_state.specs.{Documents.Lines, State.incident_of, declared.state.Incident.Incident}}
+use Rattle.hub_store.proofs.{Edits.{Runs.has_now, Steps.{clean_before, survives_on}}, LookUps.{Answering.unread, AnyLines.bare_anywhere, AtPlaces.placed_more}}
+use Rattle.hub_store.proofs.{LookUps.AtPlaces.{lines_are, first_lines_are}, Rows.{Forms.program, Items.{its_lines, lines_query, lines_listed}}}
+use Rattle.hub_store.{proofs.Rows.{Outcomes.{answered, failed_query}, Texts.{lines_of_incident, lines_of_incident_is}}, specs.{Content.Has, Items.placed_shown}}
+use Rattle.hub_store.specs.{Items.placed_from, Keeps.KeepsCommitted, Tables.hub_schema, inner.{FeedsRows.lines_of, Queries.IsReadOutside, Shown.ShowsAll}}
+use Rattle.hub_store.specs.inner.Shown.{ShowsPlaced}
 use Rattle.sqlite_trees.specs.declared.store.Store as store
-use Rattle.sqlite_trees.specs.Tree.{Trees}
-use Rattle.sqlite_schema.specs.declared.command.Command.{Command}
-use Rattle.sqlite_schema.specs.declared.command.Command.TheVariants.{Select}
-use Rattle.sqlite_resolve.specs.declared.compiled.Compiled.{Compiled}
-use Rattle.sqlite_resolve.specs.declared.error.CompileError.{CompileError}
-use Rattle.sqlite_sql.specs.Query.{IsAnswer}
-use Rattle.sqlite.specs.declared.error.Error.{Error}
-use Rattle.sqlite.specs.Effect.{Database}
-use Rattle.sqlite.specs.Given.{HasGiven, HasBegun, IsRefused, Returns, Advances}
-use Rattle.sqlite.specs.Held.{Held, state}
-use Rattle.sqlite.specs.Listing.{understood}
-use Rattle.sqlite.specs.State.{State, HasCleanDisk, IsUnchanged, Survives, Shown, CommitsShowing, FailsToQuery}
-use Rattle.sqlite.proofs.Callers.{EndsIn, command_of, begins_shown, given_begin, unchanged_then}
-use Rattle.sqlite.proofs.StateLemmas.{survives_weaker}
-use Rattle.iodef_tree.specs.declared.line.Line.{Line}
-use Rattle.hub_state.specs.Documents.{Lines}
 use Rattle.hub_state.specs.State as core
-use Rattle.hub_state.specs.State.{incident_of}
-use Rattle.hub_state.specs.declared.state.Incident.{Incident}
-use Rattle.hub_store.specs.Content.{Has}
-use Rattle.hub_store.specs.inner.FeedsRows.{lines_of}
-use Rattle.hub_store.specs.Items.{placed_shown, placed_from}
-use Rattle.hub_store.specs.Keeps.{KeepsCommitted}
-use Rattle.hub_store.specs.inner.Queries.{IsReadOutside}
-use Rattle.hub_store.specs.inner.Shown.{ShowsAll, ShowsPlaced}
-use Rattle.hub_store.specs.Tables.{hub_schema}
-use Rattle.hub_store.proofs.LookUps.Answering.{unread}
-use Rattle.hub_store.proofs.LookUps.AnyLines.{bare_anywhere}
-use Rattle.hub_store.proofs.LookUps.AtPlaces.{placed_more, lines_are, first_lines_are}
-use Rattle.hub_store.proofs.Rows.Forms.{program}
-use Rattle.hub_store.proofs.Rows.Items.{its_lines, lines_query, lines_listed}
-use Rattle.hub_store.proofs.Rows.Outcomes.{answered, failed_query}
-use Rattle.hub_store.proofs.Edits.Runs.{has_now}
-use Rattle.hub_store.proofs.Edits.Steps.{clean_before, survives_on}
-use Rattle.hub_store.proofs.Rows.Texts.{lines_of_incident, lines_of_incident_is}
 
 -- outside a transaction the rows seen are the committed ones
 abbrev IsSettled : State → Type 0

@@ -1,14 +1,10 @@
 -- How an organisation stands to a source, by the communities of both.
-use Rattle.std.proofs.Common.{◌≡◌, ℕ, List, Bool, Option, Some, None, refl, sym, ap, subst, ◌∙◌}
-use Rattle.std.specs.List.{list_any}
-use Rattle.circle.specs.declared.directory.Handling.{Handling}
-use Rattle.circle.specs.Reads.{communities_of, share_community, are_connected, arranged}
+use Rattle.{std.{proofs.Common.{◌≡◌, ℕ, List, Bool, Option, Some, None, refl, sym, ap, subst, ◌∙◌}, specs.List.list_any}, circle.specs.Reads.communities_of}
+use Rattle.{circle.specs.{Reads.{share_community, are_connected, arranged}, declared.directory.Handling.Handling}, hub_state.specs.State.State}
+use Rattle.{hub_state.specs.declared.look_ups.Ties.Ties, hub_store.proofs.LookUps.DirectorySets.{among_communities, communities_rise, share_is, connected_from}}
+use Rattle.hub_store.specs.inner.ShownPairs.{AreRising, is_one_of, are_linked, is_peer, ties_between}
 use Rattle.circle.specs.Sound as circle
 use Rattle.hub_state.specs.Reads as core
-use Rattle.hub_state.specs.State.{State}
-use Rattle.hub_state.specs.declared.look_ups.Ties.{Ties}
-use Rattle.hub_store.specs.inner.ShownPairs.{AreRising, is_one_of, are_linked, is_peer, ties_between}
-use Rattle.hub_store.proofs.LookUps.DirectorySets.{among_communities, communities_rise, share_is, connected_from}
 
 module _ (org source : ℕ) (own others : List ℕ) (s : State) (is : own ≡ communities_of org s.directory) (also : others ≡ communities_of source s.directory) where
   shares : list_any (is_one_of others) own ≡ share_community org source s.directory

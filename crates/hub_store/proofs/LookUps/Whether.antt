@@ -1,21 +1,9 @@
 -- Whether a query of one table shows a row.
-use Rattle.std.proofs.Common.{◌≡◌, ℕ, List, map, filter, find, length, Bool, true, false, not, ◌&&◌, ◌||◌, ◌==◌, Option, Some, None, option_map, refl, sym, ap, ◌∙◌}
-use Rattle.std.specs.List.{list_any}
-use Rattle.std.specs.Option.{option_map_or, option_to_list}
-use Rattle.std.specs.List.Sorted.{IsPermutation}
-use Rattle.std.proofs.lemmas.List.{length-map}
-use Rattle.std.proofs.lemmas.List.Sorted.{length_permutation, list_any-IsPermutation}
-use Rattle.sqlite_value.specs.Order.{Row}
-use Rattle.sqlite_trees.specs.Tree.{Trees}
-use Rattle.sqlite_sql.specs.Term.{Term}
-use Rattle.sqlite_sql.specs.Query.{IsAnswer}
-use Rattle.circle.proofs.Lookup.{any_having, some_having}
-use Rattle.hub_state.proofs.Counted.{any_same}
-use Rattle.hub_state.proofs.Keeping.{any_map}
-use Rattle.hub_store.specs.Holdings.{Holding, IsHeld}
-use Rattle.hub_store.proofs.LookUps.Finding.{Once, only_one}
-use Rattle.hub_store.proofs.Rows.Forms.{one_table}
-use Rattle.hub_store.proofs.Rows.Statements.{keeps, shows, selected}
+use Rattle.std.proofs.Common.{◌≡◌, ℕ, List, map, filter, find, length, Bool, true, false, not, ◌&&◌, ◌||◌, ◌==◌, Option, Some, None, option_map, refl, sym, ap}
+use Rattle.std.{proofs.{Common.◌∙◌, lemmas.List.{length-map, Sorted.{length_permutation, list_any-IsPermutation}}}, specs.List.{list_any, Sorted.IsPermutation}}
+use Rattle.{std.specs.Option.{option_map_or, option_to_list}, sqlite_value.specs.Order.Row, sqlite_trees.specs.Tree.Trees, sqlite_sql.specs.Query.IsAnswer}
+use Rattle.{sqlite_sql.specs.Term.Term, circle.proofs.Lookup.{any_having, some_having}, hub_state.proofs.{Counted.any_same, Keeping.any_map}}
+use Rattle.hub_store.{proofs.{LookUps.Finding.{Once, only_one}, Rows.{Forms.one_table, Statements.{keeps, shows, selected}}}, specs.Holdings.{Holding, IsHeld}}
 
 -- there are rows exactly if an element passes
 pub any_shown : {X : Type 0} (shown : X → Row) (q : X → Bool) (xs : List X) (rows : List Row) → IsPermutation (map shown (filter q xs)) rows → not (length rows == 0) ≡ list_any q xs

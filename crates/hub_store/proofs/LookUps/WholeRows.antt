@@ -1,32 +1,15 @@
 -- The edits that put all elements of a state make that state without its documents.
-use Rattle.std.proofs.Common.{◌≡◌, List, [], ◌∷◌, ◌++◌, map, false, refl, sym, ap, subst, ◌∙◌, append-nil, append_assoc}
-use Rattle.std.specs.List.{AllByRecursion}
-use Rattle.std.specs.Cmp.{IsTotalOrder}
-use Rattle.std.specs.Ordering.{is_lt, ordering_reverse}
-use Rattle.std.specs.declared.cmp.Ordering.{Ordering}
-use Rattle.std.specs.declared.cmp.Ordering.TheVariants.{Less}
-use Rattle.sqlite_trees.specs.Tree.{IsAscending}
-use Rattle.sqlite_trees.proofs.ListLemmas.{map-map, ascending-map, ascending_weaker}
-use Rattle.circle.specs.Ordered.{put_by, by_number}
-use Rattle.hub_state.specs.State.{State, empty, incident_number}
-use Rattle.hub_state.specs.Sound.{IsSound}
-use Rattle.hub_state.specs.Bare.{bare, bare_incident}
-use Rattle.hub_state.specs.Edits.{edited, with_edits}
-use Rattle.hub_state.specs.Orders.{incident_total}
-use Rattle.hub_state.specs.declared.edit.Edit.{Edit}
-use Rattle.hub_state.specs.declared.edit.Edit.TheVariants.{PutIncident}
-use Rattle.hub_state.specs.declared.state.Incident.{Incident}
-use Rattle.hub_state.proofs.Then.{after_append}
-use Rattle.hub_store.specs.inner.Adds.{org_edit, account_edit, community_edit, group_edit, client_edit, membership_edit}
-use Rattle.hub_store.specs.inner.Adds.{connection_edit, group_member_edit, arrangement_edit, naming_edit, gate_edit}
-use Rattle.hub_store.specs.inner.Adds.{recipient_edit, permission_edit, account_edits, community_edits, group_edits}
-use Rattle.hub_store.specs.inner.Adds.{membership_edits, connection_edits, group_member_edits, arrangement_edits, naming_edits}
-use Rattle.hub_store.specs.inner.Adds.{gate_edits, recipient_edits, permission_edits, numbered_edits, pair_edits}
-use Rattle.hub_store.specs.inner.Adds.{incident_edits, all_edits}
-use Rattle.hub_store.proofs.Rows.SetKinds.{Kind}
-use Rattle.hub_store.proofs.Rows.Rising.{counted}
-use Rattle.hub_store.proofs.Rows.Sets.{orgs, persons, communities, groups, gates, recipients, permissions, in_pairs, clients}
-use Rattle.hub_store.proofs.Rows.Sets.{memberships, connections, group_members, arrangements}
+use Rattle.std.{proofs.Common.{◌≡◌, List, [], ◌∷◌, ◌++◌, map, false, refl, sym, ap, subst, ◌∙◌, append-nil, append_assoc}, specs.Cmp.IsTotalOrder}
+use Rattle.std.specs.{List.AllByRecursion, Ordering.{is_lt, ordering_reverse}, declared.cmp.Ordering.{Ordering, TheVariants.Less}}
+use Rattle.{sqlite_trees.{proofs.ListLemmas.{map-map, ascending-map, ascending_weaker}, specs.Tree.IsAscending}, circle.specs.Ordered.{put_by, by_number}}
+use Rattle.hub_state.{proofs.Then.after_append, specs.{Bare.{bare, bare_incident}, Edits.{edited, with_edits}, Orders.incident_total, Sound.IsSound}}
+use Rattle.hub_state.specs.{State.{State, empty, incident_number}, declared.{edit.Edit.{Edit, TheVariants.PutIncident}, state.Incident.Incident}}
+use Rattle.hub_store.proofs.Rows.{Rising.counted, SetKinds.Kind, Sets.{orgs, persons, communities, groups, gates, recipients, permissions, in_pairs, clients}}
+use Rattle.hub_store.{proofs.Rows.Sets.{memberships, connections, group_members, arrangements}, specs.inner.Adds.{org_edit, account_edit, community_edit}}
+use Rattle.hub_store.specs.inner.Adds.{group_edit, client_edit, membership_edit, connection_edit, group_member_edit, arrangement_edit, naming_edit, gate_edit}
+use Rattle.hub_store.specs.inner.Adds.{recipient_edit, permission_edit, account_edits, community_edits, group_edits, membership_edits, connection_edits}
+use Rattle.hub_store.specs.inner.Adds.{group_member_edits, arrangement_edits, naming_edits, gate_edits, recipient_edits, permission_edits, numbered_edits}
+use Rattle.hub_store.specs.inner.Adds.{pair_edits, incident_edits, all_edits}
 
 -- ---- each element goes to the end
 

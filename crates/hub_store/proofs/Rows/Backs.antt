@@ -1,22 +1,13 @@
 -- What is read back from the values of a row.
-use Rattle.std.proofs.Common.{◌≡◌, ℕ, ℤ, zero, suc, pos, List, [], Bool}
-use Rattle.std.proofs.Common.{true, false, Option, Some, None, unwrap_or, refl, ap}
-use Rattle.sqlite_value.specs.declared.value.Value.{Value}
-use Rattle.sqlite_value.specs.declared.value.Value.TheVariants.{Int, Text, Blob}
-use Rattle.iodef_tree.specs.Pointer.{pointer_text, pointer_tokens}
-use Rattle.iodef_tree.specs.Text.{Tokens}
-use Rattle.iodef_tree.proofs.Inverse.{pointer_tokens-pointer_text}
-use Rattle.circle.specs.declared.directory.Role.{Role}
-use Rattle.circle.specs.declared.directory.Role.TheVariants.{Administrator, Coordinator, Poster, Reader}
-use Rattle.circle.specs.declared.directory.Handling.{Handling}
-use Rattle.circle.specs.declared.directory.Handling.TheVariants.{Clear, Green, Amber, Strict, Red}
-use Rattle.hub_state.specs.State.{target_key, grantee_key}
-use Rattle.hub_state.specs.declared.request.Target.{Target}
+use Rattle.std.proofs.Common.{◌≡◌, ℕ, ℤ, zero, suc, pos, List, [], Bool, true, false, Option, Some, None, unwrap_or, refl, ap}
+use Rattle.{sqlite_value.specs.declared.value.Value.{Value, TheVariants.{Int, Text, Blob}}, iodef_tree.proofs.Inverse.pointer_tokens-pointer_text}
+use Rattle.{iodef_tree.specs.{Pointer.{pointer_text, pointer_tokens}, Text.Tokens}, circle.specs.declared.directory.Handling.{Handling, TheVariants.Clear}}
+use Rattle.circle.specs.declared.directory.{Handling.TheVariants.{Green, Amber, Strict, Red}, Role.{Role, TheVariants.{Administrator, Coordinator, Poster}}}
+use Rattle.{circle.specs.declared.directory.Role.TheVariants.Reader, hub_state.specs.{State.{target_key, grantee_key}, declared.request.Target.Target}}
+use Rattle.{policy.specs.declared.permission.Grantee.Grantee, hub_store.specs.{Rows.{role_number, handling_number, one_if}, Values.number_or_null}}
+use Rattle.hub_store.specs.Values.{moment_or_null, flag}
 use Rattle.hub_state.specs.declared.request.Target.TheVariants as target
-use Rattle.policy.specs.declared.permission.Grantee.{Grantee}
 use Rattle.policy.specs.declared.permission.Grantee.TheVariants as grantee
-use Rattle.hub_store.specs.Rows.{role_number, handling_number, one_if}
-use Rattle.hub_store.specs.Values.{number_or_null, moment_or_null, flag}
 
 -- ---- values
 

@@ -1,24 +1,13 @@
 -- Comparisons of SQL, and casts that change nothing.
-use Rattle.std.proofs.Common.{◌≡◌, ℕ, ℤ, suc, pos, List, [], ◌∷◌, map, drop, Bool, true, false, cond, ◌&&◌, ◌==◌, nat_lt, Some, None, Option, refl, ap, ap₂, ◌∙◌, arith}
-use Rattle.std.specs.Str.{bytes_eq}
-use Rattle.std.specs.Ordering.{int_cmp, is_eq, is_gt}
-use Rattle.std.proofs.lemmas.Bool.Decides.{nat_tests}
-use Rattle.std.proofs.lemmas.Map.Text.{is_eq-slice_cmp}
-pub use Rattle.std.proofs.Math.Bool.{and-true}
-use Rattle.sqlite_value.specs.declared.value.Value.{Value}
-use Rattle.sqlite_value.specs.declared.value.Value.TheVariants.{Null, Int, Text, Blob}
-use Rattle.sqlite_value.specs.declared.keys.Collation.TheVariants.{Binary}
-use Rattle.sqlite_value.specs.Order.{Row, column}
-use Rattle.sqlite_value.proofs.OrderLemmas.{value_cmp-Int, value_cmp-Text, value_cmp-Blob}
-use Rattle.sqlite_sql.specs.Ops.{unary, binary, is_true, from_truth}
-use Rattle.sqlite_sql.specs.declared.ops.BinaryOp.TheVariants.{Compare}
-use Rattle.sqlite_sql.specs.declared.ops.CompareOp.TheVariants.{Eq, Gt}
-use Rattle.sqlite_schema.specs.declared.schema.Kind.TheVariants as kind
-use Rattle.sqlite_rules.specs.Cast.{cast}
-use Rattle.sqlite.specs.Values.{bound_value, or_null}
+use Rattle.std.proofs.Common.{◌≡◌, ℕ, ℤ, suc, pos, List, [], ◌∷◌, map, drop, Bool, true, false, cond, ◌&&◌, ◌==◌, nat_lt, Some, None, Option, refl, ap, ap₂}
+use Rattle.std.{proofs.{Common.{◌∙◌, arith}, lemmas.{Bool.Decides.nat_tests, Map.Text.is_eq-slice_cmp}}, specs.{Ordering.{int_cmp, is_eq, is_gt}, Str.bytes_eq}}
+use Rattle.sqlite_value.{proofs.OrderLemmas.{value_cmp-Int, value_cmp-Text, value_cmp-Blob}, specs.Order.{Row, column}}
+use Rattle.sqlite_value.specs.declared.{keys.Collation.TheVariants.Binary, value.Value.{Value, TheVariants.{Null, Int, Text, Blob}}}
+use Rattle.sqlite_sql.specs.{Ops.{unary, binary, is_true, from_truth}, declared.ops.{BinaryOp.TheVariants.Compare, CompareOp.TheVariants.{Eq, Gt}}}
+use Rattle.{sqlite_rules.specs.Cast.cast, sqlite.specs.Values.{bound_value, or_null}, hub_store.proofs.Rows.{Forms.are_params, Statements.keeps}}
 use Rattle.hub_store.specs.Values.{number_or_null, moment_or_null, flag}
-use Rattle.hub_store.proofs.Rows.Forms.{are_params}
-use Rattle.hub_store.proofs.Rows.Statements.{keeps}
+use Rattle.sqlite_schema.specs.declared.schema.Kind.TheVariants as kind
+pub use Rattle.std.proofs.Math.Bool.{and-true}
 
 -- ---- casts
 

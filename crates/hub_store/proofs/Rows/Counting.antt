@@ -1,20 +1,10 @@
 -- Rows put into a table whose rowids count from 1: they get the next ones, after all others.
-use Rattle.std.proofs.Common.{◌≡◌, ℕ, ℤ, pos, suc, ◌+◌, ◌+ℤ◌, ◌<◌, ◌||◌, not, List, [], ◌∷◌, ◌++◌, map, fold, drop, length, append-nil, append_assoc, true, false, refl, sym, ap, ap₂, subst, ◌∙◌, arith}
-use Rattle.std.specs.declared.cmp.Ordering.TheVariants.{Less}
-use Rattle.std.specs.Ordering.{is_eq, match_ordering}
-use Rattle.std.proofs.lemmas.Bool.{and_from}
-use Rattle.std.proofs.lemmas.Int.{ints}
-use Rattle.std.proofs.lemmas.List.{length-append}
-use Rattle.sqlite_value.specs.declared.value.Value.TheVariants.{Int}
-use Rattle.sqlite_value.specs.Order.{Row, value_cmp}
-use Rattle.sqlite_value.proofs.OrderLemmas.{value_cmp-Int}
-use Rattle.sqlite_trees.specs.Tree.{rowid, put_row}
-use Rattle.sqlite_rules.specs.declared.error.Rowids.TheVariants.{Chosen}
-use Rattle.sqlite_rules.specs.Edit.{id_in, next_rowid, with_rowid, numbered, put_all, is_taken, are_fresh}
-use Rattle.hub_store.specs.inner.Beside.{AreNumbered}
-use Rattle.hub_store.proofs.Rows.Held.{bare}
-use Rattle.hub_store.proofs.LookUps.Listed.{int_below}
-use Rattle.hub_store.proofs.Rows.Rising.{less}
+use Rattle.std.proofs.Common.{◌≡◌, ℕ, pos, suc, ◌+◌, ◌+ℤ◌, ◌<◌, ◌||◌, not, List, [], ◌∷◌, ◌++◌, map, fold, drop, length, append-nil, append_assoc, true, false}
+use Rattle.std.{proofs.{Common.{refl, sym, ap, ap₂, subst, ◌∙◌, arith}, lemmas.{Bool.and_from, Int.ints, List.length-append}}, specs.Ordering.is_eq}
+use Rattle.{std.specs.{Ordering.match_ordering, declared.cmp.Ordering.TheVariants.Less}, sqlite_value.{proofs.OrderLemmas.value_cmp-Int, specs.Order.Row}}
+use Rattle.{sqlite_value.specs.{Order.value_cmp, declared.value.Value.TheVariants.Int}, sqlite_trees.specs.Tree.{rowid, put_row}, sqlite_rules.specs.Edit.id_in}
+use Rattle.sqlite_rules.specs.{Edit.{next_rowid, with_rowid, numbered, put_all, is_taken, are_fresh}, declared.error.Rowids.TheVariants.Chosen}
+use Rattle.hub_store.{proofs.{LookUps.Listed.int_below, Rows.{Held.bare, Rising.less}}, specs.inner.Beside.AreNumbered}
 
 -- the rows under rowids that count on
 abbrev pub labelled : ℕ → List Row → List Row

@@ -1,25 +1,10 @@
 -- The tables with the version and without any other row stand for the state without a row.
-use Rattle.std.proofs.Common.{◌≡◌, List, [], ◌∷◌, map, drop, arith, refl, sym, subst}
-use Rattle.std.specs.List.{AllByRecursion}
-use Rattle.std.specs.List.Sorted.{IsPermutation}
-use Rattle.std.proofs.lemmas.List.Sorted.{IsPermutation-refl}
-use Rattle.sqlite_trees.specs.declared.store.Shape.TheVariants.{Table as table_shape}
-use Rattle.sqlite_trees.specs.Tree.{Trees}
-use Rattle.sqlite_trees.specs.View.{IsShaped}
-use Rattle.sqlite_schema.specs.declared.schema.Table.{Table}
-use Rattle.sqlite.specs.Effect.{Database}
-use Rattle.sqlite.specs.State.{State}
-use Rattle.circle.proofs.Owners.{empty_sound}
-use Rattle.hub_state.specs.State.{empty}
-use Rattle.hub_state.specs.Sound.{IsSound}
-use Rattle.hub_store.specs.Content.{Has, CommitsState}
-use Rattle.hub_store.specs.Holdings.{IsHeld}
-use Rattle.hub_store.specs.Layout.{newest, parts_by, bare_by, under}
-use Rattle.hub_store.specs.Means.{Holds}
-use Rattle.hub_store.specs.Parts.{Part, held, HoldsParts}
-use Rattle.hub_store.specs.Tables.{no_schema, schema_by}
+use Rattle.std.{proofs.{Common.{◌≡◌, List, [], ◌∷◌, map, drop, arith, refl, sym, subst}, lemmas.List.Sorted.IsPermutation-refl}, specs.List.AllByRecursion}
+use Rattle.{std.specs.List.Sorted.IsPermutation, sqlite_trees.specs.{Tree.Trees, View.IsShaped, declared.store.Shape.TheVariants.Table as table_shape}}
+use Rattle.{sqlite_schema.specs.declared.schema.Table.Table, sqlite.specs.{Effect.Database, State.State}, circle.proofs.Owners.empty_sound}
+use Rattle.{hub_state.specs.{Sound.IsSound, State.empty}, hub_store.{proofs.Rows.Parts.AreHeld, specs.{Content.{Has, CommitsState}, Holdings.IsHeld}}}
+use Rattle.hub_store.specs.{Layout.{newest, parts_by, bare_by, under}, Means.Holds, Parts.{Part, held, HoldsParts}, Tables.{no_schema, schema_by}}
 use Rattle.hub_store.specs.inner.Makes.{HasEmpty}
-use Rattle.hub_store.proofs.Rows.Parts.{AreHeld}
 
 -- if there is no table
 pub no_tables : (db : Database) → db.schema ≡ no_schema → HasEmpty no_schema db

@@ -1,27 +1,13 @@
 -- What an UPDATE by key makes of a table.
 use Rattle.std.proofs.Common.{◌≡◌, List, [], ◌∷◌, ◌++◌, map, filter, drop, Bool, true, false, cond, not, if◌then◌else◌, refl, sym, ap, subst, ◌∙◌}
-use Rattle.std.specs.List.Sorted.{IsPermutation}
-use Rattle.std.proofs.lemmas.List.{map-id}
-use Rattle.std.proofs.lemmas.List.Sorted.{IsPermutation-map, IsPermutation-cons, IsPermutation-trans, IsPermutation-refl, IsPermutation-sym, IsPermutation-middle, IsPermutation-append}
-use Rattle.sqlite_value.specs.Order.{Row}
-use Rattle.sqlite_trees.specs.declared.store.Shape.TheVariants as shape
-use Rattle.sqlite_trees.specs.Tree.{Trees, put_row}
-use Rattle.sqlite_trees.proofs.TreeLemmas.{IsShaped-filter}
-use Rattle.sqlite_trees.proofs.ListLemmas.{map-map, IsPermutation-filter}
-use Rattle.sqlite_sql.specs.Term.{Term, col}
-use Rattle.sqlite_sql.specs.Query.{IsAnswer}
-use Rattle.sqlite_schema.specs.declared.schema.Schema.{Schema}
-use Rattle.sqlite_schema.specs.declared.schema.Table.{Table}
-use Rattle.sqlite_schema.specs.declared.schema.Keys.TheVariants.{Enforced}
-use Rattle.sqlite_rules.specs.declared.error.Rowids.TheVariants.{Given}
-use Rattle.sqlite_rules.specs.Calls.{ids_of}
-use Rattle.sqlite_rules.specs.Cast.{cast_row}
-use Rattle.sqlite_rules.specs.Edit.{numbered, without_all, Applies}
+use Rattle.std.proofs.lemmas.List.{map-id, Sorted.{IsPermutation-map, IsPermutation-cons, IsPermutation-trans, IsPermutation-refl, IsPermutation-sym}}
+use Rattle.{std.{proofs.lemmas.List.Sorted.{IsPermutation-middle, IsPermutation-append}, specs.List.Sorted.IsPermutation}, sqlite_value.specs.Order.Row}
+use Rattle.sqlite_trees.{proofs.{ListLemmas.{map-map, IsPermutation-filter}, TreeLemmas.IsShaped-filter}, specs.Tree.{Trees, put_row}}
+use Rattle.{sqlite_sql.specs.{Query.IsAnswer, Term.{Term, col}}, sqlite_schema.specs.declared.schema.{Keys.TheVariants.Enforced, Schema.Schema, Table.Table}}
+use Rattle.sqlite_rules.specs.{Calls.ids_of, Cast.cast_row, Edit.{numbered, without_all, Applies}, declared.error.Rowids.TheVariants.Given}
+use Rattle.hub_store.proofs.Rows.{Forms.one_table, Found.{filter_rows, map_each, shown_of}, Held.{gone_by, all_put}, Statements.{keeps, shows, selected}}
 use Rattle.hub_store.specs.Holdings.{IsHeld, holding_by_number}
-use Rattle.hub_store.proofs.Rows.Forms.{one_table}
-use Rattle.hub_store.proofs.Rows.Statements.{keeps, shows, selected}
-use Rattle.hub_store.proofs.Rows.Found.{filter_rows, map_each, shown_of}
-use Rattle.hub_store.proofs.Rows.Held.{gone_by, all_put}
+use Rattle.sqlite_trees.specs.declared.store.Shape.TheVariants as shape
 
 -- the changed rows and the others make the changed list
 mixed : {X Y : Type 0} (g : X → Y) (k : X → Bool) (f : X → X) (xs : List X) → IsPermutation (map g (map f (filter k xs)) ++ map g (filter (λ x. not (k x)) xs)) (map g (map (λ x. if k x then f x else x) xs))

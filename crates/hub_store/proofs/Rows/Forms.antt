@@ -1,22 +1,10 @@
 -- The forms of the queries: one table, tests of columns, no join.
-use Rattle.std.proofs.Common.{◌≡◌, ◌+◌, ℕ, zero, suc, pos, negsuc, List, [], ◌∷◌, map, None, false}
-use Rattle.sqlite_value.specs.declared.value.Value.TheVariants.{Null}
-use Rattle.sqlite_value.specs.declared.value.Value.TheVariants.{Int}
-use Rattle.sqlite_value.specs.declared.keys.Collation.TheVariants.{Binary}
-use Rattle.sqlite_value.specs.declared.keys.Key.{Key}
-use Rattle.sqlite_value.specs.Keys.{ascending}
-use Rattle.sqlite_sql.specs.Term.{Term, lit, col, op2}
-use Rattle.sqlite_sql.specs.declared.ops.BinaryOp.TheVariants.{Compare}
-use Rattle.sqlite_sql.specs.declared.ops.CompareOp.TheVariants.{Eq, Gt}
-use Rattle.sqlite_sql.specs.Query.{Query, inner, end}
-use Rattle.sqlite_schema.specs.declared.program.Program.{Program}
-use Rattle.sqlite_schema.specs.declared.command.Command.{Command}
-use Rattle.sqlite_schema.specs.declared.command.Command.TheVariants.{Insert, Select, Delete, Update}
-use Rattle.sqlite_schema.specs.declared.command.Source.TheVariants.{Values}
-use Rattle.sqlite.specs.Listing.{understood, reads_listing}
-use Rattle.sqlite.proofs.Callers.{IsPlain, command_of}
-use Rattle.hub_store.specs.Tables.{hub_schema}
-use Rattle.hub_store.proofs.Rows.Places.{table_at}
+use Rattle.{std.proofs.Common.{◌≡◌, ◌+◌, ℕ, zero, suc, pos, negsuc, List, [], ◌∷◌, map, None, false}, sqlite_value.specs.Keys.ascending}
+use Rattle.{sqlite_value.specs.declared.{keys.{Collation.TheVariants.Binary, Key.Key}, value.Value.TheVariants.{Null, Int}}, sqlite_sql.specs.Query.Query}
+use Rattle.sqlite_sql.specs.{Query.{inner, end}, Term.{Term, lit, col, op2}, declared.ops.{BinaryOp.TheVariants.Compare, CompareOp.TheVariants.{Eq, Gt}}}
+use Rattle.sqlite_schema.specs.declared.command.{Command.{Command, TheVariants.{Insert, Select, Delete, Update}}, Source.TheVariants.Values}
+use Rattle.{sqlite_schema.specs.declared.program.Program.Program, sqlite.{proofs.Callers.{IsPlain, command_of}, specs.Listing.{understood, reads_listing}}}
+use Rattle.hub_store.{proofs.Rows.Places.table_at, specs.Tables.hub_schema}
 
 -- a column is a parameter
 abbrev pub is_param : ℕ → ℕ → Term

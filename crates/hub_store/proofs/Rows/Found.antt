@@ -1,11 +1,7 @@
 -- What a query of one table shows of the elements of its rows.
-use Rattle.std.proofs.Common.{◌≡◌, List, [], ◌∷◌, map, filter, Bool, true, refl, ap, subst, ◌∙◌}
-use Rattle.std.specs.List.{AllByRecursion}
-use Rattle.std.specs.List.Sorted.{IsPermutation}
-use Rattle.std.proofs.lemmas.List.Sorted.{IsPermutation-map, IsPermutation-trans}
-use Rattle.sqlite_value.specs.Order.{Row}
-use Rattle.sqlite_trees.proofs.ListLemmas.{map-map, filter-map, filter_same, IsPermutation-filter}
-use Rattle.iodef_tree.proofs.Siblings.{filter-all}
+use Rattle.std.proofs.{Common.{◌≡◌, List, [], ◌∷◌, map, filter, Bool, true, refl, ap, subst, ◌∙◌}, lemmas.List.Sorted.{IsPermutation-map, IsPermutation-trans}}
+use Rattle.{std.specs.List.{AllByRecursion, Sorted.IsPermutation}, sqlite_value.specs.Order.Row, sqlite_trees.proofs.ListLemmas.{map-map, filter-map}}
+use Rattle.{sqlite_trees.proofs.ListLemmas.{filter_same, IsPermutation-filter}, iodef_tree.proofs.Siblings.filter-all}
 
 pub always : {X : Type 0} {P : X → Type 0} → ((x : X) → P x) → (xs : List X) → AllByRecursion P xs
 always h [] = tt

@@ -1,29 +1,14 @@
 -- What rows that are put and rows that are taken make of what a table holds.
-use Rattle.std.proofs.Common.{◌≡◌, ℕ, List, [], ◌∷◌, ◌++◌, map, filter, drop, Bool, true, false, not, refl, sym, ap, subst, ◌∙◌}
-use Rattle.std.specs.List.Sorted.{IsPermutation}
-use Rattle.std.proofs.lemmas.Bool.{and_parts, not-true}
-use Rattle.std.proofs.lemmas.List.{map-append}
-use Rattle.std.proofs.lemmas.List.Sorted.{IsPermutation-map, IsPermutation-cons, IsPermutation-trans, IsPermutation-sym, IsPermutation-refl, IsPermutation-middle, IsPermutation-append_right}
-use Rattle.sqlite_value.specs.declared.value.Value.TheVariants.{Null}
-use Rattle.sqlite_value.specs.Order.{Row}
+use Rattle.std.proofs.{Common.{◌≡◌, ℕ, List, [], ◌∷◌, ◌++◌, map, filter, drop, Bool, true, false, not, refl, sym, ap, subst, ◌∙◌}, lemmas.Bool.and_parts}
+use Rattle.std.proofs.lemmas.{Bool.not-true, List.{map-append, Sorted.{IsPermutation-map, IsPermutation-cons, IsPermutation-trans, IsPermutation-sym}}}
+use Rattle.std.{proofs.lemmas.List.Sorted.{IsPermutation-refl, IsPermutation-middle, IsPermutation-append_right}, specs.List.Sorted.IsPermutation}
+use Rattle.{sqlite_value.specs.{Order.Row, declared.value.Value.TheVariants.Null}, sqlite_trees.proofs.ListLemmas.{map-map, filter-map, filter_same}}
+use Rattle.sqlite_trees.{proofs.{ListLemmas.IsPermutation-filter, TreeLemmas.{IsShaped-put_row, IsShaped-filter}}, specs.{Tree.{Trees, put_row}, View.IsShaped}}
+use Rattle.{sqlite_schema.specs.declared.schema.{Keys.TheVariants.Enforced, Schema.Schema, Table.Table}, sqlite_sql.specs.{Query.IsAnswer, Term.{Term, col}}}
+use Rattle.sqlite_rules.specs.{Calls.ids_of, Edit.{is_taken, without_all, Applies, put_all, have_rowids, are_fresh, with_rowid, numbered}}
+use Rattle.{sqlite_rules.specs.declared.error.Rowids.TheVariants.Chosen, hub_store.proofs.Rows.{Forms.one_table, Found.always, Lists.{came_in, id_of}}}
+use Rattle.hub_store.{proofs.Rows.{Lists.went_out, Statements.{keeps, shows, selected}}, specs.Holdings.IsHeld}
 use Rattle.sqlite_trees.specs.declared.store.Shape.TheVariants as shape
-use Rattle.sqlite_trees.specs.Tree.{Trees, put_row}
-use Rattle.sqlite_trees.specs.View.{IsShaped}
-use Rattle.sqlite_trees.proofs.TreeLemmas.{IsShaped-put_row, IsShaped-filter}
-use Rattle.sqlite_trees.proofs.ListLemmas.{map-map, filter-map, filter_same, IsPermutation-filter}
-use Rattle.sqlite_schema.specs.declared.schema.Schema.{Schema}
-use Rattle.sqlite_schema.specs.declared.schema.Table.{Table}
-use Rattle.sqlite_schema.specs.declared.schema.Keys.TheVariants.{Enforced}
-use Rattle.sqlite_sql.specs.Term.{Term, col}
-use Rattle.sqlite_sql.specs.Query.{IsAnswer}
-use Rattle.sqlite_rules.specs.Calls.{ids_of}
-use Rattle.sqlite_rules.specs.declared.error.Rowids.TheVariants.{Chosen}
-use Rattle.sqlite_rules.specs.Edit.{is_taken, without_all, Applies, put_all, have_rowids, are_fresh, with_rowid, numbered}
-use Rattle.hub_store.specs.Holdings.{IsHeld}
-use Rattle.hub_store.proofs.Rows.Forms.{one_table}
-use Rattle.hub_store.proofs.Rows.Found.{always}
-use Rattle.hub_store.proofs.Rows.Lists.{came_in, id_of, went_out}
-use Rattle.hub_store.proofs.Rows.Statements.{keeps, shows, selected}
 
 pub permuted : (db : Trees) (tree : ℕ) (seen : Row → Row) (all more : List Row) → IsPermutation all more → IsHeld db (record { tree = tree; seen = seen; rows = all }) → IsHeld db (record { tree = tree; seen = seen; rows = more })
 permuted db tree seen all more same held = record { shaped = held.shaped; same = IsPermutation-trans _ _ _ (IsPermutation-sym _ _ same) held.same }

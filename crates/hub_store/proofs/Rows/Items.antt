@@ -1,39 +1,20 @@
 -- The lines of documents as rows of one table: those that are put and taken with an incident, and the documents of the
 -- rows.
-use Rattle.std.proofs.Common.{◌≡◌, ◌<◌, ◌==◌, ℕ, zero, suc, pos, negsuc, List, [], ◌∷◌, ◌++◌, map, filter, flat_map, Bool, true, false, cond, Option, Some, None, nat_cmp, refl, sym, ap, ap₂, subst, ◌∙◌, arith, append-nil}
-use Rattle.std.specs.List.{AllByRecursion}
-use Rattle.std.specs.Option.{option_to_list}
-use Rattle.std.specs.List.Sorted.{IsPermutation}
-use Rattle.std.specs.declared.cmp.Ordering.TheVariants.{Less}
-use Rattle.std.proofs.lemmas.List.{map-append}
-use Rattle.std.proofs.lemmas.List.Elements.{filter-append}
-use Rattle.std.proofs.lemmas.List.Sorted.{IsPermutation-map, IsPermutation-cons, IsPermutation-trans, IsPermutation-refl, IsPermutation-sym, IsPermutation-middle, IsPermutation-append_right}
-use Rattle.sqlite_value.specs.declared.value.Value.TheVariants.{Int}
-use Rattle.sqlite_value.specs.declared.keys.Key.{Key}
-use Rattle.sqlite_value.specs.Order.{Row}
-use Rattle.sqlite_value.proofs.OrderLemmas.{value_cmp-Int}
-use Rattle.sqlite_trees.specs.Tree.{Trees, IsAscending}
-use Rattle.sqlite_trees.proofs.ListLemmas.{along_permutation}
-use Rattle.sqlite_sql.specs.Term.{Term, lit, col, eval_all}
-use Rattle.sqlite_sql.specs.Query.{Query, IsAnswer, Output}
-use Rattle.iodef_tree.specs.declared.line.Kind.{Kind}
+use Rattle.std.proofs.Common.{◌≡◌, ◌<◌, ◌==◌, ℕ, zero, suc, pos, negsuc, List, [], ◌∷◌, ◌++◌, map, filter, flat_map, Bool, true, false, cond, Option, Some}
+use Rattle.std.proofs.{Common.{None, nat_cmp, refl, sym, ap, ap₂, subst, ◌∙◌, arith, append-nil}, lemmas.List.{map-append, Elements.filter-append}}
+use Rattle.std.proofs.lemmas.List.Sorted.{IsPermutation-map, IsPermutation-cons, IsPermutation-trans, IsPermutation-refl, IsPermutation-sym}
+use Rattle.std.{proofs.lemmas.List.Sorted.{IsPermutation-middle, IsPermutation-append_right}, specs.List.{AllByRecursion, Sorted.IsPermutation}}
+use Rattle.{std.specs.{Option.option_to_list, declared.cmp.Ordering.TheVariants.Less}, sqlite_value.{proofs.OrderLemmas.value_cmp-Int, specs.Order.Row}}
+use Rattle.{sqlite_value.specs.declared.{keys.Key.Key, value.Value.TheVariants.Int}, sqlite_trees.{proofs.ListLemmas.along_permutation, specs.Tree.Trees}}
+use Rattle.{sqlite_trees.specs.Tree.IsAscending, sqlite_sql.specs.{Query.{Query, IsAnswer, Output}, Term.{Term, lit, col, eval_all}}}
+use Rattle.{iodef_tree.specs.declared.line.Kind.Kind, hub_state.specs.{Documents.Lines, Sound.IsSound, State.{incident_number, incident_of}}}
+use Rattle.{hub_state.specs.declared.state.Incident.Incident, hub_store.proofs.LookUps.Finding.{seen_through, of_elements, only_one, once_numbered}}
+use Rattle.hub_store.proofs.{LookUps.Listed.{in_its_order, int_below, outs, past_outs}, Rows.{Compare.{begins, equal_numbers, and-true, past}, Forms.one_table}}
+use Rattle.hub_store.proofs.Rows.{Forms.{is_param, by_column, ordered_by}, Found.filter_all, Places.{item_place, item_tree, held_of}, Rising.less}
+use Rattle.hub_store.{proofs.Rows.Statements.{keeps, shows}, specs.{Holdings.holding_without_rowids, Items.{Item, items_from, items_in, items_of, item_row}}}
+use Rattle.hub_store.specs.{Items.{line_shown, kind_number, placed_shown, placed_from}, Means.Means}
 use Rattle.iodef_tree.specs.declared.line.Kind.TheVariants as kind
-use Rattle.hub_state.specs.Documents.{Lines}
 use Rattle.hub_state.specs.State as core
-use Rattle.hub_state.specs.State.{incident_number, incident_of}
-use Rattle.hub_state.specs.Sound.{IsSound}
-use Rattle.hub_state.specs.declared.state.Incident.{Incident}
-use Rattle.hub_store.specs.Holdings.{holding_without_rowids}
-use Rattle.hub_store.specs.Means.{Means}
-use Rattle.hub_store.specs.Items.{Item, items_from, items_in, items_of, item_row, line_shown, kind_number, placed_shown, placed_from}
-use Rattle.hub_store.proofs.Rows.Compare.{begins, equal_numbers, and-true, past}
-use Rattle.hub_store.proofs.Rows.Forms.{one_table, is_param, by_column, ordered_by}
-use Rattle.hub_store.proofs.LookUps.Finding.{seen_through, of_elements, only_one, once_numbered}
-use Rattle.hub_store.proofs.Rows.Found.{filter_all}
-use Rattle.hub_store.proofs.LookUps.Listed.{in_its_order, int_below, outs, past_outs}
-use Rattle.hub_store.proofs.Rows.Places.{item_place, item_tree, held_of}
-use Rattle.hub_store.proofs.Rows.Statements.{keeps, shows}
-use Rattle.hub_store.proofs.Rows.Rising.{less}
 
 -- ---- lines are put with an incident
 

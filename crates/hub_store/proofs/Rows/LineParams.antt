@@ -1,15 +1,9 @@
 -- Lines as parameters, one after another.
-use Rattle.std.proofs.Common.{◌≡◌, ◌+◌, ◌<◌, ℕ, suc, pos, List, [], ◌∷◌, ◌++◌, take, get_or, length, Result, Ok, Err, IfOk, is_ok, if◌then◌else◌, sym, ap, ◌∙◌, arith}
-use Rattle.std.proofs.lemmas.List.{map-append, take_more, length-take-le}
-use Rattle.sqlite_value.specs.declared.value.Value.TheVariants.{Int}
-use Rattle.sqlite_value.specs.declared.value.ValueRef.{ValueRef}
-use Rattle.sqlite_value.specs.Value.{owned}
-use Rattle.sqlite_value.specs.Order.{Row}
-use Rattle.sqlite.specs.Values.{bound, bound_value}
-use Rattle.iodef_tree.specs.declared.line.Line.{Line}
-use Rattle.hub_state.specs.Documents.{Lines}
+use Rattle.std.proofs.Common.{◌≡◌, ◌+◌, ◌<◌, ℕ, suc, pos, List, [], ◌∷◌, ◌++◌, take, get_or, length, Result, Ok, Err, IfOk, is_ok, if◌then◌else◌, sym, ap, ◌∙◌}
+use Rattle.{std.proofs.{Common.arith, lemmas.List.{map-append, take_more, length-take-le}}, sqlite_value.specs.{Order.Row, Value.owned}}
+use Rattle.{sqlite_value.specs.declared.value.{Value.TheVariants.Int, ValueRef.ValueRef}, sqlite.specs.Values.{bound, bound_value}}
+use Rattle.{iodef_tree.specs.declared.line.Line.Line, hub_state.specs.Documents.Lines, hub_store.proofs.Rows.Counting.{as_far, further}}
 use Rattle.hub_store.specs.Items.{line_columns, placed_lines}
-use Rattle.hub_store.proofs.Rows.Counting.{as_far, further}
 
 pub appended : {T E : Type 0} (r : Result T E) (old new more : List ValueRef) (row : Row) → new ≡ (if is_ok r then old ++ more else old) → bound more ≡ row → IfOk r (λ _. bound new ≡ bound old ++ row)
 appended (Ok x) old new more row is same = ap bound is ∙ map-append (λ v. bound_value (owned v)) old more ∙ ap (λ l. bound old ++ l) same

@@ -1,21 +1,10 @@
 -- Lines as rows that one statement puts: its parameters are the incident, and then six for each line.
 use Rattle.std.proofs.Common.{◌≡◌, ◌+◌, ℕ, zero, suc, pos, List, [], ◌∷◌, ◌++◌, map, length, refl, ap, ap₂, subst₂, ◌∙◌, arith, append_assoc}
-use Rattle.std.proofs.lemmas.List.{length-append, get_or-append-add}
-use Rattle.sqlite_value.specs.declared.value.Value.TheVariants.{Null, Int}
-use Rattle.sqlite_value.specs.Order.{Row, column}
-use Rattle.sqlite_sql.specs.Term.{Term, eval_all}
-use Rattle.sqlite_rules.specs.Cast.{cast_row}
-use Rattle.sqlite.specs.Effect.{value_rows}
-use Rattle.iodef_tree.specs.declared.line.Line.{Line}
-use Rattle.hub_state.specs.Documents.{Lines}
-use Rattle.hub_state.specs.State.{State}
-use Rattle.hub_store.specs.Items.{Item, items_from, item_row, placed_lines, kind_number}
-use Rattle.hub_store.specs.Layout.{newest, in_every_version, item_part, behind_items}
-use Rattle.hub_store.proofs.Rows.Compare.{cast_int, cast_null, cast_flag}
-use Rattle.hub_store.proofs.Rows.Held.{bare}
-use Rattle.hub_store.proofs.Rows.PartRows.{Stands}
-use Rattle.hub_store.proofs.Rows.Places.{item_place}
-use Rattle.hub_store.proofs.Rows.Texts.{line_terms}
+use Rattle.{std.proofs.lemmas.List.{length-append, get_or-append-add}, sqlite_value.specs.{Order.{Row, column}, declared.value.Value.TheVariants.{Null, Int}}}
+use Rattle.{sqlite_sql.specs.Term.{Term, eval_all}, sqlite_rules.specs.Cast.cast_row, sqlite.specs.Effect.value_rows, iodef_tree.specs.declared.line.Line.Line}
+use Rattle.{hub_state.specs.{Documents.Lines, State.State}, hub_store.proofs.Rows.{Compare.{cast_int, cast_null, cast_flag}, Held.bare, PartRows.Stands}}
+use Rattle.hub_store.{proofs.Rows.{Places.item_place, Texts.line_terms}, specs.{Items.{Item, items_from, item_row, placed_lines, kind_number}, Layout.newest}}
+use Rattle.hub_store.specs.Layout.{in_every_version, item_part, behind_items}
 
 -- the terms of this many lines, the first from a parameter on
 abbrev pub terms_for : ℕ → ℕ → List Term

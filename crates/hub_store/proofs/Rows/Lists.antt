@@ -1,25 +1,13 @@
 -- Lists as sets: rows that are put and taken, and lists that rise.
-use Rattle.std.proofs.Common.{◌≡◌, ◌⊎◌, inl, inr, ℤ, List, [], ◌∷◌, map, filter, Bool, true, false, cond, not, ◌&&◌, ◌||◌, refl, sym, ap, subst, ◌∙◌, IsTrue, true≢false}
-use Rattle.std.specs.List.{AllByRecursion, list_any}
-use Rattle.std.specs.List.Sorted.{IsPermutation}
-use Rattle.std.specs.declared.cmp.Ordering.{Ordering}
-use Rattle.std.specs.declared.cmp.Ordering.TheVariants.{Less, Equal, Greater}
-use Rattle.std.specs.Ordering.{is_eq, match_ordering, ordering_reverse}
-use Rattle.std.specs.Cmp.{IsTotalOrder}
-use Rattle.std.proofs.lemmas.Cmp.{tied_itself}
-use Rattle.std.proofs.lemmas.List.Sorted.{IsPermutation-cons, IsPermutation-trans, IsPermutation-refl, IsPermutation-middle, list_any-IsPermutation}
-use Rattle.sqlite_value.specs.declared.value.Value.{Value}
-use Rattle.sqlite_value.specs.declared.value.Value.TheVariants.{Null, Int, Real, Text, Blob}
-use Rattle.sqlite_value.specs.Order.{Row, value_cmp}
-use Rattle.sqlite_value.proofs.OrderLemmas.{value_cmp_total}
-use Rattle.sqlite_trees.specs.declared.store.Shape.TheVariants.{Table}
-use Rattle.sqlite_trees.specs.Tree.{rowid, has_rowid, put_row, without_rowid, IsAscending}
-use Rattle.sqlite_trees.specs.View.{is_int, IsShaped}
-use Rattle.sqlite_trees.proofs.ListLemmas.{filter_same, all_weaker, all_both, along_permutation}
-use Rattle.sqlite_rules.specs.Edit.{id_in, without_all, is_taken}
-use Rattle.sqlite_rules.specs.Lists.{Has}
-use Rattle.redact.proofs.Filtered.{filter-both}
-use Rattle.hub_store.proofs.Rows.Found.{always, filter_all}
+use Rattle.std.proofs.Common.{◌≡◌, ◌⊎◌, inl, inr, ℤ, List, [], ◌∷◌, map, filter, Bool, true, false, cond, not, ◌&&◌, ◌||◌, refl, sym, ap, subst, ◌∙◌, IsTrue}
+use Rattle.std.proofs.{Common.true≢false, lemmas.{Cmp.tied_itself, List.Sorted.{IsPermutation-cons, IsPermutation-trans, IsPermutation-refl}}}
+use Rattle.std.{proofs.lemmas.List.Sorted.{IsPermutation-middle, list_any-IsPermutation}, specs.{Cmp.IsTotalOrder, List.{AllByRecursion, list_any}}}
+use Rattle.std.specs.{List.Sorted.IsPermutation, Ordering.{is_eq, match_ordering, ordering_reverse}, declared.cmp.Ordering.{Ordering, TheVariants.Less}}
+use Rattle.{std.specs.declared.cmp.Ordering.TheVariants.{Equal, Greater}, sqlite_value.{proofs.OrderLemmas.value_cmp_total, specs.Order.{Row, value_cmp}}}
+use Rattle.{sqlite_value.specs.declared.value.Value.{Value, TheVariants.{Null, Int, Real, Text, Blob}}, sqlite_trees.proofs.ListLemmas.filter_same}
+use Rattle.sqlite_trees.{proofs.ListLemmas.{all_weaker, all_both, along_permutation}, specs.Tree.{rowid, has_rowid, put_row, without_rowid, IsAscending}}
+use Rattle.{sqlite_trees.specs.{View.{is_int, IsShaped}, declared.store.Shape.TheVariants.Table}, sqlite_rules.specs.Edit.{id_in, without_all, is_taken}}
+use Rattle.{sqlite_rules.specs.Lists.Has, redact.proofs.Filtered.filter-both, hub_store.proofs.Rows.Found.{always, filter_all}}
 
 -- ---- a new row is put
 

@@ -1,17 +1,9 @@
 -- One of the sets of pairs, as a query by its name sees it.
 use Rattle.std.proofs.Common.{◌≡◌, ℕ, zero, suc, List, [], ◌∷◌, ◌++◌, map, filter, take, drop, slice_get, Bool, true, false, ◌&&◌, Some, refl, sym, ap, ◌∙◌}
-use Rattle.std.specs.List.{list_all}
-use Rattle.std.specs.Str.{bytes_eq}
-use Rattle.std.proofs.lemmas.Bool.{and_parts, not-true}
-use Rattle.std.proofs.lemmas.List.{append-nil}
-use Rattle.std.proofs.lemmas.List.Elements.{filter-append}
-use Rattle.sqlite_value.specs.declared.value.Value.TheVariants.{Text}
-use Rattle.sqlite_value.specs.Order.{Row, column}
-use Rattle.sqlite_trees.proofs.ListLemmas.{filter_none}
-use Rattle.hub_store.specs.Pairs.{Pair, PairSet, pair_row, rows_of_pairs}
-use Rattle.hub_store.proofs.Rows.Compare.{is_same, equal_texts}
-use Rattle.hub_store.proofs.Rows.Found.{always, filter_rows}
-use Rattle.hub_store.proofs.Rows.PairSets.{is_other_kind, some_set}
+use Rattle.std.{proofs.lemmas.{Bool.{and_parts, not-true}, List.{append-nil, Elements.filter-append}}, specs.{List.list_all, Str.bytes_eq}}
+use Rattle.{sqlite_value.specs.{Order.{Row, column}, declared.value.Value.TheVariants.Text}, sqlite_trees.proofs.ListLemmas.filter_none}
+use Rattle.hub_store.{proofs.Rows.{Compare.{is_same, equal_texts}, Found.{always, filter_rows}, PairSets.{is_other_kind, some_set}}, specs.Pairs.Pair}
+use Rattle.hub_store.specs.Pairs.{PairSet, pair_row, rows_of_pairs}
 
 -- the row has the name of the set, and the rest of it passes
 abbrev pub is_of : List ℕ → (Row → Bool) → Row → Bool

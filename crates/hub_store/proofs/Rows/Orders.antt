@@ -1,15 +1,9 @@
 -- A list that was sorted is the one that rises.
-use Rattle.std.proofs.Common.{◌≡◌, suc, List, [], ◌∷◌, false, refl, sym, ap, ◌∙◌, arith, add-one, true≢false}
-use Rattle.std.specs.List.Sorted.{IsPermutation, IsSortedBy}
-use Rattle.std.specs.declared.cmp.Ordering.{Ordering}
-use Rattle.std.specs.declared.cmp.Ordering.TheVariants.{Less, Equal, Greater}
-use Rattle.std.specs.Ordering.{is_eq, is_lt, ordering_reverse}
-use Rattle.std.specs.Cmp.{IsTotalOrder}
-use Rattle.std.proofs.lemmas.List.Elements.{recursion_from_All}
+use Rattle.std.proofs.{Common.{◌≡◌, suc, List, [], ◌∷◌, false, refl, sym, ap, ◌∙◌, arith, add-one, true≢false}, lemmas.List.Elements.recursion_from_All}
 use Rattle.std.proofs.lemmas.List.Sorted.{IsPermutation-cons, IsPermutation-trans, IsPermutation-refl, IsPermutation-sym, sorted_far, ranks_by}
-use Rattle.sqlite_trees.specs.Tree.{IsAscending}
-use Rattle.sqlite_trees.proofs.ListLemmas.{all-permutation, all_both, along_permutation, ascending_weaker}
-use Rattle.hub_store.proofs.Rows.Lists.{Rises, flipped, same_rising, has_permuted}
+use Rattle.std.specs.{Cmp.IsTotalOrder, List.Sorted.{IsPermutation, IsSortedBy}, Ordering.{is_eq, is_lt, ordering_reverse}, declared.cmp.Ordering.Ordering}
+use Rattle.{std.specs.declared.cmp.Ordering.TheVariants.{Less, Equal, Greater}, sqlite_trees.proofs.ListLemmas.{all-permutation, all_both, along_permutation}}
+use Rattle.{sqlite_trees.{proofs.ListLemmas.ascending_weaker, specs.Tree.IsAscending}, hub_store.proofs.Rows.Lists.{Rises, flipped, same_rising, has_permuted}}
 
 module _ {X K : Type 0} {R : K → K → Ordering} (total : IsTotalOrder R) (key : X → K) where
   Apart : X → X → Type 0

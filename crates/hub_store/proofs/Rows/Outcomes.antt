@@ -1,19 +1,10 @@
 -- What a query and a statement leave, whatever they return.
-use Rattle.std.proofs.Common.{◌≡◌, ◌⊎◌, inl, inr, ℕ, List, false, Option, None, Some, Err, IsTrue, sym, ap, subst, ◌∙◌}
-use Rattle.sqlite_value.specs.Order.{Row}
-use Rattle.sqlite_schema.specs.declared.command.Command.TheVariants.{Select}
-use Rattle.sqlite_schema.specs.declared.command.Returning.{Returning}
-use Rattle.sqlite_sql.specs.Query.{Query, IsAnswer}
-use Rattle.sqlite_value.specs.declared.value.Value.TheVariants.{Null}
-use Rattle.sqlite.specs.declared.error.Error.{Error}
-use Rattle.sqlite.specs.Listing.{understood, reads_listing}
+use Rattle.{std.proofs.Common.{◌≡◌, ◌⊎◌, inl, inr, ℕ, List, false, Option, None, Some, Err, IsTrue, sym, ap, subst, ◌∙◌}, sqlite_value.specs.Order.Row}
+use Rattle.{sqlite_value.specs.declared.value.Value.TheVariants.Null, sqlite_schema.specs.declared.command.{Command.TheVariants.Select, Returning.Returning}}
+use Rattle.{sqlite_sql.specs.Query.{Query, IsAnswer}, sqlite.{proofs.Callers.{IsPlain, command_of, reads_as}, specs.Listing.{understood, reads_listing}}}
 use Rattle.sqlite.specs.State.{State, IsUnchanged, IsRolledBack, KeepsCommit, FailsToQuery, FailsToShow, RunsCommand, IsNotRun, IsTooLate, Shown, ShowsRows}
-use Rattle.sqlite.proofs.Callers.{IsPlain, command_of, reads_as}
-use Rattle.sqlite_resolve.specs.declared.compiled.Compiled.{Compiled}
-use Rattle.hub_store.specs.Tables.{hub_schema}
-use Rattle.hub_store.specs.Keeps.{Knows}
-use Rattle.hub_store.proofs.Rows.Forms.{program}
-use Rattle.hub_store.proofs.Rows.Statements.{overlaid}
+use Rattle.{sqlite.specs.declared.error.Error.Error, sqlite_resolve.specs.declared.compiled.Compiled.Compiled, hub_store.proofs.Rows.Forms.program}
+use Rattle.hub_store.{proofs.Rows.Statements.overlaid, specs.{Keeps.Knows, Tables.hub_schema}}
 
 module _ (old new : State) where
   pub unchanged_keeps : IsUnchanged old new ⊎ IsRolledBack old new → KeepsCommit old new

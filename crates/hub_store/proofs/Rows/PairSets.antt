@@ -1,16 +1,10 @@
 -- Five sets in one table, told apart by a column with the set's name.
-use Rattle.std.proofs.Common.{◌≡◌, ℕ, zero, suc, pos, List, [], ◌∷◌, ◌++◌, map, filter, take, drop, slice_get, Bool, true, false, not, ◌&&◌, ◌==◌, Some, refl, sym, ap, subst, ◌∙◌}
-use Rattle.std.specs.List.{list_all}
-use Rattle.std.specs.Str.{bytes_eq}
-use Rattle.std.specs.List.Sorted.{IsPermutation}
-use Rattle.std.proofs.lemmas.Bool.{and_parts, not-true}
-use Rattle.std.proofs.lemmas.List.Elements.{filter-append}
-use Rattle.std.proofs.lemmas.List.Sorted.{IsPermutation-map, IsPermutation-append_left, IsPermutation-append_right, IsPermutation-middle, IsPermutation-trans, IsPermutation-sym}
-use Rattle.sqlite_value.specs.declared.value.Value.TheVariants.{Int, Text}
-use Rattle.sqlite_value.specs.Order.{Row}
-use Rattle.hub_store.specs.Pairs.{Pair, PairSet, pair_row, rows_of_pairs}
-use Rattle.hub_store.proofs.Rows.Compare.{equal_numbers, equal_texts, and-true, begins}
-use Rattle.hub_store.proofs.Rows.Found.{filter_all, filter_rows}
+use Rattle.std.proofs.Common.{◌≡◌, ℕ, zero, suc, pos, List, [], ◌∷◌, ◌++◌, map, filter, take, drop, slice_get, Bool, true, false, not, ◌&&◌, ◌==◌, Some, refl}
+use Rattle.std.proofs.{Common.{sym, ap, subst, ◌∙◌}, lemmas.{Bool.{and_parts, not-true}, List.{Elements.filter-append, Sorted.IsPermutation-map}}}
+use Rattle.std.proofs.lemmas.List.Sorted.{IsPermutation-append_left, IsPermutation-append_right, IsPermutation-middle, IsPermutation-trans, IsPermutation-sym}
+use Rattle.{std.specs.{List.{list_all, Sorted.IsPermutation}, Str.bytes_eq}, sqlite_value.specs.{Order.Row, declared.value.Value.TheVariants.{Int, Text}}}
+use Rattle.hub_store.{proofs.Rows.{Compare.{equal_numbers, equal_texts, and-true, begins}, Found.{filter_all, filter_rows}}, specs.Pairs.{Pair, PairSet}}
+use Rattle.hub_store.specs.Pairs.{pair_row, rows_of_pairs}
 
 pub some_set : (x y : PairSet) → Some x ≡ Some y → x ≡ y
 some_set x y e = cc

@@ -1,32 +1,14 @@
 -- What a statement on the rows of one table makes of a list of parts.
-use Rattle.std.proofs.Common.{◌≡◌, ◌≢◌, ℕ, List, [], ◌∷◌, ◌++◌, map, filter, Bool, true, false, not, ◌==◌, if◌then◌else◌, sym, ap, subst, subst₂, ◌∙◌, arith, ◌/◌, length, slice_get, Some, Ok, refl}
-use Rattle.std.specs.List.{AllByRecursion, list_all}
-use Rattle.std.specs.List.Sorted.{IsPermutation}
-use Rattle.std.proofs.lemmas.Bool.{and_parts}
-use Rattle.std.proofs.lemmas.Bool.Decides.{nat_tests}
-use Rattle.sqlite_value.specs.Order.{Row}
-use Rattle.sqlite_trees.specs.Tree.{Trees}
-use Rattle.sqlite_schema.specs.declared.schema.Table.{Table}
-use Rattle.sqlite_schema.specs.declared.schema.Keys.TheVariants.{Enforced}
-use Rattle.sqlite_sql.specs.Term.{Term, col}
-use Rattle.sqlite_rules.specs.Edit.{Edit, Applies, with_rowid, numbered}
-use Rattle.sqlite.specs.Effect.{Database, IsDatabase, value_rows}
-use Rattle.hub_store.specs.Holdings.{Holding, IsHeld}
-use Rattle.hub_store.specs.Parts.{Part, held, schema_of, HoldsParts}
-use Rattle.hub_store.proofs.Rows.Forms.{one_table, program}
-use Rattle.hub_store.proofs.Rows.Parts.{AreHeld, same_rows}
-use Rattle.hub_store.proofs.Rows.Statements.{keeps, shows, inserted, deleted, updated}
-use Rattle.sqlite_schema.specs.declared.command.Source.TheVariants.{Values}
-use Rattle.sqlite_schema.specs.declared.command.Command.TheVariants.{Insert, Delete, Update}
-use Rattle.sqlite_rules.specs.declared.error.Rowids.TheVariants.{Chosen}
-use Rattle.sqlite_rules.specs.Action.{works}
-use Rattle.sqlite_rules.specs.Cast.{cast_row}
-use Rattle.sqlite.specs.Rows.{stamped}
-use Rattle.sqlite.specs.Listing.{understood}
-use Rattle.sqlite.specs.State.{State, Executes}
-use Rattle.sqlite.proofs.Callers.{IsPlain, command_of}
+use Rattle.std.proofs.Common.{◌≡◌, ◌≢◌, ℕ, List, [], ◌∷◌, ◌++◌, map, filter, Bool, true, false, not, ◌==◌, if◌then◌else◌, sym, ap, subst, subst₂, ◌∙◌, arith}
+use Rattle.std.{proofs.{Common.{◌/◌, length, slice_get, Some, Ok, refl}, lemmas.Bool.{and_parts, Decides.nat_tests}}, specs.List.{AllByRecursion, list_all}}
+use Rattle.{std.specs.List.Sorted.IsPermutation, sqlite_value.specs.Order.Row, sqlite_trees.specs.Tree.Trees}
+use Rattle.sqlite_schema.specs.declared.{command.{Command.TheVariants.{Insert, Delete, Update}, Source.TheVariants.Values}, schema.Keys.TheVariants.Enforced}
+use Rattle.{sqlite_schema.specs.declared.schema.Table.Table, sqlite_sql.specs.Term.{Term, col}, sqlite_rules.specs.{Action.works, Cast.cast_row, Edit.Edit}}
+use Rattle.{sqlite_rules.specs.{Edit.{Applies, with_rowid, numbered}, declared.error.Rowids.TheVariants.Chosen}, sqlite.proofs.Callers.{IsPlain, command_of}}
+use Rattle.sqlite.specs.{Effect.{Database, IsDatabase, value_rows}, Listing.understood, Rows.stamped, State.{State, Executes}}
+use Rattle.hub_store.proofs.Rows.{Forms.{one_table, program}, Held.{permuted, comes_in, goes_out}, Parts.{AreHeld, same_rows}, Statements.{keeps, shows}}
+use Rattle.hub_store.{proofs.Rows.Statements.{inserted, deleted, updated}, specs.{Holdings.{Holding, IsHeld}, Parts.{Part, held, schema_of, HoldsParts}}}
 use Rattle.hub_store.proofs.Rows.Exchanged as exchanged
-use Rattle.hub_store.proofs.Rows.Held.{permuted, comes_in, goes_out}
 
 -- ---- the other parts stay
 

@@ -1,18 +1,9 @@
 -- What CREATE and DROP make of a list of parts.
-use Rattle.std.proofs.Common.{◌≡◌, List, [], ◌∷◌, ◌++◌, map, sym, subst, ◌∙◌}
-use Rattle.std.specs.List.{AllByRecursion}
-use Rattle.std.specs.List.Sorted.{IsPermutation}
-use Rattle.std.proofs.lemmas.List.Sorted.{IsPermutation-refl}
-use Rattle.sqlite_trees.specs.declared.store.Shape.TheVariants.{Table as table_shape}
-use Rattle.sqlite_trees.specs.Tree.{Trees}
-use Rattle.sqlite_trees.specs.View.{IsShaped}
-use Rattle.sqlite_schema.specs.declared.schema.Table.{Table}
-use Rattle.sqlite_catalog.specs.Change.{created, next_tree, without_table, KeepsRows}
-use Rattle.sqlite.specs.Effect.{Database}
-use Rattle.hub_store.specs.Holdings.{Holding, IsHeld}
-use Rattle.hub_store.specs.Parts.{Part, held, schema_of, HoldsParts}
-use Rattle.hub_store.proofs.Versions.Creates.{Made}
-use Rattle.hub_store.proofs.Versions.Drops.{Dropped}
+use Rattle.std.{proofs.{Common.{◌≡◌, List, [], ◌∷◌, ◌++◌, map, sym, subst, ◌∙◌}, lemmas.List.Sorted.IsPermutation-refl}, specs.List.AllByRecursion}
+use Rattle.{std.specs.List.Sorted.IsPermutation, sqlite_trees.specs.{Tree.Trees, View.IsShaped, declared.store.Shape.TheVariants.Table as table_shape}}
+use Rattle.{sqlite_schema.specs.declared.schema.Table.Table, sqlite_catalog.specs.Change.{created, next_tree, without_table, KeepsRows}}
+use Rattle.{sqlite.specs.Effect.Database, hub_store.{proofs.Versions.{Creates.Made, Drops.Dropped}, specs.{Holdings.{Holding, IsHeld}, Parts.{Part, held}}}}
+use Rattle.hub_store.specs.Parts.{schema_of, HoldsParts}
 
 abbrev pub AreHeld : Trees → List Part → Type 0
 AreHeld db ps = AllByRecursion (IsHeld db) (map held ps)

@@ -1,14 +1,8 @@
 -- The place of each table of the newest version, by its name among the parts. The meaning of a text, and what a
 -- statement changes, cite these and no number.
-use Rattle.std.proofs.Common.{◌≡◌, ℕ, zero, suc, List, [], ◌∷◌, slice_get, Some, unwrap_or, codes, subst}
-use Rattle.std.specs.List.{AllByRecursion, position_from}
-use Rattle.std.specs.Str.{bytes_eq}
-use Rattle.sqlite_trees.specs.Tree.{Trees}
-use Rattle.sqlite_schema.specs.declared.schema.Table.{Table}
-use Rattle.hub_state.specs.State.{State}
-use Rattle.hub_store.specs.Tables.{hub_schema, hub_table}
-use Rattle.hub_store.specs.Holdings.{Holding, IsHeld}
-use Rattle.hub_store.specs.Means.{holdings, Means}
+use Rattle.std.{proofs.Common.{◌≡◌, ℕ, zero, suc, List, [], ◌∷◌, slice_get, Some, unwrap_or, codes, subst}, specs.List.{AllByRecursion, position_from}}
+use Rattle.{std.specs.Str.bytes_eq, sqlite_trees.specs.Tree.Trees, sqlite_schema.specs.declared.schema.Table.Table, hub_state.specs.State.State}
+use Rattle.hub_store.specs.{Holdings.{Holding, IsHeld}, Means.{holdings, Means}, Tables.{hub_schema, hub_table}}
 
 abbrev pub place_named : List ℕ → ℕ
 place_named name = unwrap_or (position_from (λ (t : Table). bytes_eq t.name name) 0 hub_schema.tables) 0

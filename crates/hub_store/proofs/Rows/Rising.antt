@@ -1,12 +1,7 @@
 -- Lists that rise.
-use Rattle.std.proofs.Common.{◌≡◌, ℕ, ◌+◌, ◌<◌, List, [], ◌∷◌, nat_cmp, arith}
-use Rattle.std.specs.declared.cmp.Ordering.TheVariants.{Less}
-use Rattle.std.proofs.lemmas.Bool.Decides.{nat_tests}
-use Rattle.sqlite_trees.specs.Tree.{IsAscending}
-use Rattle.sqlite_trees.proofs.ListLemmas.{all_weaker}
-use Rattle.circle.specs.Sound.{Pairwise, CountsFrom}
-use Rattle.hub_state.proofs.Keeping.{numbers_above}
-use Rattle.hub_store.proofs.Rows.Lists.{Rises}
+use Rattle.std.{proofs.{Common.{◌≡◌, ℕ, ◌+◌, ◌<◌, List, [], ◌∷◌, nat_cmp, arith}, lemmas.Bool.Decides.nat_tests}, specs.declared.cmp.Ordering.TheVariants.Less}
+use Rattle.{sqlite_trees.{proofs.ListLemmas.all_weaker, specs.Tree.IsAscending}, circle.specs.Sound.{Pairwise, CountsFrom}}
+use Rattle.{hub_state.proofs.Keeping.numbers_above, hub_store.proofs.Rows.Lists.Rises}
 
 pub less : (m n : ℕ) → m < n → nat_cmp m n ≡ Less
 less m n h = grind (arith, nat_tests)

@@ -1,53 +1,19 @@
 -- A set of the state as its table holds it: data with its laws, and what statements on the table make of the state.
-use Rattle.std.proofs.Common.{◌≡◌, ℕ, suc, List, [], ◌∷◌, ◌++◌, map, filter, take, drop, length, ◌/◌, Bool, true, false}
-use Rattle.std.proofs.Common.{cond, not, if◌then◌else◌, Result, Ok, OnOk, IsTrue, sym, ap, subst}
-use Rattle.std.specs.List.{AllByRecursion}
-use Rattle.std.specs.List.Sorted.{IsPermutation}
-use Rattle.std.specs.Cmp.{IsTotalOrder}
-use Rattle.std.specs.Ordering.{is_lt}
-use Rattle.std.specs.declared.cmp.Ordering.{Ordering}
-use Rattle.std.specs.declared.cmp.Ordering.TheVariants.{Less}
-use Rattle.std.proofs.lemmas.List.Sorted.{IsPermutation-cons, IsPermutation-trans, IsPermutation-refl}
-use Rattle.sqlite_value.specs.Order.{Row}
-use Rattle.sqlite_trees.specs.Tree.{Trees, IsAscending}
-use Rattle.sqlite_trees.specs.declared.store.Store as store
-use Rattle.sqlite_trees.proofs.ListLemmas.{all-filter}
-use Rattle.sqlite_sql.specs.Term.{Term}
-use Rattle.sqlite_schema.specs.declared.command.Command.{Command}
-use Rattle.sqlite_schema.specs.declared.command.Command.TheVariants.{Insert}
-use Rattle.sqlite_schema.specs.declared.command.Source.TheVariants.{Values}
-use Rattle.sqlite_rules.specs.declared.error.Rowids.TheVariants.{Chosen}
-use Rattle.sqlite_rules.specs.Cast.{cast_row}
-use Rattle.sqlite_rules.specs.Edit.{with_rowid}
-use Rattle.sqlite.specs.declared.error.Error.{Error}
-use Rattle.sqlite.specs.Effect.{Database, value_rows}
-use Rattle.sqlite.specs.Held.{Held, state}
-use Rattle.sqlite.specs.Listing.{understood}
-use Rattle.sqlite.specs.Rows.{stamped}
-use Rattle.sqlite.specs.State as sql
-use Rattle.sqlite.specs.State.{HasCleanDisk, Executes}
-use Rattle.sqlite.proofs.Callers.{IsPlain, command_of}
-use Rattle.circle.specs.Ordered.{put_by}
-use Rattle.circle.proofs.Keeping.{each_put}
-use Rattle.hub_state.specs.Sound.{IsSound}
-use Rattle.hub_state.specs.State.{State}
-use Rattle.hub_store.specs.Fit.{IsFit}
-use Rattle.hub_store.specs.Holdings.{IsHeld}
-use Rattle.hub_store.specs.Items.{items_of, item_row}
-use Rattle.hub_store.specs.Keeps.{Goes, HasRun}
-use Rattle.hub_store.specs.Layout.{newest_tables}
-use Rattle.hub_store.specs.Means.{Means, Holds}
-use Rattle.hub_store.specs.Parts.{Part, schema_of, held, HoldsParts}
-use Rattle.hub_store.specs.Rows.{named_row}
-use Rattle.hub_store.specs.Tables.{hub_schema}
+use Rattle.std.proofs.Common.{◌≡◌, ℕ, suc, List, [], ◌∷◌, ◌++◌, map, filter, take, drop, length, ◌/◌, Bool, true, false, cond, not, if◌then◌else◌, Result, Ok}
+use Rattle.std.proofs.{Common.{OnOk, IsTrue, sym, ap, subst}, lemmas.List.Sorted.{IsPermutation-cons, IsPermutation-trans, IsPermutation-refl}}
+use Rattle.std.specs.{Cmp.IsTotalOrder, List.{AllByRecursion, Sorted.IsPermutation}, Ordering.is_lt, declared.cmp.Ordering.{Ordering, TheVariants.Less}}
+use Rattle.{sqlite_value.specs.Order.Row, sqlite_trees.{proofs.ListLemmas.all-filter, specs.Tree.{Trees, IsAscending}}, sqlite_sql.specs.Term.Term}
+use Rattle.{sqlite_schema.specs.declared.command.{Command.{Command, TheVariants.Insert}, Source.TheVariants.Values}, sqlite_rules.specs.Cast.cast_row}
+use Rattle.{sqlite_rules.specs.{Edit.with_rowid, declared.error.Rowids.TheVariants.Chosen}, sqlite.proofs.Callers.{IsPlain, command_of}}
+use Rattle.sqlite.specs.{Effect.{Database, value_rows}, Held.{Held, state}, Listing.understood, Rows.stamped, State.{HasCleanDisk, Executes}}
+use Rattle.{sqlite.specs.declared.error.Error.Error, circle.{proofs.Keeping.each_put, specs.Ordered.put_by}, hub_state.specs.{Sound.IsSound, State.State}}
+use Rattle.hub_store.proofs.{Edits.Steps.made_by, Rows.{Forms.{Says, taking, exchanging}, Lists.flipped, PartRows.{Stands, with_rows}, Places.table_at}}
+use Rattle.hub_store.{proofs.Rows.Statements.{keeps, shows}, specs.{Fit.IsFit, Holdings.IsHeld, Items.{items_of, item_row}, Keeps.{Goes, HasRun}}}
+use Rattle.hub_store.specs.{Layout.newest_tables, Means.{Means, Holds}, Parts.{Part, schema_of, held, HoldsParts}, Rows.named_row, Tables.hub_schema}
 use Rattle.hub_store.specs.inner.Makes.{Makes}
-use Rattle.hub_store.proofs.Rows.Forms.{Says, taking, exchanging}
-use Rattle.hub_store.proofs.Rows.Lists.{flipped}
+use Rattle.sqlite_trees.specs.declared.store.Store as store
+use Rattle.sqlite.specs.State as sql
 use Rattle.hub_store.proofs.Rows.PartRows as part
-use Rattle.hub_store.proofs.Rows.PartRows.{Stands, with_rows}
-use Rattle.hub_store.proofs.Rows.Places.{table_at}
-use Rattle.hub_store.proofs.Rows.Statements.{keeps, shows}
-use Rattle.hub_store.proofs.Edits.Steps.{made_by}
 
 -- ---- lists
 

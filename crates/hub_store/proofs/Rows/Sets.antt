@@ -1,66 +1,27 @@
 -- Each set of the state as a table holds it.
-use Rattle.std.proofs.Common.{◌≡◌, ℕ, suc, pos, List, [], ◌∷◌, ◌++◌, map, filter, take, drop, slice_get}
-use Rattle.std.proofs.Common.{true, not, Some, unwrap_or, Result, OnOk, IsTrue, refl, sym, ap, subst}
-use Rattle.std.proofs.Common.{subst₂, ◌∙◌, codes}
-use Rattle.std.specs.List.{AllByRecursion, list_all}
-use Rattle.std.specs.List.Sorted.{IsPermutation}
-use Rattle.std.specs.Str.{bytes_eq}
-use Rattle.std.specs.Cmp.{IsTotalOrder}
-use Rattle.std.specs.declared.cmp.Ordering.{Ordering}
-use Rattle.std.specs.declared.cmp.Ordering.TheVariants.{Less}
-use Rattle.std.proofs.lemmas.Cmp.{nat_cmp_total, on_total}
-use Rattle.std.proofs.lemmas.List.Sorted.{IsPermutation-map}
-use Rattle.sqlite_value.specs.declared.value.Value.TheVariants.{Null, Int, Text}
-use Rattle.sqlite_value.specs.Order.{Row, column}
-use Rattle.sqlite_trees.specs.Tree.{IsAscending}
+use Rattle.std.proofs.Common.{◌≡◌, ℕ, suc, pos, List, [], ◌∷◌, ◌++◌, map, filter, take, drop, slice_get, true, not, Some, unwrap_or, Result, OnOk, IsTrue, refl}
+use Rattle.std.proofs.{Common.{sym, ap, subst, subst₂, ◌∙◌, codes}, lemmas.{Cmp.{nat_cmp_total, on_total}, List.Sorted.IsPermutation-map}}
+use Rattle.std.specs.{Cmp.IsTotalOrder, List.{AllByRecursion, list_all, Sorted.IsPermutation}, Str.bytes_eq, declared.cmp.Ordering.{Ordering, TheVariants.Less}}
+use Rattle.{sqlite_value.specs.{Order.{Row, column}, declared.value.Value.TheVariants.{Null, Int, Text}}, sqlite_trees.proofs.ListLemmas.{map-map, filter-map}}
+use Rattle.{sqlite_trees.{proofs.ListLemmas.IsPermutation-filter, specs.Tree.IsAscending}, sqlite_rules.specs.{Cast.cast_row, Edit.with_rowid}}
+use Rattle.{sqlite_rules.specs.declared.error.Rowids.TheVariants.Chosen, sqlite.specs.{Held.{Held, state}, State.HasCleanDisk, declared.error.Error.Error}}
+use Rattle.circle.{proofs.Keeping.pair_total, specs.Directory.{Directory, org_number, account_number, community_number, group_number, client_key}}
+use Rattle.circle.specs.{Directory.{membership_key, connection_key, group_member_key, arrangement_key}, Ordered.{by_number, by_pair}}
+use Rattle.circle.specs.declared.directory.{Account.Account, Arrangement.Arrangement, Client.Client, Community.Community, Connection.Connection, Group.Group}
+use Rattle.{circle.specs.declared.directory.{GroupMember.GroupMember, Membership.Membership, Org.Org}, hub_state.specs.Orders.{gate_total, recipient_total}}
+use Rattle.hub_state.specs.{Orders.permission_total, Sound.IsSound, State.{State, gate_cmp, recipient_cmp, permission_cmp, target_key, grantee_key}}
+use Rattle.{hub_state.specs.declared.state.{Gate.Gate, Permission.Permission, Recipient.Recipient}, hub_store.proofs.Rows.Backs.{number_in, text_in, blob_in}}
+use Rattle.hub_store.proofs.Rows.Backs.{is_set, flag_back, option_in, option_back, moment_in, moment_back, role_of, role_back, handling_of, handling_back}
+use Rattle.hub_store.proofs.Rows.{Backs.{target_of, target_back, grantee_of, grantee_back, is_one, bit_back, path_in, path_back}, Compare.{cast_int, cast_null}}
+use Rattle.hub_store.proofs.Rows.{Compare.{cast_option, cast_moment, cast_flag, past}, Found.filter_all, OneKind.{kind_alone, is_of}, PairSets.is_pair}
+use Rattle.hub_store.proofs.Rows.{PairSets.{is_row, is_other_kind, pair_in, pair_out}, PartRows.Stands, Places.{table_at, org_place, person_place}}
+use Rattle.hub_store.proofs.Rows.{Places.{community_place, grp_place, pair_place, gate_place, recipient_place, permission_place}, Rising.{rising, counted}}
+use Rattle.hub_store.{proofs.Rows.{SetKinds.{Kind, parts, part_at, taken_from}, Texts.take_pair_is}, specs.Fit.{IsFit, FitOrg, FitAccount, FitCommunity}}
+use Rattle.hub_store.specs.{Fit.{FitGroup, FitGate}, Keeps.{Goes, HasRun}, Means.Holds, Pairs.{Pair, pair_row, rows_of_pairs, take_pair}, Rows.role_number}
+use Rattle.hub_store.specs.Rows.{org_row, account_row, community_row, group_row, gate_row, recipient_row, permission_row, client_pair, membership_pair}
+use Rattle.hub_store.specs.{Rows.{connection_pair, group_member_pair, arrangement_pair, pair_sets}, inner.Makes.Makes}
 use Rattle.sqlite_trees.specs.declared.store.Store as store
-use Rattle.sqlite_trees.proofs.ListLemmas.{map-map, filter-map, IsPermutation-filter}
-use Rattle.sqlite_rules.specs.declared.error.Rowids.TheVariants.{Chosen}
-use Rattle.sqlite_rules.specs.Cast.{cast_row}
-use Rattle.sqlite_rules.specs.Edit.{with_rowid}
-use Rattle.sqlite.specs.declared.error.Error.{Error}
-use Rattle.sqlite.specs.Held.{Held, state}
-use Rattle.sqlite.specs.State.{HasCleanDisk}
-use Rattle.circle.specs.Ordered.{by_number, by_pair}
-use Rattle.circle.specs.Directory.{Directory, org_number, account_number, community_number, group_number}
-use Rattle.circle.specs.Directory.{client_key, membership_key, connection_key, group_member_key, arrangement_key}
 use Rattle.circle.specs.Sound as circle
-use Rattle.circle.proofs.Keeping.{pair_total}
-use Rattle.circle.specs.declared.directory.Org.{Org}
-use Rattle.circle.specs.declared.directory.Account.{Account}
-use Rattle.circle.specs.declared.directory.Client.{Client}
-use Rattle.circle.specs.declared.directory.Community.{Community}
-use Rattle.circle.specs.declared.directory.Membership.{Membership}
-use Rattle.circle.specs.declared.directory.Connection.{Connection}
-use Rattle.circle.specs.declared.directory.Group.{Group}
-use Rattle.circle.specs.declared.directory.GroupMember.{GroupMember}
-use Rattle.circle.specs.declared.directory.Arrangement.{Arrangement}
-use Rattle.hub_state.specs.State.{State, gate_cmp, recipient_cmp, permission_cmp, target_key, grantee_key}
-use Rattle.hub_state.specs.Sound.{IsSound}
-use Rattle.hub_state.specs.Orders.{gate_total, recipient_total, permission_total}
-use Rattle.hub_state.specs.declared.state.Gate.{Gate}
-use Rattle.hub_state.specs.declared.state.Recipient.{Recipient}
-use Rattle.hub_state.specs.declared.state.Permission.{Permission}
-use Rattle.hub_store.specs.Fit.{IsFit, FitOrg, FitAccount, FitCommunity, FitGroup, FitGate}
-use Rattle.hub_store.specs.Keeps.{Goes, HasRun}
-use Rattle.hub_store.specs.Means.{Holds}
-use Rattle.hub_store.specs.Pairs.{Pair, pair_row, rows_of_pairs, take_pair}
-use Rattle.hub_store.specs.Rows.{role_number, org_row, account_row, community_row, group_row, gate_row, recipient_row}
-use Rattle.hub_store.specs.Rows.{permission_row, client_pair, membership_pair, connection_pair, group_member_pair}
-use Rattle.hub_store.specs.Rows.{arrangement_pair, pair_sets}
-use Rattle.hub_store.specs.inner.Makes.{Makes}
-use Rattle.hub_store.proofs.Rows.Backs.{number_in, text_in, blob_in, is_set, flag_back, option_in, option_back, moment_in, moment_back}
-use Rattle.hub_store.proofs.Rows.Backs.{role_of, role_back, handling_of, handling_back, target_of, target_back, grantee_of, grantee_back, is_one, bit_back, path_in, path_back}
-use Rattle.hub_store.proofs.Rows.Compare.{cast_int, cast_null, cast_option, cast_moment, cast_flag, past}
-use Rattle.hub_store.proofs.Rows.Found.{filter_all}
-use Rattle.hub_store.proofs.Rows.SetKinds.{Kind, parts, part_at, taken_from}
-use Rattle.hub_store.proofs.Rows.OneKind.{kind_alone, is_of}
-use Rattle.hub_store.proofs.Rows.PairSets.{is_pair, is_row, is_other_kind, pair_in, pair_out}
-use Rattle.hub_store.proofs.Rows.PartRows.{Stands}
-use Rattle.hub_store.proofs.Rows.Places.{table_at, org_place, person_place, community_place, grp_place, pair_place, gate_place}
-use Rattle.hub_store.proofs.Rows.Places.{recipient_place, permission_place}
-use Rattle.hub_store.proofs.Rows.Rising.{rising, counted}
-use Rattle.hub_store.proofs.Rows.Texts.{take_pair_is}
 
 -- ---- limits
 

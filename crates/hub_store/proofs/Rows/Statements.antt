@@ -1,37 +1,17 @@
 -- A statement on one table, for any table.
-use Rattle.std.proofs.Common.{◌≡◌, ◌⊎◌, inl, inr, ℕ, ℤ, ◌/◌, List, [], ◌∷◌, ◌++◌, map, filter, flat_map, drop, length, slice_get, Bool, true, false, cond, Some, None, Option, Ok, Err, Result, MatchBool, refl, sym, ap, unwrap_or, nat_le, ◌^◌, subst, subst₂, ◌∙◌}
-use Rattle.std.specs.List.{list_all}
-use Rattle.std.proofs.Math.Path.{fun_ext}
-use Rattle.std.specs.List.Sorted.{IsPermutation, IsSorted}
-use Rattle.std.proofs.lemmas.List.Sorted.{IsPermutation-map}
-use Rattle.std.proofs.lemmas.Bool.{cond-false}
-use Rattle.sqlite_value.specs.declared.value.Value.TheVariants.{Null}
-use Rattle.sqlite_value.specs.declared.keys.Key.{Key}
-use Rattle.sqlite_value.specs.Order.{Row}
-use Rattle.sqlite_trees.specs.Tree.{Trees}
-use Rattle.sqlite_trees.proofs.ListLemmas.{map-map}
-use Rattle.sqlite_sql.specs.Term.{Term, holds, eval, eval_all}
-use Rattle.sqlite_sql.specs.Query.{Query, inner, end, matches, IsAnswer, output, Output, output_cmp, limited, as_count}
-use Rattle.sqlite_sql.specs.Program.{overlay}
-use Rattle.sqlite_schema.specs.declared.command.Source.TheVariants.{Values}
-use Rattle.sqlite_schema.specs.declared.command.Command.{Command}
-use Rattle.sqlite_schema.specs.declared.command.Command.TheVariants.{Insert, Delete, Update}
-use Rattle.sqlite_schema.specs.declared.schema.Table.{Table}
-use Rattle.sqlite_schema.specs.declared.schema.Schema.{Schema}
-use Rattle.sqlite_schema.specs.declared.schema.Keys.TheVariants.{Enforced}
-use Rattle.sqlite_rules.specs.declared.error.Rowids.TheVariants.{Chosen, Above, Given}
-use Rattle.sqlite_rules.specs.Edit.{Edit, taken_by, edit_of, numbered, without_all, Applies}
-use Rattle.sqlite_rules.specs.Action
-use Rattle.sqlite_rules.specs.Action.{works}
-use Rattle.sqlite_rules.specs.Calls.{ids_of}
-use Rattle.sqlite_rules.specs.Cast.{cast_row}
-use Rattle.sqlite.specs.Effect.{Database, IsDatabase, value_rows}
-use Rattle.sqlite.specs.Rows.{Written, stamped, Task, rowids_for, count_of}
-use Rattle.sqlite.specs.Does.{Tally, Does, AtPlace, OnRows, WritesRows}
-use Rattle.sqlite.specs.Listing.{understood}
-use Rattle.sqlite.specs.State.{State, mode_of, Runs, Writes, Executes}
-use Rattle.sqlite.proofs.Callers.{IsPlain, command_of, statement_of, runs_as, one_step}
+use Rattle.std.proofs.Common.{◌≡◌, ◌⊎◌, inl, inr, ℕ, ℤ, ◌/◌, List, [], ◌∷◌, ◌++◌, map, filter, flat_map, drop, length, slice_get, Bool, true, false, cond, Some}
+use Rattle.std.proofs.{Common.{None, Option, Ok, Err, Result, MatchBool, refl, sym, ap, unwrap_or, nat_le, ◌^◌, subst, subst₂, ◌∙◌}, Math.Path.fun_ext}
+use Rattle.std.{proofs.lemmas.{Bool.cond-false, List.Sorted.IsPermutation-map}, specs.List.{list_all, Sorted.{IsPermutation, IsSorted}}}
+use Rattle.{sqlite_value.specs.{Order.Row, declared.{keys.Key.Key, value.Value.TheVariants.Null}}, sqlite_trees.{proofs.ListLemmas.map-map, specs.Tree.Trees}}
+use Rattle.sqlite_sql.specs.{Program.overlay, Query.{Query, inner, end, matches, IsAnswer, output, Output, output_cmp, limited, as_count}, Term.{Term, holds}}
+use Rattle.{sqlite_sql.specs.Term.{eval, eval_all}, sqlite_schema.specs.declared.command.Command.{Command, TheVariants.{Insert, Delete, Update}}}
+use Rattle.sqlite_schema.specs.declared.{command.Source.TheVariants.Values, schema.{Keys.TheVariants.Enforced, Schema.Schema, Table.Table}}
+use Rattle.sqlite_rules.specs.{Action.works, Calls.ids_of, Cast.cast_row, Edit.{Edit, taken_by, edit_of, numbered, without_all, Applies}}
+use Rattle.{sqlite_rules.specs.declared.error.Rowids.TheVariants.{Chosen, Above, Given}, sqlite.proofs.Callers.{IsPlain, command_of, statement_of, runs_as}}
+use Rattle.sqlite.{proofs.Callers.one_step, specs.{Does.{Tally, Does, AtPlace, OnRows, WritesRows}, Effect.{Database, IsDatabase, value_rows}}}
+use Rattle.sqlite.specs.{Listing.understood, Rows.{Written, stamped, Task, rowids_for, count_of}, State.{State, mode_of, Runs, Writes, Executes}}
 use Rattle.hub_store.proofs.Rows.Forms.{one_table, program}
+use Rattle.sqlite_rules.specs.Action
 
 -- the row passes each test
 abbrev pub keeps : List Term → Row → Row → Bool

@@ -1,19 +1,12 @@
 -- What each text means under the schema. A text is written in the function that runs it and once more here, and its
 -- meaning is computed.
-use Rattle.std.proofs.Common.{◌+◌, List, ℕ, [], ◌∷◌, codes, refl}
-use Rattle.sqlite_value.specs.declared.value.Value.TheVariants.{Null}
-use Rattle.sqlite_sql.specs.Term.{Term, lit, col}
-use Rattle.sqlite_schema.specs.declared.command.Source.TheVariants.{Values}
-use Rattle.sqlite_schema.specs.declared.command.Command.TheVariants.{Insert}
-use Rattle.sqlite_tied.specs.Compute.{everything}
-use Rattle.sqlite.specs.Listing.{understood}
-use Rattle.hub_store.specs.Pairs.{put_pair, take_pair}
-use Rattle.hub_store.proofs.Rows.Forms.{Says, Asks, puts_numbered, puts_row, takes_rows, exchanges_rows}
-use Rattle.hub_store.proofs.Rows.Forms.{is_above, by_column, one_table, finds, lists}
-use Rattle.hub_store.proofs.Rows.Places.{community_place, gate_place, grp_place, incident_place, item_place, org_place}
-use Rattle.hub_store.proofs.Rows.Places.{pair_place, permission_place, person_place, recipient_place, community_tree, gate_tree}
-use Rattle.hub_store.proofs.Rows.Places.{grp_tree, incident_tree, item_tree, org_tree, pair_tree, permission_tree, person_tree}
-use Rattle.hub_store.proofs.Rows.Places.{recipient_tree}
+use Rattle.{std.proofs.Common.{◌+◌, List, ℕ, [], ◌∷◌, codes, refl}, sqlite_value.specs.declared.value.Value.TheVariants.Null, sqlite_sql.specs.Term.{Term, lit}}
+use Rattle.{sqlite_sql.specs.Term.col, sqlite_schema.specs.declared.command.{Command.TheVariants.Insert, Source.TheVariants.Values}}
+use Rattle.{sqlite_tied.specs.Compute.everything, sqlite.specs.Listing.understood, hub_store.proofs.Rows.Forms.{Says, Asks, puts_numbered, puts_row}}
+use Rattle.hub_store.proofs.Rows.{Forms.{takes_rows, exchanges_rows, is_above, by_column, one_table, finds, lists}, Places.{community_place, gate_place}}
+use Rattle.hub_store.proofs.Rows.Places.{grp_place, incident_place, item_place, org_place, pair_place, permission_place, person_place, recipient_place}
+use Rattle.hub_store.proofs.Rows.Places.{community_tree, gate_tree, grp_tree, incident_tree, item_tree, org_tree, pair_tree, permission_tree, person_tree}
+use Rattle.hub_store.{proofs.Rows.Places.recipient_tree, specs.Pairs.{put_pair, take_pair}}
 
 -- ---- rows are put
 

@@ -1,15 +1,9 @@
 -- What the texts mean that ask for the highest number.
-use Rattle.std.proofs.Common.{ℕ, pos, [], ◌∷◌, true, codes, refl}
-use Rattle.sqlite_value.specs.declared.value.Value.TheVariants.{Int}
-use Rattle.sqlite_value.specs.declared.keys.Collation.TheVariants.{Binary}
-use Rattle.sqlite_sql.specs.Term.{lit, col, op2}
-use Rattle.sqlite_sql.specs.declared.ops.BinaryOp.TheVariants.{Compare}
-use Rattle.sqlite_sql.specs.declared.ops.CompareOp.TheVariants.{Gt}
-use Rattle.sqlite_sql.specs.Query.{Query}
-use Rattle.sqlite_tied.specs.Compute.{everything}
-use Rattle.sqlite.specs.Listing.{understood}
-use Rattle.hub_store.proofs.Rows.Forms.{Asks, one_table}
-use Rattle.hub_store.proofs.Rows.Places.{community_tree, grp_tree, incident_tree, org_tree, person_tree}
+use Rattle.{std.proofs.Common.{ℕ, pos, [], ◌∷◌, true, codes, refl}, sqlite_value.specs.declared.keys.Collation.TheVariants.Binary}
+use Rattle.{sqlite_value.specs.declared.value.Value.TheVariants.Int, sqlite_sql.specs.{Query.Query, Term.{lit, col, op2}}}
+use Rattle.{sqlite_sql.specs.declared.ops.{BinaryOp.TheVariants.Compare, CompareOp.TheVariants.Gt}, sqlite_tied.specs.Compute.everything}
+use Rattle.{sqlite.specs.Listing.understood, hub_store.proofs.Rows.{Forms.{Asks, one_table}, Places.{community_tree, grp_tree, incident_tree, org_tree}}}
+use Rattle.hub_store.proofs.Rows.Places.{person_tree}
 
 -- the first of the numbers above 0, from the highest down
 abbrev pub highest_query : ℕ → Query

@@ -1,9 +1,7 @@
 -- What the texts that read whole tables mean under the schema.
-use Rattle.std.proofs.Common.{[], ◌∷◌, codes, refl}
-use Rattle.sqlite_tied.specs.Compute.{everything}
-use Rattle.sqlite.specs.Listing.{understood}
-use Rattle.hub_store.proofs.Rows.Forms.{Asks, lists}
-use Rattle.hub_store.proofs.Rows.Places.{community_tree, gate_tree, grp_tree, incident_tree, org_tree, pair_tree, permission_tree, person_tree, recipient_tree}
+use Rattle.{std.proofs.Common.{[], ◌∷◌, codes, refl}, sqlite_tied.specs.Compute.everything, sqlite.specs.Listing.understood, hub_store.proofs.Rows.Forms.Asks}
+use Rattle.hub_store.proofs.Rows.{Forms.lists, Places.{community_tree, gate_tree, grp_tree, incident_tree, org_tree, pair_tree, permission_tree, person_tree}}
+use Rattle.hub_store.proofs.Rows.Places.{recipient_tree}
 
 pub all_orgs_is : Asks (codes "SELECT number, name FROM org ORDER BY number") (lists (0 ∷ []) org_tree [] (0 ∷ 2 ∷ []))
 unfolding understood everything

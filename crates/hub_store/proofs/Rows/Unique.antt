@@ -1,42 +1,18 @@
 -- The tables stand for one state.
-use Rattle.std.proofs.Common.{◌≡◌, inl, inr, ℕ, suc, ◌+◌, ◌<◌, List, [], ◌∷◌, map, filter, drop, find, cond, ◌==◌, pos, Bool, eq-eqb}
-use Rattle.std.proofs.Common.{true, false, Option, Some, Ok, Result, refl, sym, ap, ap₂, subst₂, ◌∙◌, arith}
-use Rattle.std.specs.List.Sorted.{IsPermutation}
-use Rattle.std.specs.declared.cmp.Ordering.{Ordering}
-use Rattle.std.specs.Cmp.{IsTotalOrder}
-use Rattle.std.proofs.lemmas.Bool.Decides.{nat_tests}
-use Rattle.std.proofs.lemmas.Cmp.{nat_cmp_total}
-use Rattle.std.proofs.lemmas.List.Sorted.{IsPermutation-trans, IsPermutation-sym}
-use Rattle.sqlite_value.specs.declared.value.Value.TheVariants.{Int}
-use Rattle.sqlite_value.specs.Order.{Row}
-use Rattle.sqlite_trees.specs.Tree.{Trees}
-use Rattle.sqlite_trees.proofs.ListLemmas.{map-map, IsPermutation-filter}
-use Rattle.sqlite_rules.specs.Lists.{Has}
-use Rattle.iodef_tree.specs.declared.fault.ReadFault.{ReadFault}
-use Rattle.policy.specs.declared.permission.Grantee.{Grantee}
-use Rattle.circle.specs.Sound.{CountsFrom}
-use Rattle.hub_state.specs.Documents.{Lines}
-use Rattle.hub_state.specs.Sound.{IsSound}
+use Rattle.std.proofs.Common.{◌≡◌, inl, inr, ℕ, suc, ◌+◌, ◌<◌, List, [], ◌∷◌, map, filter, drop, find, cond, ◌==◌, pos, Bool, eq-eqb, false, Option, Some, Ok}
+use Rattle.std.proofs.{Common.{Result, refl, sym, ap, ap₂, subst₂, ◌∙◌, arith}, lemmas.{Bool.Decides.nat_tests, Cmp.nat_cmp_total}}
+use Rattle.std.{proofs.lemmas.List.Sorted.{IsPermutation-trans, IsPermutation-sym}, specs.{Cmp.IsTotalOrder, List.Sorted.IsPermutation}}
+use Rattle.{std.specs.declared.cmp.Ordering.Ordering, sqlite_value.specs.{Order.Row, declared.value.Value.TheVariants.Int}}
+use Rattle.{sqlite_trees.{proofs.ListLemmas.{map-map, IsPermutation-filter}, specs.Tree.Trees}, sqlite_rules.specs.Lists.Has}
+use Rattle.{iodef_tree.specs.declared.fault.ReadFault.ReadFault, policy.specs.declared.permission.Grantee.Grantee, circle.specs.Sound.CountsFrom}
+use Rattle.hub_state.specs.{Documents.Lines, Sound.IsSound, State.{incident_number, incident_of, grantee_key}, declared.state.Incident.Incident}
+use Rattle.{hub_state.specs.declared.state.Naming.Naming, hub_store.proofs.Rows.Backs.{grantee_of, grantee_back, is_set, flag_back, option_in, option_back}}
+use Rattle.hub_store.proofs.Rows.{Compare.{begins, and-true, equal_numbers}, Found.filter_rows, Items.{its_items, its_places_rise, items_at, one_kind}}
+use Rattle.hub_store.proofs.Rows.{Lists.{Rises, same_rising, has_permuted}, Places.{incident_place, incident_tree, item_place, item_tree, held_of}}
+use Rattle.hub_store.proofs.Rows.{Rising.counted, SetKinds.{Kind, held_in}, Sets.{orgs, persons, communities, groups, gates, recipients, permissions, in_pairs}}
+use Rattle.hub_store.{proofs.Rows.Sets.{clients, memberships, connections, group_members, arrangements}, specs.{Fit.IsFit, Holdings.IsHeld, Items.Item}}
+use Rattle.hub_store.specs.{Items.{items_from, items_of, item_row, kind_number}, Means.Means, Rows.naming_row, Values.{number_or_null, flag}}
 use Rattle.hub_state.specs.State as core
-use Rattle.hub_state.specs.State.{incident_number, incident_of, grantee_key}
-use Rattle.hub_state.specs.declared.state.Incident.{Incident}
-use Rattle.hub_state.specs.declared.state.Naming.{Naming}
-use Rattle.hub_store.specs.Values.{number_or_null, flag}
-use Rattle.hub_store.specs.Holdings.{IsHeld}
-use Rattle.hub_store.specs.Rows.{naming_row}
-use Rattle.hub_store.specs.Fit.{IsFit}
-use Rattle.hub_store.specs.Items.{Item, items_from, items_of, item_row, kind_number}
-use Rattle.hub_store.specs.Means.{Means}
-use Rattle.hub_store.proofs.Rows.Backs.{grantee_of, grantee_back, is_set, flag_back, option_in, option_back}
-use Rattle.hub_store.proofs.Rows.Compare.{begins, and-true, equal_numbers}
-use Rattle.hub_store.proofs.Rows.Items.{its_items, its_places_rise, items_at, one_kind}
-use Rattle.hub_store.proofs.Rows.Rising.{counted}
-use Rattle.hub_store.proofs.Rows.Found.{filter_rows}
-use Rattle.hub_store.proofs.Rows.SetKinds.{Kind, held_in}
-use Rattle.hub_store.proofs.Rows.Lists.{Rises, same_rising, has_permuted}
-use Rattle.hub_store.proofs.Rows.Places.{incident_place, incident_tree, item_place, item_tree, held_of}
-use Rattle.hub_store.proofs.Rows.Sets.{orgs, persons, communities, groups, gates, recipients, permissions, in_pairs, clients}
-use Rattle.hub_store.proofs.Rows.Sets.{memberships, connections, group_members, arrangements}
 
 -- ---- members by their rows
 

@@ -1,19 +1,9 @@
 -- What a crash leaves.
-use Rattle.std.proofs.Common.{◌≡◌, ◌⊎◌, inl, inr, IsTrue, Option, Some, None, sym, ap, subst}
-use Rattle.std.specs.Prelude.{◌↔◌, IfSome}
-use Rattle.sqlite_trees.specs.Tree.{Trees}
-use Rattle.sqlite_trees.specs.Objects.{catalog_tree}
-use Rattle.sqlite_catalog.specs.Listing.{Lists}
-use Rattle.sqlite_catalog.proofs.ReadLemmas.{lists_once}
-use Rattle.sqlite.specs.Effect.{Database}
-use Rattle.sqlite.specs.State.{State, HasCleanDisk, Survives}
+use Rattle.std.{proofs.Common.{◌≡◌, ◌⊎◌, inl, inr, IsTrue, Option, Some, None, sym, ap, subst}, specs.Prelude.{◌↔◌, IfSome}}
+use Rattle.{sqlite_trees.specs.{Objects.catalog_tree, Tree.Trees}, sqlite_catalog.{proofs.ReadLemmas.lists_once, specs.Listing.Lists}}
+use Rattle.{sqlite.specs.{Effect.Database, State.{State, HasCleanDisk, Survives}}, hub_state.specs.Sound.IsSound, hub_store.proofs.Rows.Unique.same_means}
+use Rattle.hub_store.specs.{Content.{Has, CommitsState, StandFor, IsMeaning, MayLeave}, Laws.FindsTrees, Means.{Means, Holds, TreesHold}, Tables.hub_schema}
 use Rattle.hub_state.specs.State as core
-use Rattle.hub_state.specs.Sound.{IsSound}
-use Rattle.hub_store.specs.Content.{Has, CommitsState, StandFor, IsMeaning, MayLeave}
-use Rattle.hub_store.specs.Laws.{FindsTrees}
-use Rattle.hub_store.specs.Means.{Means, Holds, TreesHold}
-use Rattle.hub_store.specs.Tables.{hub_schema}
-use Rattle.hub_store.proofs.Rows.Unique.{same_means}
 
 -- the trees hold what the database does
 pub trees_hold : (db : Database) (s : core.State) → Holds db s → TreesHold db.trees s

@@ -1,13 +1,7 @@
 -- What an opening returns, by what the query for the version left.
-use Rattle.std.proofs.Common.{◌≡◌, ℕ, Some}
-use Rattle.sqlite.specs.State.{State, HasCleanDisk, Survives}
-use Rattle.hub_store.specs.declared.sql_shelf.OpenFault.{OpenFault}
-use Rattle.hub_store.specs.declared.sql_shelf.OpenFault.TheVariants.{Failed}
-use Rattle.hub_store.specs.Failing.{HasReason}
-use Rattle.hub_store.specs.Keeps.{KeepsCommitted}
-use Rattle.hub_store.specs.Opening.{newest, IsOpenFault, IsOpened, IsRefused}
-use Rattle.hub_store.specs.Versions.{version_of}
-use Rattle.hub_store.proofs.Edits.Runs.{kept_has}
+use Rattle.{std.proofs.Common.{◌≡◌, ℕ, Some}, sqlite.specs.State.{State, HasCleanDisk, Survives}, hub_store.proofs.Edits.Runs.kept_has}
+use Rattle.hub_store.specs.{Failing.HasReason, Keeps.KeepsCommitted, Opening.{newest, IsOpenFault, IsOpened, IsRefused}, Versions.version_of}
+use Rattle.hub_store.specs.declared.sql_shelf.OpenFault.{OpenFault, TheVariants.Failed}
 
 module _ (old new : State) (survives : Survives old new (λ _. ⊥)) (kept : HasCleanDisk new → KeepsCommitted old new) where
   pub is_opened : (failures : ℕ) → (HasCleanDisk new → version_of old.now ≡ Some newest) → failures ≡ 0 → IsOpened old new failures

@@ -1,17 +1,10 @@
 -- What the shelf promises, by what the connection did.
-use Rattle.std.proofs.Common.{◌≡◌, ℕ, inl, inr, Option, Result, Ok, Err, IfOk, OnOk, OnErr, sym, subst}
+use Rattle.{std.proofs.Common.{◌≡◌, ℕ, inl, inr, Option, Result, Ok, Err, IfOk, OnOk, OnErr, sym, subst}, sqlite_trees.specs.View.doubt, sqlite.specs.Held.Held}
+use Rattle.{sqlite.specs.{Held.state, State.{State, HasCleanDisk, Survives}, declared.error.Error.Error}, hub_state.specs.Shelves.{HasCause, Reads}}
+use Rattle.{hub_state.specs.declared.shelf.ShelfFault.ShelfFault, hub_store.{proofs.Edits.Runs.{knows, kept_has}, specs.Content.{Has, MayLeave}}}
+use Rattle.hub_store.specs.{Shelved.Shelved, inner.Queries.IsReadOutside}
 use Rattle.sqlite_trees.specs.declared.store.Store as store
-use Rattle.sqlite_trees.specs.View.{doubt}
-use Rattle.sqlite.specs.declared.error.Error.{Error}
-use Rattle.sqlite.specs.Held.{Held, state}
-use Rattle.sqlite.specs.State.{State, HasCleanDisk, Survives}
 use Rattle.hub_state.specs.State as core
-use Rattle.hub_state.specs.Shelves.{HasCause, Reads}
-use Rattle.hub_state.specs.declared.shelf.ShelfFault.{ShelfFault}
-use Rattle.hub_store.specs.inner.Queries.{IsReadOutside}
-use Rattle.hub_store.specs.Content.{Has, MayLeave}
-use Rattle.hub_store.specs.Shelved.{Shelved}
-use Rattle.hub_store.proofs.Edits.Runs.{knows, kept_has}
 
 -- what commits nothing leaves a crash what it left before
 leaves_no_more : (old new : State) (left : Option core.State) → Survives old new (λ _. ⊥) → HasCleanDisk new → MayLeave new left → MayLeave old left

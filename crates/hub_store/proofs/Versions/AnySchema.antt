@@ -1,33 +1,15 @@
 -- What the text that asks for the version is compiled to, under any schema that has the table and its column.
 use Rattle.std.proofs.Common.{◌≡◌, ℕ, pos, List, [], ◌∷◌, length, Bool, true, false, cond, slice_get, Option, Some, None, Ok, Err, codes, refl, sym, ap, subst}
-use Rattle.sqlite_value.specs.declared.value.Value.TheVariants.{Int}
-use Rattle.sqlite_value.specs.declared.keys.Collation.{Collation}
-use Rattle.sqlite_sql.specs.Term.{Term, lit, col}
-use Rattle.sqlite_sql.specs.Query.{Query, inner, end}
-use Rattle.sqlite_schema.specs.declared.program.Table.{Table as Let}
-use Rattle.sqlite_schema.specs.declared.program.Program.{Program}
-use Rattle.sqlite_schema.specs.declared.schema.Column.{Column}
-use Rattle.sqlite_schema.specs.declared.schema.Table.{Table}
-use Rattle.sqlite_schema.specs.declared.schema.Schema.{Schema}
-use Rattle.sqlite_schema.specs.declared.command.Command.{Command}
-use Rattle.sqlite_schema.specs.declared.command.Command.TheVariants.{Select}
-use Rattle.sqlite_schema.specs.declared.command.Returning.{Returning}
-use Rattle.sqlite_schema.specs.Names.{table_named, column_named, place_of}
-use Rattle.sqlite_ast.specs.declared.Core.{Core}
+use Rattle.{sqlite_value.specs.declared.{keys.Collation.Collation, value.Value.TheVariants.Int}, sqlite_sql.specs.{Query.{Query, inner, end}, Term.{Term, lit}}}
+use Rattle.{sqlite_sql.specs.Term.col, sqlite_schema.specs.{Names.{table_named, column_named, place_of}, declared.command.Command.Command}}
+use Rattle.sqlite_schema.specs.declared.{command.{Command.TheVariants.Select, Returning.Returning}, program.{Program.Program, Table.Table as Let}}
+use Rattle.{sqlite_schema.specs.declared.schema.{Column.Column, Schema.Schema, Table.Table}, sqlite_ast.specs.declared.Core.Core}
+use Rattle.sqlite_resolve.specs.{Compile.{compiled, first}, Lowering.{Checked, and_then}, Program.{Shown, query_to, viewing, or_view, program as as_typed}}
+use Rattle.sqlite_resolve.specs.{Scope.declared, Select.named, declared.{compiled.Compiled.Compiled, error.CompileError.CompileError}}
+use Rattle.{sqlite_typing.specs.Types.accepts_program, sqlite_tied.specs.Compute.everything, hub_store.proofs.Rows.Forms.{one_table, program}}
+use Rattle.hub_store.{proofs.Rows.Statements.same_ok, specs.Versions.version_text}
 use Rattle.sqlite_ast.specs.declared.Select as written
 use Rattle.sqlite_ast.specs.declared.Statement.TheVariants as statement
-use Rattle.sqlite_resolve.specs.declared.compiled.Compiled.{Compiled}
-use Rattle.sqlite_resolve.specs.declared.error.CompileError.{CompileError}
-use Rattle.sqlite_resolve.specs.Lowering.{Checked, and_then}
-use Rattle.sqlite_resolve.specs.Scope.{declared}
-use Rattle.sqlite_resolve.specs.Select.{named}
-use Rattle.sqlite_resolve.specs.Program.{Shown, query_to, viewing, or_view, program as as_typed}
-use Rattle.sqlite_resolve.specs.Compile.{compiled, first}
-use Rattle.sqlite_typing.specs.Types.{accepts_program}
-use Rattle.sqlite_tied.specs.Compute.{everything}
-use Rattle.hub_store.specs.Versions.{version_text}
-use Rattle.hub_store.proofs.Rows.Forms.{one_table, program}
-use Rattle.hub_store.proofs.Rows.Statements.{same_ok}
 
 -- a SELECT has no RETURNING, and reads no clock if it names none
 pub bare_one : (names formats : List (List ℕ)) (start stop tail : ℕ) (x : Checked Command) (c : Compiled)

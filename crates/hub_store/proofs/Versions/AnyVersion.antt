@@ -1,28 +1,15 @@
 -- The query for the version, under any schema.
-use Rattle.std.proofs.Common.{◌≡◌, ◌≢◌, ◌≤◌, ◌⊎◌, inl, inr, ℕ, List, [], length, map, append-nil, Bool, true, false, cond, IsSome, is_some, Option, Some, None, Ok, Err, Result, IfOk, IfErr, IfSome, refl, sym, ap, subst, ◌∙◌, arith}
-use Rattle.std.proofs.lemmas.Result.{IfOk-weaker}
-use Rattle.sqlite_value.specs.Order.{Row, column}
-use Rattle.sqlite_schema.specs.declared.command.Command.{Command}
-use Rattle.sqlite_schema.specs.declared.schema.Schema.{Schema}
-use Rattle.sqlite_resolve.specs.declared.compiled.Compiled.{Compiled}
-use Rattle.sqlite_resolve.specs.declared.error.CompileError.{CompileError}
-use Rattle.sqlite_resolve.specs.declared.error.CompileError.TheVariants.{NoSuchTable}
-use Rattle.sqlite_resolve.specs.Compile.{compiled}
-use Rattle.sqlite_tied.specs.Compute.{everything}
-use Rattle.sqlite.specs.declared.error.Error.{Error}
-use Rattle.sqlite.specs.declared.error.Error.TheVariants.{SqliteFailure}
+use Rattle.std.proofs.Common.{◌≡◌, ◌≢◌, ◌≤◌, ◌⊎◌, inl, inr, ℕ, List, [], length, map, append-nil, Bool, true, false, cond, IsSome, is_some, Option, Some, None}
+use Rattle.std.proofs.{Common.{Ok, Err, Result, IfOk, IfErr, IfSome, refl, sym, ap, subst, ◌∙◌, arith}, lemmas.Result.IfOk-weaker}
+use Rattle.{sqlite_value.specs.Order.{Row, column}, sqlite_schema.specs.declared.{command.Command.Command, schema.Schema.Schema}}
+use Rattle.sqlite_resolve.specs.{Compile.compiled, declared.{compiled.Compiled.Compiled, error.CompileError.{CompileError, TheVariants.NoSuchTable}}}
+use Rattle.{sqlite_tied.specs.Compute.everything, sqlite.specs.{Clock.timed, Effect.{Database, Reads, RefusesToRead}, Listing.{understood, reads_listing}}}
+use Rattle.sqlite.specs.{Listing.{listing_schema, if_select, IsSourceOf}, State.{State, Shown, IsStatement, IsNoStatement, IsNotRun, FailsToQuery, FailsToShow}}
+use Rattle.sqlite.specs.{State.{IsTooLate, IsUnchanged, IsLive}, declared.error.Error.{Error, TheVariants.SqliteFailure}}
+use Rattle.hub_store.proofs.{Rows.Outcomes.plain_shown, Versions.{AnySchema.bare_anywhere, Causes.{failed_only, reason_before}, Readable.read_there}}
+use Rattle.hub_store.{proofs.Versions.{Readable.never_refused, VersionRows.version_told}, specs.{Failing.HasReason, Versions.{version_column, version_text}}}
+use Rattle.hub_store.specs.Versions.{only_u32, version_of}
 use Rattle.sqlite.specs.declared.error.ErrorCode.TheVariants as code
-use Rattle.sqlite.specs.Clock.{timed}
-use Rattle.sqlite.specs.Effect.{Database, Reads, RefusesToRead}
-use Rattle.sqlite.specs.Listing.{understood, reads_listing, listing_schema, if_select, IsSourceOf}
-use Rattle.sqlite.specs.State.{State, Shown, IsStatement, IsNoStatement, IsNotRun, FailsToQuery, FailsToShow, IsTooLate, IsUnchanged, IsLive}
-use Rattle.hub_store.specs.Versions.{version_column, version_text, only_u32, version_of}
-use Rattle.hub_store.specs.Failing.{HasReason}
-use Rattle.hub_store.proofs.Versions.AnySchema.{bare_anywhere}
-use Rattle.hub_store.proofs.Versions.Causes.{failed_only, reason_before}
-use Rattle.hub_store.proofs.Rows.Outcomes.{plain_shown}
-use Rattle.hub_store.proofs.Versions.Readable.{read_there, never_refused}
-use Rattle.hub_store.proofs.Versions.VersionRows.{version_told}
 
 -- the listing has no such table
 listing_lacks : if_select (compiled listing_schema version_text) ≡ Err NoSuchTable

@@ -1,20 +1,10 @@
 -- The tables beside one that is written: what is asked of them holds as before, whatever they are.
-use Rattle.std.proofs.Common.{◌≡◌, ◌+◌, ℕ, List, [], ◌∷◌, ◌++◌, map, flat_map, length, Option, Bool, true, false, cond, not, ◌&&◌, ◌||◌, ◌==◌, eqb-true, refl, ap, ◌∙◌, arith}
-use Rattle.std.specs.List.{AllByRecursion, list_all, filter_map}
-use Rattle.std.proofs.lemmas.Bool.{and_parts, and_from}
-use Rattle.sqlite_value.specs.Order.{Row}
-use Rattle.sqlite_trees.specs.Tree.{Trees, with_tree}
-use Rattle.sqlite_schema.specs.declared.schema.Among.{Among}
-use Rattle.sqlite_schema.specs.declared.schema.Constraint.TheVariants.{Unique}
-use Rattle.sqlite_schema.specs.declared.schema.Index.{Index}
-use Rattle.sqlite_schema.specs.declared.schema.Keys.{Keys}
-use Rattle.sqlite_schema.specs.declared.schema.Reference.{Reference}
-use Rattle.sqlite_schema.specs.declared.schema.Table.{Table}
-use Rattle.sqlite_schema.specs.declared.schema.Schema.{Schema}
-use Rattle.sqlite_schema.specs.Rules.{Keeps, passes, guards, clashes, has_parent, is_among, is_key_if_to}
-use Rattle.sqlite_rules.specs.Action.{Work, works, work_for}
-use Rattle.sqlite_catalog.specs.Change.{automatics}
-use Rattle.hub_store.specs.Parts.{Part, indexes_of, are_beside}
+use Rattle.std.proofs.Common.{◌≡◌, ◌+◌, ℕ, List, [], ◌∷◌, ◌++◌, map, flat_map, length, Option, Bool, true, false, cond, not, ◌&&◌, ◌||◌, ◌==◌, eqb-true, refl}
+use Rattle.std.{proofs.{Common.{ap, ◌∙◌, arith}, lemmas.Bool.{and_parts, and_from}}, specs.List.{AllByRecursion, list_all, filter_map}}
+use Rattle.{sqlite_value.specs.Order.Row, sqlite_trees.specs.Tree.{Trees, with_tree}, sqlite_schema.specs.Rules.{Keeps, passes, guards, clashes, has_parent}}
+use Rattle.sqlite_schema.specs.{Rules.{is_among, is_key_if_to}, declared.schema.{Among.Among, Constraint.TheVariants.Unique, Index.Index, Keys.Keys}}
+use Rattle.{sqlite_schema.specs.declared.schema.{Reference.Reference, Schema.Schema, Table.Table}, sqlite_rules.specs.Action.{Work, works, work_for}}
+use Rattle.{sqlite_catalog.specs.Change.automatics, hub_store.specs.Parts.{Part, indexes_of, are_beside}}
 
 abbrev pub Unreferred : List Table → Type 0
 Unreferred ts = AllByRecursion (λ (t : Table). t.references ≡ []) ts

@@ -1,45 +1,21 @@
 -- Why a statement that SQL understands fails.
-use Rattle.std.proofs.Common.{◌≡◌, ◌≢◌, ◌⊎◌, inl, inr, ℕ, ◌+◌, ◌*◌, ◌^◌, ◌≤◌, ◌==◌, List, [], ◌∷◌, length, append-nil, codes, Bool, true, false, not, ◌||◌, IsTrue, IsSome, is_some, IsUtf8, nat_lt, nat_le, Option, Some, None, Ok, Err, Result, refl, sym, ap, subst, subst₂, ◌∙◌, arith}
-use Rattle.std.specs.List.{AllByRecursion, list_all}
-use Rattle.std.proofs.lemmas.Bool.{and_parts, not-true, ltb-true, leb-true, true≢false}
-use Rattle.sqlite_value.specs.declared.value.Value.TheVariants.{Text}
-use Rattle.sqlite_value.specs.Order.{Row, value_cmp}
-use Rattle.sqlite_trees.specs.declared.error.StoreError.{StoreError}
-use Rattle.sqlite_trees.specs.declared.error.StoreError.TheVariants.{OutOfMemory, Io, Corrupt, Full, Broken, Unstorable}
-use Rattle.sqlite_trees.specs.Sound.{fits_kind, is_free_name, begins, same_name}
-use Rattle.sqlite_trees.specs.Tree.{Trees}
-use Rattle.sqlite_schema.specs.declared.command.Command.{Command}
-use Rattle.sqlite_schema.specs.declared.command.Command.TheVariants.{Select, Rows, CreateTable}
-use Rattle.sqlite_schema.specs.declared.schema.Index.{Index}
-use Rattle.sqlite_schema.specs.declared.schema.Table.{Table}
-use Rattle.sqlite_schema.specs.declared.schema.Schema.{Schema}
-use Rattle.sqlite_schema.specs.Rules.{table_reals, index_reals}
-use Rattle.sqlite_rules.specs.Lists.{Has}
-use Rattle.sqlite_rules.proofs.ListLemmas.{test_has}
-use Rattle.sqlite_resolve.specs.declared.compiled.Compiled.{Compiled}
-use Rattle.sqlite_resolve.specs.declared.error.CompileError.{CompileError}
-use Rattle.sqlite_resolve.specs.Compile.{table_defined_by}
-use Rattle.sqlite_catalog.specs.declared.error.Refusal.{Refusal}
-use Rattle.sqlite_catalog.specs.declared.error.Refusal.TheVariants.{Invalid, NameTaken, BadName, TooBig, BadKey, BadText, Violates}
-use Rattle.sqlite_catalog.specs.Calls.{RefusesTable, IsBadName}
-use Rattle.sqlite_catalog.specs.Change.{created, next_tree, is_used, is_reserved, automatics}
-use Rattle.sqlite_catalog.specs.Listing.{is_fit, is_formed}
-use Rattle.sqlite.specs.declared.error.Error.{Error}
-use Rattle.sqlite.specs.declared.error.Error.TheVariants.{SqliteFailure}
-use Rattle.sqlite.specs.declared.error.ErrorCode.TheVariants as code
-use Rattle.sqlite.specs.declared.run.Mode.{Mode}
-use Rattle.sqlite.specs.Calls.{IsWrite}
-use Rattle.sqlite.specs.Clock.{timed}
-use Rattle.sqlite.specs.Effect.{Database}
-use Rattle.sqlite.specs.Rows.{Part, Then, Gives}
-use Rattle.sqlite.specs.Does.{Does, MakesTable, MakesSequence, lacks_sequence}
-use Rattle.sqlite.specs.Listing.{understood}
-use Rattle.sqlite.specs.Steps.{FailsToCommit}
-use Rattle.sqlite.specs.State.{State, Fails, HasCause, IsNoStatement, IsNotRun, IsStatement, IsMisplaced, Escapes, EndsScope, RunsCommand, ExecutesIn, ExecutesInside, mode_of, shows_rows, is_pragma, store_error, text_of, Survives}
-use Rattle.sqlite.specs.Effect.{is_query}
-use Rattle.sqlite.proofs.Callers.{IsPlain, command_of, statement_of}
+use Rattle.std.proofs.Common.{◌≡◌, ◌≢◌, ◌⊎◌, inl, inr, ℕ, ◌+◌, ◌*◌, ◌^◌, ◌≤◌, ◌==◌, List, [], ◌∷◌, length, append-nil, codes, Bool, true, false, not, ◌||◌}
+use Rattle.std.proofs.Common.{IsTrue, IsSome, is_some, IsUtf8, nat_lt, nat_le, Option, Some, None, Ok, Err, Result, refl, sym, ap, subst, subst₂, ◌∙◌, arith}
+use Rattle.{std.{proofs.lemmas.Bool.{and_parts, not-true, ltb-true, leb-true, true≢false}, specs.List.{AllByRecursion, list_all}}, sqlite_value.specs.Order.Row}
+use Rattle.{sqlite_value.specs.{Order.value_cmp, declared.value.Value.TheVariants.Text}, sqlite_trees.specs.Sound.{fits_kind, is_free_name, begins, same_name}}
+use Rattle.sqlite_trees.specs.{Tree.Trees, declared.error.StoreError.{StoreError, TheVariants.{OutOfMemory, Io, Corrupt, Full, Broken, Unstorable}}}
+use Rattle.sqlite_schema.specs.{Rules.{table_reals, index_reals}, declared.command.Command.{Command, TheVariants.{Select, Rows, CreateTable}}}
+use Rattle.{sqlite_schema.specs.declared.schema.{Index.Index, Schema.Schema, Table.Table}, sqlite_rules.{proofs.ListLemmas.test_has, specs.Lists.Has}}
+use Rattle.sqlite_resolve.specs.{Compile.table_defined_by, declared.{compiled.Compiled.Compiled, error.CompileError.CompileError}}
+use Rattle.sqlite_catalog.specs.{Calls.{RefusesTable, IsBadName}, Change.{created, next_tree, is_used, is_reserved, automatics}, Listing.{is_fit, is_formed}}
+use Rattle.sqlite_catalog.specs.declared.error.Refusal.{Refusal, TheVariants.{Invalid, NameTaken, BadName, TooBig, BadKey, BadText, Violates}}
+use Rattle.sqlite.{proofs.Callers.{IsPlain, command_of, statement_of}, specs.{Calls.IsWrite, Clock.timed, Does.{Does, MakesTable, MakesSequence}}}
+use Rattle.sqlite.specs.{Does.lacks_sequence, Effect.{Database, is_query}, Listing.understood, Rows.{Part, Then, Gives}, State.{State, Fails, HasCause}}
+use Rattle.sqlite.specs.State.{IsNoStatement, IsNotRun, IsStatement, IsMisplaced, Escapes, EndsScope, RunsCommand, ExecutesIn, ExecutesInside, mode_of}
+use Rattle.sqlite.specs.{State.{shows_rows, is_pragma, store_error, text_of, Survives}, Steps.FailsToCommit, declared.error.Error.Error}
+use Rattle.{sqlite.specs.declared.{error.Error.TheVariants.SqliteFailure, run.Mode.Mode}, hub_store.proofs.Rows.Statements.{same_ok, other_one}}
 use Rattle.hub_store.specs.Failing.{HasReason}
-use Rattle.hub_store.proofs.Rows.Statements.{same_ok, other_one}
+use Rattle.sqlite.specs.declared.error.ErrorCode.TheVariants as code
 
 -- ---- the store
 

@@ -1,26 +1,14 @@
 -- The statements that make the tables.
 use Rattle.std.proofs.Common.{◌≡◌, ℕ, List, [], ◌∷◌, ◌++◌, false, Result, OnOk, IfErr, Ok, IsTrue, None, codes, refl, sym, ap, subst, ◌∙◌}
-use Rattle.std.specs.List.{AllByRecursion}
+use Rattle.{std.specs.List.AllByRecursion, sqlite_trees.specs.Tree.Trees, sqlite_schema.specs.declared.command.Command.TheVariants.CreateTable}
+use Rattle.{sqlite_schema.specs.declared.schema.{Schema.Schema, Table.Table}, sqlite_catalog.specs.Change.{created, next_tree, KeepsRows}}
+use Rattle.{sqlite_tied.specs.Compute.everything, sqlite.{proofs.Callers.runs_as, specs.{Does.{Tally, lacks_sequence}, Effect.{Database, IsDatabase}}}}
+use Rattle.sqlite.specs.{Held.{Held, state}, Listing.understood, State.{State, HasCleanDisk, Writes, Executes}, declared.error.Error.Error}
+use Rattle.hub_store.proofs.{Edits.Steps.created_by, Rows.Statements.{same_ok, went}, Versions.Causes.{IsCreation, naming, plain_of, fails_for_reason}}
+use Rattle.hub_store.specs.{Keeps.{Goes, HasRun, HasFailed}, Tables.{no_schema, up_to_hub, up_to_org, up_to_person, up_to_community, up_to_grp, up_to_pair}}
+use Rattle.hub_store.specs.Tables.{up_to_gate, up_to_recipient, up_to_permission, hub_table, org_table, person_table, community_table, grp_table, pair_table}
+use Rattle.hub_store.specs.{Tables.{gate_table, recipient_table, permission_table, incident_table}, inner.Makes.{HasEmpty, Creates}}
 use Rattle.sqlite_trees.specs.declared.store.Store as store
-use Rattle.sqlite_trees.specs.Tree.{Trees}
-use Rattle.sqlite_schema.specs.declared.command.Command.TheVariants.{CreateTable}
-use Rattle.sqlite_schema.specs.declared.schema.Table.{Table}
-use Rattle.sqlite_schema.specs.declared.schema.Schema.{Schema}
-use Rattle.sqlite_catalog.specs.Change.{created, next_tree, KeepsRows}
-use Rattle.sqlite_tied.specs.Compute.{everything}
-use Rattle.sqlite.specs.declared.error.Error.{Error}
-use Rattle.sqlite.specs.Effect.{Database, IsDatabase}
-use Rattle.sqlite.specs.Does.{Tally, lacks_sequence}
-use Rattle.sqlite.specs.Held.{Held, state}
-use Rattle.sqlite.specs.Listing.{understood}
-use Rattle.sqlite.specs.State.{State, HasCleanDisk, Writes, Executes}
-use Rattle.sqlite.proofs.Callers.{runs_as}
-use Rattle.hub_store.specs.Tables.{no_schema, up_to_hub, up_to_org, up_to_person, up_to_community, up_to_grp, up_to_pair, up_to_gate, up_to_recipient, up_to_permission, hub_table, org_table, person_table, community_table, grp_table, pair_table, gate_table, recipient_table, permission_table, incident_table}
-use Rattle.hub_store.specs.Keeps.{Goes, HasRun, HasFailed}
-use Rattle.hub_store.specs.inner.Makes.{HasEmpty, Creates}
-use Rattle.hub_store.proofs.Versions.Causes.{IsCreation, naming, plain_of, fails_for_reason}
-use Rattle.hub_store.proofs.Rows.Statements.{same_ok, went}
-use Rattle.hub_store.proofs.Edits.Steps.{created_by}
 
 -- a table is added without a row
 pub record Made (schema : Schema) (table : Table) (old new : Database) : Type 0 where

@@ -1,33 +1,16 @@
 -- A DROP of a table to which no other refers fails only for a reason.
-use Rattle.std.proofs.Common.{◌≡◌, ◌≢◌, ℕ, List, [], ◌∷◌, Bool, false, not, ◌==◌, if◌then◌else◌, None, Some, Option, Result, Err, OnOk, IfErr, IsTrue, slice_get, inl, inr, subst, ◌∙◌, true}
-use Rattle.std.specs.List.{AllByRecursion}
-use Rattle.sqlite_trees.specs.declared.store.Store as store
-use Rattle.sqlite_trees.specs.Tree.{Trees}
-use Rattle.sqlite_trees.proofs.ListLemmas.{all-filter}
-use Rattle.sqlite_schema.specs.declared.command.Command.TheVariants.{DropTable}
-use Rattle.sqlite_schema.specs.declared.schema.Among.TheVariants.{All}
-use Rattle.sqlite_schema.specs.declared.schema.Keys.TheVariants.{Enforced}
-use Rattle.sqlite_schema.specs.declared.schema.Table.{Table}
-use Rattle.sqlite_schema.specs.declared.schema.Schema.{Schema}
-use Rattle.sqlite_catalog.specs.Change.{without_table, KeepsRows}
-use Rattle.sqlite.specs.declared.error.Error.{Error}
-use Rattle.sqlite.specs.declared.error.Error.TheVariants.{SqliteFailure}
-use Rattle.sqlite.specs.declared.error.ErrorCode.TheVariants as code
-use Rattle.sqlite.specs.Effect.{Database}
-use Rattle.sqlite.specs.Rows.{Task, sequence}
-use Rattle.sqlite.specs.Does.{Does, AtPlace, Drops, Empties, Uncounts, UncountsIn, Tested, HoldWithout, Leaves, is_acted_on}
-use Rattle.sqlite.specs.Held.{Held, state}
-use Rattle.sqlite.specs.Listing.{understood}
-use Rattle.sqlite.specs.State.{State, HasCleanDisk, ExecutesInside, mode_of}
-use Rattle.sqlite.proofs.Callers.{command_of, statement_of}
-use Rattle.hub_store.specs.Failing.{HasReason}
-use Rattle.hub_store.specs.Keeps.{Goes, HasRun, HasFailed}
+use Rattle.std.proofs.Common.{◌≡◌, ◌≢◌, ℕ, List, [], ◌∷◌, Bool, false, not, ◌==◌, if◌then◌else◌, None, Some, Option, Result, Err, OnOk, IfErr, IsTrue}
+use Rattle.{std.{proofs.Common.{slice_get, inl, inr, subst, ◌∙◌, true}, specs.List.AllByRecursion}, sqlite_trees.proofs.ListLemmas.all-filter}
+use Rattle.{sqlite_trees.specs.Tree.Trees, sqlite_schema.specs.declared.{command.Command.TheVariants.DropTable, schema.Among.TheVariants.All}}
+use Rattle.{sqlite_schema.specs.declared.schema.{Keys.TheVariants.Enforced, Schema.Schema, Table.Table}, sqlite_catalog.specs.Change.{without_table, KeepsRows}}
+use Rattle.sqlite.{proofs.Callers.{command_of, statement_of}, specs.Does.{Does, AtPlace, Drops, Empties, Uncounts, UncountsIn, Tested, HoldWithout, Leaves}}
+use Rattle.sqlite.specs.{Does.is_acted_on, Effect.Database, Held.{Held, state}, Listing.understood, Rows.{Task, sequence}, State.{State, HasCleanDisk}}
+use Rattle.{sqlite.specs.{State.{ExecutesInside, mode_of}, declared.error.Error.{Error, TheVariants.SqliteFailure}}, hub_store.proofs.Edits.Steps.created_by}
+use Rattle.hub_store.proofs.{Rows.Statements.other_one, Versions.{Beside.{are_unreferred, none_refer, unreferred_by}, Causes.{IsWhole, plain_of, fails_as}}}
+use Rattle.hub_store.{proofs.Versions.{Causes.{stops, gave}, Drops.{Dropped, dropped_by}}, specs.{Failing.HasReason, Keeps.{Goes, HasRun, HasFailed}}}
 use Rattle.hub_store.specs.inner.Makes.{HasEmpty, Creates}
-use Rattle.hub_store.proofs.Versions.Causes.{IsWhole, plain_of, fails_as, stops, gave}
-use Rattle.hub_store.proofs.Versions.Drops.{Dropped, dropped_by}
-use Rattle.hub_store.proofs.Versions.Beside.{are_unreferred, none_refer, unreferred_by}
-use Rattle.hub_store.proofs.Rows.Statements.{other_one}
-use Rattle.hub_store.proofs.Edits.Steps.{created_by}
+use Rattle.sqlite_trees.specs.declared.store.Store as store
+use Rattle.sqlite.specs.declared.error.ErrorCode.TheVariants as code
 
 -- The text drops the table at this place, to which nothing refers. For a schema and a text that are written out each
 -- field is `refl`.

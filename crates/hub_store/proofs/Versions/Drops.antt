@@ -1,17 +1,9 @@
 -- The statements that drop tables.
 use Rattle.std.proofs.Common.{◌≡◌, ℕ, List, [], Bool, false, if◌then◌else◌, None, Some, Option, Ok, slice_get, sym, ap, subst, ◌∙◌}
-use Rattle.sqlite_schema.specs.declared.command.Command.TheVariants.{DropTable}
-use Rattle.sqlite_schema.specs.declared.schema.Keys.TheVariants.{Enforced}
-use Rattle.sqlite_schema.specs.declared.schema.Table.{Table}
-use Rattle.sqlite_schema.specs.declared.schema.Schema.{Schema}
-use Rattle.sqlite_catalog.specs.Change.{without_table, KeepsRows}
-use Rattle.sqlite.specs.Effect.{Database, IsDatabase}
-use Rattle.sqlite.specs.Rows.{Task, sequence}
-use Rattle.sqlite.specs.Does.{Tally, Does, AtPlace, Drops, UncountsIn, is_acted_on}
-use Rattle.sqlite.specs.Listing.{understood}
-use Rattle.sqlite.specs.State.{State, mode_of, Executes}
-use Rattle.sqlite.proofs.Callers.{IsPlain, command_of, statement_of, runs_as}
-use Rattle.hub_store.proofs.Rows.Statements.{same_ok, went, other_one}
+use Rattle.sqlite_schema.specs.declared.{command.Command.TheVariants.DropTable, schema.{Keys.TheVariants.Enforced, Schema.Schema, Table.Table}}
+use Rattle.{sqlite_catalog.specs.Change.{without_table, KeepsRows}, sqlite.{proofs.Callers.{IsPlain, command_of, statement_of, runs_as}, specs.Does.Tally}}
+use Rattle.sqlite.specs.{Does.{Does, AtPlace, Drops, UncountsIn, is_acted_on}, Effect.{Database, IsDatabase}, Listing.understood, Rows.{Task, sequence}}
+use Rattle.{sqlite.specs.State.{State, mode_of, Executes}, hub_store.proofs.Rows.Statements.{same_ok, went, other_one}}
 
 -- the table and its indexes are gone, and the others have their rows
 pub record Dropped (schema : Schema) (tree : ℕ) (old new : Database) : Type 0 where

@@ -1,43 +1,17 @@
 -- The permissions of a sound state that a migration to version 3 puts: the new table takes them.
-use Rattle.std.proofs.lemmas.List.{length-map}
-use Rattle.std.proofs.Common.{◌≡◌, ℕ, zero, suc, ◌+◌, ◌*◌, ◌<◌, ◌≤◌, ◌&&◌, ◌==◌, not, List, [], ◌∷◌, ◌++◌, map, filter, length, Bool, true, false, cond, refl, sym, ap, ap₂, subst, ◌∙◌, arith, Ordering, Less, Equal}
-use Rattle.std.specs.Ordering.{ordering_then}
-use Rattle.std.specs.List.{AllByRecursion}
-use Rattle.std.specs.Str.{bytes_eq}
-use Rattle.std.proofs.lemmas.Bool.{eqb-true, and_parts, false_from_ne_true}
-use Rattle.std.proofs.lemmas.Bool.Decides.{nat_tests}
-use Rattle.std.proofs.lemmas.Cmp.{tied_itself}
-use Rattle.iodef_tree.specs.Text.{Tokens}
-use Rattle.iodef_tree.specs.Pointer.{pointer_text}
-use Rattle.iodef_tree.proofs.Order.{bytes_eq-true}
-use Rattle.sqlite_value.specs.Order.{Row}
-use Rattle.policy.specs.declared.permission.Grantee.{Grantee}
-use Rattle.circle.specs.Ordered.{pair_cmp}
-use Rattle.hub_state.specs.Documents.{is_class_in}
-use Rattle.hub_state.specs.Orders.{permission_total}
-use Rattle.hub_state.specs.Sound.{IsSound}
+use Rattle.std.proofs.Common.{◌≡◌, ℕ, zero, suc, ◌*◌, ◌<◌, ◌≤◌, ◌&&◌, ◌==◌, not, List, [], ◌∷◌, ◌++◌, map, filter, length, Bool, true, false, cond, refl, sym}
+use Rattle.std.proofs.{Common.{ap, ap₂, subst, ◌∙◌, arith, Ordering, Less, Equal}, lemmas.Bool.{eqb-true, and_parts, false_from_ne_true, Decides.nat_tests}}
+use Rattle.std.{proofs.lemmas.{Cmp.tied_itself, List.{length-map, Filters.length-filter_both, Sums.length-filter}}, specs.List.AllByRecursion}
+use Rattle.{std.specs.{Ordering.ordering_then, Str.bytes_eq}, iodef_tree.{proofs.Order.bytes_eq-true, specs.{Pointer.pointer_text, Text.Tokens}}}
+use Rattle.{sqlite_value.specs.{Keys.first_key, Order.Row, declared.value.Value.TheVariants.Null}, policy.specs.declared.permission.Grantee.Grantee}
+use Rattle.{circle.specs.Ordered.pair_cmp, hub_state.proofs.{Bounded.few_permissions, Keeping.{count_left, found_each, found_is, found_passing}, Keys.one_path}}
+use Rattle.hub_state.specs.{Documents.is_class_in, Orders.permission_total, Sound.IsSound, State.{grantee_key, path_cmp, permission_cmp, permissions_of}}
+use Rattle.hub_state.specs.{State.{incident_in, is_class_of}, declared.{TheConstants.INCIDENT_LIMIT, state.{Incident.Incident, Permission.Permission}}}
+use Rattle.{sqlite_trees.proofs.ListLemmas.{all_both, all_weaker, ascending_weaker}, hub_store.proofs.Rows.Compare.{and-true, equal_numbers, equal_texts}}
+use Rattle.hub_store.{proofs.{Rows.{Rising.rising, Unique.one_grantee}, Versions.{Movable.all_low, Standing.can_hold}}, specs.Fit.{AreTaken, AreEndless}}
+use Rattle.hub_store.specs.{Fit.{IsEndless, ShortPermission, IsShort}, Rows.{endless_row, permission_row}, Values.moment_or_null, inner.Beside.CanGrant}
+use Rattle.hub_store.specs.inner.Beside.{Unlike, alike, ending_row}
 use Rattle.hub_state.specs.State as core
-use Rattle.hub_state.specs.State.{grantee_key, path_cmp, permission_cmp, permissions_of, incident_in, is_class_of}
-use Rattle.hub_state.specs.declared.TheConstants.{INCIDENT_LIMIT}
-use Rattle.hub_state.specs.declared.state.Incident.{Incident}
-use Rattle.hub_state.specs.declared.state.Permission.{Permission}
-use Rattle.hub_state.proofs.Bounded.{few_permissions}
-use Rattle.hub_state.proofs.Keeping.{count_left, found_each, found_is, found_passing}
-use Rattle.hub_state.proofs.Keys.{one_path}
-use Rattle.hub_store.specs.Fit.{AreTaken, AreEndless, IsEndless, ShortPermission, IsShort}
-use Rattle.hub_store.specs.Rows.{endless_row, permission_row}
-use Rattle.hub_store.specs.Values.{moment_or_null}
-use Rattle.hub_store.proofs.Versions.Movable.{all_low}
-use Rattle.hub_store.proofs.Rows.Unique.{one_grantee}
-use Rattle.sqlite_value.specs.declared.value.Value.TheVariants.{Null}
-use Rattle.sqlite_trees.proofs.ListLemmas.{all_both, all_weaker, ascending_weaker}
-use Rattle.sqlite_value.specs.Keys.{first_key}
-use Rattle.std.proofs.lemmas.List.Filters.{length-filter_both}
-use Rattle.std.proofs.lemmas.List.Sums.{length-filter}
-use Rattle.hub_store.specs.inner.Beside.{CanGrant, Unlike, alike, ending_row}
-use Rattle.hub_store.proofs.Rows.Compare.{and-true, equal_numbers, equal_texts}
-use Rattle.hub_store.proofs.Rows.Rising.{rising}
-use Rattle.hub_store.proofs.Versions.Standing.{can_hold}
 
 -- ---- they differ
 

@@ -1,64 +1,29 @@
 -- An INSERT into a table with at most one key, of rows that fit it and differ in that key, fails only for a limit on
 -- steps. What a table needs is stated once for all its rows; for a table that is written out most of it is `refl`.
+use Rattle.std.proofs.Common.{◌≡◌, ◌≢◌, inl, inr, ℕ, ◌+◌, ◌<◌, ◌≤◌, ◌^◌, ◌/◌, ◌==◌, ◌&&◌, ◌||◌, not, pos, negsuc, zero, suc, nat_lt, nat_le, List, [], ◌∷◌}
+use Rattle.std.proofs.Common.{◌++◌, map, drop, length, length-append, Bool, true, false, if◌then◌else◌, Ok, Err, refl, sym, ap, subst, ◌∙◌, arith, eq-eqb}
+use Rattle.std.proofs.{Math.Bool.{and-true, and-false, or-true}, lemmas.{Bool.{true≢false, and_parts, and_from, ltb-true, leb-true, eqb-true}, List.map-append}}
+use Rattle.std.proofs.lemmas.List.{map-id, length-map, Elements.All-from_recursion, Sorted.{IsPermutation-cons, IsPermutation-append_comm}}
+use Rattle.std.{proofs.lemmas.List.Sorted.{IsPermutation-append_right, IsPermutation-trans, length_permutation}, specs.{Float.NotNan, Int.bit_at}}
+use Rattle.std.specs.{List.{AllByRecursion, list_all, Sorted.IsPermutation}, Str.bytes_eq}
 use lib.Ieee.{is_nan}
-use Rattle.std.proofs.Common.{◌≡◌, ◌≢◌, inl, inr, ℕ, ◌+◌, ◌<◌, ◌≤◌, ◌^◌, ◌/◌, ◌==◌, ◌&&◌, ◌||◌, not, pos, negsuc, zero, suc, nat_lt, nat_le, List, [], ◌∷◌, ◌++◌, map, drop, length, length-append, Bool, true, false, if◌then◌else◌, Ok, Err, refl, sym, ap, subst, ◌∙◌, arith, eq-eqb}
-use Rattle.std.specs.List.{AllByRecursion, list_all}
-use Rattle.std.specs.List.Sorted.{IsPermutation}
-use Rattle.std.specs.Float.{NotNan}
-use Rattle.std.specs.Int.{bit_at}
-use Rattle.std.specs.Str.{bytes_eq}
-use Rattle.std.proofs.lemmas.Bool.{true≢false, and_parts, and_from, ltb-true, leb-true, eqb-true}
-use Rattle.std.proofs.lemmas.List.{map-append, map-id, length-map}
-use Rattle.std.proofs.lemmas.List.Elements.{All-from_recursion}
-use Rattle.std.proofs.lemmas.List.Sorted.{IsPermutation-cons, IsPermutation-append_comm, IsPermutation-append_right, IsPermutation-trans, length_permutation}
-use Rattle.std.proofs.Math.Bool.{and-true, and-false, or-true}
-use Rattle.sqlite_value.specs.declared.value.Value.{Value}
-use Rattle.sqlite_value.specs.declared.value.Value.TheVariants.{Null, Int, Real, Text, Blob}
-use Rattle.sqlite_value.specs.declared.keys.Order.{Order}
-use Rattle.sqlite_value.specs.Keys.{plain, later}
-use Rattle.sqlite_value.specs.Order.{Row, column, number}
-use Rattle.sqlite_trees.specs.Tree.{IsAscending, Trees, rowid, put_row, with_tree}
-use Rattle.sqlite_trees.specs.View.{is_int, IsStorable}
-use Rattle.sqlite_sql.specs.Catalog.{entry_of}
-use Rattle.sqlite_sql.specs.Ops.{is_null, fits_i64}
-use Rattle.sqlite_sql.specs.Term.{Term}
-use Rattle.sqlite_typing.specs.Types.{accepts_terms}
-use Rattle.sqlite_schema.specs.declared.command.Source.TheVariants.{Values}
-use Rattle.sqlite_schema.specs.declared.command.Command.TheVariants.{Insert}
-use Rattle.sqlite_schema.specs.declared.schema.Constraint.TheVariants.{Datatype, NotNull, Check, PrimaryKey, Unique, ForeignKey}
-use Rattle.sqlite_schema.specs.declared.schema.Index.{Index}
-use Rattle.sqlite_schema.specs.declared.schema.Keys.TheVariants.{Enforced}
-use Rattle.sqlite_schema.specs.declared.schema.Schema.{Schema}
-use Rattle.sqlite_schema.specs.declared.schema.Table.{Table}
-use Rattle.sqlite_schema.specs.Rules.{Keeps, passes, guards, clashes, agree, table_reals, index_reals, is_key_of}
-use Rattle.sqlite_rules.specs.declared.error.Refusal.{Refusal}
-use Rattle.sqlite_rules.specs.declared.error.Refusal.TheVariants.{Violates, Mismatch, NoRowid, BadReference, TooDeep}
-use Rattle.sqlite_rules.specs.declared.error.Rowids.TheVariants.{Chosen}
-use Rattle.sqlite_rules.specs.Cast.{cast_row}
-use Rattle.sqlite_rules.specs.Edit.{Edit, IsRefused, IsOversized, id_in, next_rowid, numbered, put_all, are_fresh, is_taken}
-use Rattle.sqlite_trees.proofs.ListLemmas.{all_weaker, all-permutation, ascending_weaker}
-use Rattle.sqlite_rules.proofs.ListLemmas.{all_has, all_from, test_has}
-use Rattle.sqlite.specs.declared.error.Error.{Error}
-use Rattle.sqlite.specs.declared.error.Error.TheVariants.{SqliteFailure}
+use Rattle.sqlite_value.specs.{Keys.{plain, later}, Order.{Row, column, number}, declared.{keys.Order.Order, value.Value.{Value, TheVariants.{Null, Int}}}}
+use Rattle.{sqlite_value.specs.declared.value.Value.TheVariants.{Real, Text, Blob}, sqlite_trees.proofs.ListLemmas.{all_weaker, all-permutation}}
+use Rattle.sqlite_trees.{proofs.ListLemmas.ascending_weaker, specs.{Tree.{IsAscending, Trees, rowid, put_row, with_tree}, View.{is_int, IsStorable}}}
+use Rattle.{sqlite_sql.specs.{Catalog.entry_of, Ops.{is_null, fits_i64}, Term.Term}, sqlite_typing.specs.Types.accepts_terms, sqlite_schema.specs.Rules.Keeps}
+use Rattle.sqlite_schema.specs.{Rules.{passes, guards, clashes, agree, table_reals, index_reals, is_key_of}, declared.command.Command.TheVariants.Insert}
+use Rattle.sqlite_schema.specs.declared.{command.Source.TheVariants.Values, schema.Constraint.TheVariants.{Datatype, NotNull, Check, PrimaryKey, Unique}}
+use Rattle.sqlite_schema.specs.declared.schema.{Constraint.TheVariants.ForeignKey, Index.Index, Keys.TheVariants.Enforced, Schema.Schema, Table.Table}
+use Rattle.sqlite_rules.{proofs.ListLemmas.{all_has, all_from, test_has}, specs.{Cast.cast_row, Edit.{Edit, IsRefused, IsOversized, id_in, next_rowid}}}
+use Rattle.sqlite_rules.specs.{Edit.{numbered, put_all, are_fresh, is_taken}, declared.error.Refusal.{Refusal, TheVariants.{Violates, Mismatch, NoRowid}}}
+use Rattle.{sqlite_rules.specs.declared.error.{Refusal.TheVariants.{BadReference, TooDeep}, Rowids.TheVariants.Chosen}, sqlite.proofs.Callers.command_of}
+use Rattle.sqlite.{proofs.Callers.statement_of, specs.{Effect.{IsDatabase, value_rows}, Listing.understood, Rows.stamped, State.{State, Executes}}}
+use Rattle.{sqlite.specs.{State.ExecutesInside, declared.error.Error.{Error, TheVariants.SqliteFailure}}, iodef_tree.proofs.Order.bytes_eq-true}
+use Rattle.hub_store.proofs.Rows.{Compare.column_past, Counting.{labelled, past_labels, put_behind}, Held.bare, Lists.came_in, Statements.inserted}
+use Rattle.hub_store.proofs.Versions.{Beside.{no_works, still_unique, unreferred_by}, Causes.{IsWhole, fails_as, plain_of}, Standing.{all_before, no_clash}}
+use Rattle.hub_store.{proofs.Versions.{Standing.{pairs_permuted, pairs_seen}, WriteCauses.{Breaks, IsWritable, insert_stops}}, specs.Failing.HasReason}
+use Rattle.hub_store.specs.{Fit.IsShort, inner.Beside.{AreNumbered, CanHold, Unlike, IsRowOf, NumberedApart, NumbersApart, alike, CanNumber}}
 use Rattle.sqlite.specs.declared.error.ErrorCode.TheVariants as code
-use Rattle.sqlite.specs.Effect.{IsDatabase, value_rows}
-use Rattle.sqlite.specs.Listing.{understood}
-use Rattle.sqlite.specs.Rows.{stamped}
-use Rattle.sqlite.specs.State.{State, Executes, ExecutesInside}
-use Rattle.sqlite.proofs.Callers.{command_of, statement_of}
-use Rattle.iodef_tree.proofs.Order.{bytes_eq-true}
-use Rattle.hub_store.specs.Failing.{HasReason}
-use Rattle.hub_store.specs.Fit.{IsShort}
-use Rattle.hub_store.specs.inner.Beside.{AreNumbered, CanHold, Unlike, IsRowOf, NumberedApart, NumbersApart, alike, CanNumber}
-use Rattle.hub_store.proofs.Versions.Beside.{no_works, still_unique, unreferred_by}
-use Rattle.hub_store.proofs.Versions.Causes.{IsWhole, fails_as, plain_of}
-use Rattle.hub_store.proofs.Rows.Compare.{column_past}
-use Rattle.hub_store.proofs.Rows.Counting.{labelled, past_labels, put_behind}
-use Rattle.hub_store.proofs.Rows.Held.{bare}
-use Rattle.hub_store.proofs.Rows.Lists.{came_in}
-use Rattle.hub_store.proofs.Versions.Standing.{all_before, no_clash, pairs_permuted, pairs_seen}
-use Rattle.hub_store.proofs.Rows.Statements.{inserted}
-use Rattle.hub_store.proofs.Versions.WriteCauses.{Breaks, IsWritable, insert_stops}
 
 -- ---- what a table, a row and a text need
 

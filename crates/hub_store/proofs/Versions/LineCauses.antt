@@ -1,29 +1,13 @@
 -- An INSERT of lines beside the tables of version 1 fails only for a limit on steps.
-use Rattle.hub_store.proofs.Versions.WriteCauses.{IsWritable}
 use Rattle.std.proofs.Common.{◌≡◌, ◌≢◌, ℕ, ◌+◌, ◌*◌, ◌<◌, ◌^◌, pos, zero, suc, is_some, List, [], ◌∷◌, ◌++◌, map, length, true, Ok, Err, refl, arith}
-use Rattle.std.specs.List.{AllByRecursion}
-use Rattle.std.proofs.lemmas.Bool.{lt-ltb}
-use Rattle.sqlite_value.specs.declared.value.Value.TheVariants.{Int}
-use Rattle.sqlite_value.specs.Order.{Row, column}
-use Rattle.sqlite_typing.specs.Types.{accepts_terms, class_of}
-use Rattle.sqlite_schema.specs.declared.schema.Table.{Table}
-use Rattle.sqlite_rules.specs.Edit.{numbered}
-use Rattle.sqlite.specs.declared.error.Error.{Error}
-use Rattle.sqlite.specs.declared.error.Error.TheVariants.{SqliteFailure}
+use Rattle.{std.{proofs.lemmas.Bool.lt-ltb, specs.List.AllByRecursion}, sqlite_value.specs.{Order.{Row, column}, declared.value.Value.TheVariants.Int}}
+use Rattle.{sqlite_typing.specs.Types.{accepts_terms, class_of}, sqlite_schema.specs.declared.schema.Table.Table, sqlite_rules.specs.Edit.numbered}
+use Rattle.{sqlite.specs.{State.{Executes, ExecutesInside}, declared.error.Error.{Error, TheVariants.SqliteFailure}}, hub_state.specs.Documents.Lines}
+use Rattle.{hub_state.specs.State.State, hub_store.proofs.{Rows.{Held.bare, LineRows.terms_for}, Versions.Inserts.{IsFitRow, IsInsert, IsKeyed, behind_fails}}}
+use Rattle.hub_store.{proofs.Versions.{Inserts.insert_counts, WriteCauses.IsWritable}, specs.{Failing.HasReason, Fit.ShortItem, Items.{Item, item_row}}}
+use Rattle.hub_store.specs.{Items.placed_lines, Layout.item_part, Tables.beside_item, inner.Beside.{AreNumbered, HoldsBeside, CanStand}}
 use Rattle.sqlite.specs.declared.error.ErrorCode.TheVariants as code
 use Rattle.sqlite.specs.State as sql
-use Rattle.sqlite.specs.State.{Executes, ExecutesInside}
-use Rattle.hub_state.specs.Documents.{Lines}
-use Rattle.hub_state.specs.State.{State}
-use Rattle.hub_store.specs.Failing.{HasReason}
-use Rattle.hub_store.specs.Items.{Item, item_row, placed_lines}
-use Rattle.hub_store.specs.Fit.{ShortItem}
-use Rattle.hub_store.specs.Tables.{beside_item}
-use Rattle.hub_store.specs.Layout.{item_part}
-use Rattle.hub_store.specs.inner.Beside.{AreNumbered, HoldsBeside, CanStand}
-use Rattle.hub_store.proofs.Rows.Held.{bare}
-use Rattle.hub_store.proofs.Rows.LineRows.{terms_for}
-use Rattle.hub_store.proofs.Versions.Inserts.{IsFitRow, IsInsert, IsKeyed, behind_fails, insert_counts}
 
 abbrev item : Table
 item = (item_part []).table

@@ -1,48 +1,20 @@
 -- The statements from version 1 to version 2: what each makes, and that a row fails only for a limit on steps.
-use Rattle.hub_store.proofs.Versions.WriteCauses.{IsWritable}
-use Rattle.sqlite_rules.specs.Cast.{cast_row}
+use Rattle.std.proofs.Common.{◌≡◌, ◌≢◌, ◌+◌, ◌<◌, ℕ, pos, List, [], ◌∷◌, ◌++◌, take, length, get_or, map, Ok, Err, codes, refl, sym, ap, subst, ◌∙◌, ◌^◌, arith}
+use Rattle.std.proofs.lemmas.{Bool.lt-ltb, List.{take_more, map-append, Sorted.{IsPermutation-append_comm, IsPermutation-sym}}}
+use Rattle.{std.specs.List.Sorted.IsPermutation, sqlite_rules.specs.Cast.cast_row, sqlite_value.specs.{Order.Row, declared.value.Value.TheVariants.{Null, Int}}}
+use Rattle.{sqlite_sql.specs.Term.{lit, col}, sqlite_tied.specs.Compute.everything, sqlite.specs.{Listing.understood, State.{Executes, ExecutesInside}}}
+use Rattle.{sqlite.specs.declared.error.Error.{Error, TheVariants.SqliteFailure}, hub_state.specs.{State.State, declared.state.Naming.Naming}}
+use Rattle.{iodef_tree.specs.declared.line.Line.Line, sqlite_schema.specs.declared.schema.{Schema.Schema, Table.Table}, hub_store.proofs.Rows.Compare.cast_int}
+use Rattle.hub_store.proofs.Rows.{Compare.cast_null, Held.{bare, past_rowids}, LineRows.cast_items, PartRows.Stands, Parts.{drops, adds}, Texts.put_line}
+use Rattle.hub_store.proofs.{Rows.Texts.{put_naming_2, line_terms}, Versions.{Causes.{IsCreation, naming}, Creates.made_by, DropCauses.IsDropping}}
+use Rattle.hub_store.proofs.Versions.{Drops.dropped_by, Inserts.{IsFitRow, IsInsert, IsKeyed, number_fails}, LineCauses.{InsertsLines, lines_count, lines_fail}}
+use Rattle.hub_store.proofs.Versions.{LineCauses.{terms_accepted, lines_bound}, Standing.stand_permuted, StepRows.puts_rows, WriteCauses.IsWritable}
+use Rattle.hub_store.specs.{Failing.HasReason, Items.{placed_lines, item_row, line_shown}, Layout.{in_versions_1_and_2, incident_part, item_part}}
+use Rattle.hub_store.specs.{Layout.{incident_part_2, parts_1, with_items, without_incidents, tables_2}, Parts.{schema_of, HoldsParts}, Rows.naming_row_2}
+use Rattle.hub_store.specs.{Tables.{schema_by, beside_item, without_incident, incident_table, item_table, incident_table_2}, inner.Beside.AreNumbered}
+use Rattle.hub_store.specs.inner.{Beside.{HoldsBeside, CanStand, CanName, ShortNamingAs}, Shown.naming_shown_2}
 use Rattle.sqlite.specs.State as sql
 use Rattle.sqlite.specs.declared.error.ErrorCode.TheVariants as code
-use Rattle.std.proofs.Common.{◌≡◌, ◌≢◌, ◌+◌, ◌<◌, ℕ, pos, List, [], ◌∷◌, ◌++◌, take, length, get_or, map, Ok, Err, codes, refl, sym, ap, subst, ◌∙◌, ◌^◌, arith}
-use Rattle.std.specs.List.Sorted.{IsPermutation}
-use Rattle.std.proofs.lemmas.List.{take_more, map-append}
-use Rattle.std.proofs.lemmas.List.Sorted.{IsPermutation-append_comm, IsPermutation-sym}
-use Rattle.sqlite_value.specs.declared.value.Value.TheVariants.{Null, Int}
-use Rattle.sqlite_value.specs.Order.{Row, number}
-use Rattle.sqlite_sql.specs.Term.{lit, col}
-use Rattle.sqlite_tied.specs.Compute.{everything}
-use Rattle.sqlite.specs.Listing.{understood}
-use Rattle.sqlite.specs.State.{Executes, ExecutesInside}
-use Rattle.sqlite.specs.declared.error.Error.{Error}
-use Rattle.sqlite.specs.declared.error.Error.TheVariants.{SqliteFailure}
-use Rattle.hub_state.specs.State.{State}
-use Rattle.hub_state.specs.declared.state.Naming.{Naming}
-use Rattle.iodef_tree.specs.declared.line.Line.{Line}
-use Rattle.hub_store.specs.Items.{placed_lines, item_row, line_shown}
-use Rattle.hub_store.specs.Rows.{naming_row_2}
-use Rattle.hub_store.specs.Tables.{schema_by, beside_item, without_incident, incident_table, item_table, incident_table_2}
-use Rattle.hub_store.specs.Parts.{schema_of, HoldsParts}
-use Rattle.hub_store.specs.Layout.{in_versions_1_and_2, incident_part, item_part, incident_part_2, parts_1, with_items, without_incidents, tables_2}
-use Rattle.hub_store.specs.inner.Beside.{AreNumbered, HoldsBeside, CanStand, CanName, ShortNamingAs}
-use Rattle.hub_store.specs.Failing.{HasReason}
-use Rattle.hub_store.proofs.Versions.Causes.{IsCreation, naming}
-use Rattle.hub_store.proofs.Versions.Creates.{made_by}
-use Rattle.hub_store.proofs.Versions.Drops.{dropped_by}
-use Rattle.hub_store.proofs.Versions.DropCauses.{IsDropping}
-use Rattle.hub_store.proofs.Rows.Compare.{cast_int, cast_null}
-use Rattle.hub_store.proofs.Rows.Parts.{drops, adds}
-use Rattle.hub_store.proofs.Rows.PartRows.{Stands}
-use Rattle.hub_store.proofs.Rows.LineRows.{cast_items}
-use Rattle.hub_store.proofs.Versions.LineCauses.{InsertsLines, lines_count, lines_fail, terms_accepted, lines_bound}
-use Rattle.hub_store.proofs.Versions.Standing.{stand_permuted}
-use Rattle.hub_store.proofs.Rows.Texts.{put_line, put_naming_2, line_terms}
-use Rattle.std.proofs.lemmas.Bool.{lt-ltb}
-use Rattle.sqlite_schema.specs.declared.schema.Schema.{Schema}
-use Rattle.sqlite_schema.specs.declared.schema.Table.{Table}
-use Rattle.hub_store.specs.inner.Shown.{naming_shown_2}
-use Rattle.hub_store.proofs.Versions.Inserts.{IsFitRow, IsInsert, IsKeyed, number_fails}
-use Rattle.hub_store.proofs.Rows.Held.{bare, past_rowids}
-use Rattle.hub_store.proofs.Versions.StepRows.{puts_rows}
 
 abbrev pub create_item : List ℕ
 create_item = codes "CREATE TABLE item (incident INTEGER NOT NULL, place INTEGER NOT NULL, depth INTEGER NOT NULL, name TEXT NOT NULL, in_array INTEGER NOT NULL, kind INTEGER NOT NULL, text TEXT NOT NULL, UNIQUE (incident, place)) STRICT"

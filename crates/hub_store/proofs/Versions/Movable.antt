@@ -1,50 +1,23 @@
 -- The incidents of a sound state that a migration moves: they can be read, and the new tables take their lines and
 -- names.
-use Rattle.std.proofs.lemmas.List.Concat.{flat_map-append}
-use Rattle.std.proofs.Common.{◌≡◌, ◌≢◌, ℕ, suc, ◌+◌, ◌*◌, ◌<◌, ◌≤◌, ◌&&◌, ◌==◌, pos, List, [], ◌∷◌, ◌++◌, map, filter, take, length, length-append, Bool, true, false, cond, nat_lt, Ok, Err, refl, sym, ap, ap₂, subst, ◌∙◌, arith, drop}
-use Rattle.std.specs.List.{AllByRecursion, list_any}
-use Rattle.std.specs.Ordering.{is_eq, int_cmp}
-use Rattle.std.specs.Str.{bytes_eq}
-use Rattle.std.proofs.lemmas.Bool.{eqb-true, and_parts, false_from_ne_true, cond_both, ltb-false}
-use Rattle.iodef_tree.proofs.Order.{bytes_eq-true}
-use Rattle.std.proofs.lemmas.Bool.Decides.{nat_tests}
-use Rattle.std.proofs.lemmas.List.Elements.{All-contains, All-from_recursion}
-use Rattle.sqlite_value.specs.Order.{Row}
-use Rattle.sqlite_value.proofs.OrderLemmas.{value_cmp-Int}
-use Rattle.sqlite_trees.specs.Tree.{IsAscending}
-use Rattle.sqlite_rules.proofs.ListLemmas.{all_has, some_has}
+use Rattle.std.proofs.Common.{◌≡◌, ◌≢◌, ℕ, suc, ◌+◌, ◌*◌, ◌<◌, ◌≤◌, ◌&&◌, ◌==◌, pos, List, [], ◌∷◌, ◌++◌, map, filter, take, length, length-append, Bool, true}
+use Rattle.std.proofs.{Common.{false, cond, nat_lt, Ok, Err, refl, sym, ap, ap₂, subst, ◌∙◌, arith, drop}, lemmas.Bool.{eqb-true, and_parts}}
+use Rattle.std.proofs.lemmas.{Bool.{false_from_ne_true, cond_both, ltb-false, Decides.nat_tests}, List.{length-map, map-append, take-append-drop}}
+use Rattle.std.{proofs.lemmas.List.{Concat.flat_map-append, Elements.{All-contains, All-from_recursion}}, specs.List.{AllByRecursion, list_any}}
+use Rattle.{std.specs.{Ordering.{is_eq, int_cmp}, Str.bytes_eq}, iodef_tree.{proofs.{Fitness.bind-ok, Order.bytes_eq-true}, specs.Reading.{◌>>=◌, reading}}}
+use Rattle.iodef_tree.specs.{Reading.{parsed, or_fault, incidents_of, all_complete, all_fit, document_of, if_short, documents}, Text.Bytes, Tree.lines}
+use Rattle.iodef_tree.specs.declared.{TheConstants.LINE_LIMIT, fault.ReadFault.TheVariants.{NotDocument, TooManyLines}}
+use Rattle.{sqlite_value.{proofs.OrderLemmas.value_cmp-Int, specs.{Keys.first_key, Order.Row}}, sqlite_trees.proofs.ListLemmas.{all-append, all-map, all_both}}
+use Rattle.{sqlite_trees.{proofs.ListLemmas.{all_weaker, ascending-append, ascending-map}, specs.Tree.IsAscending}, sqlite_rules.proofs.ListLemmas.all_has}
+use Rattle.{sqlite_rules.proofs.ListLemmas.some_has, serde_json.specs.Find.as_object, circle.specs.{Directory.org_number, Sound.{CountsFrom, Pairwise}}}
+use Rattle.{circle.specs.declared.directory.Org.Org, hub_state.{proofs.Keeping.numbers_above, specs.{Documents.Lines, Sound.{IsSound, IsAccepted}}}}
+use Rattle.hub_state.specs.{State.incident_number, declared.{TheConstants.{INCIDENT_LIMIT, REVISION_LIMIT}, state.{Incident.Incident, Naming.Naming}}}
+use Rattle.hub_store.proofs.{Rows.Compare.{and-true, equal_numbers, equal_texts}, Versions.{OldTexts.read_back, Standing.{can_hold, number_before}}}
+use Rattle.hub_store.specs.{Fit.{AreTaken, IsShort, ShortItem, ShortNaming, FitIncident}, Items.{Item, items_from, items_in, item_row, items_of}}
+use Rattle.hub_store.specs.{Rows.{named_row_2, naming_row_2}, inner.Beside.{CanName, CanStand, NumberedApart, ShortNamingAs, Unlike, alike, IsRowOf}}
+use Rattle.hub_store.specs.inner.Moving.{HasTexts, IsReadable, ReadsFirst, old_shown, incidents_up_to, naming_in}
 use Rattle.serde_json.specs.Data as json
-use Rattle.serde_json.specs.Find.{as_object}
-use Rattle.iodef_tree.specs.Text.{Bytes}
-use Rattle.iodef_tree.specs.Reading.{◌>>=◌, reading, parsed, or_fault, incidents_of, all_complete, all_fit, document_of, if_short, documents}
-use Rattle.iodef_tree.specs.Tree.{lines}
-use Rattle.iodef_tree.specs.declared.TheConstants.{LINE_LIMIT}
-use Rattle.iodef_tree.specs.declared.fault.ReadFault.TheVariants.{NotDocument, TooManyLines}
-use Rattle.iodef_tree.proofs.Fitness.{bind-ok}
-use Rattle.circle.specs.Sound.{CountsFrom, Pairwise}
-use Rattle.circle.specs.Directory.{org_number}
-use Rattle.circle.specs.declared.directory.Org.{Org}
-use Rattle.hub_state.specs.Documents.{Lines}
-use Rattle.hub_state.specs.Sound.{IsSound, IsAccepted}
 use Rattle.hub_state.specs.State as core
-use Rattle.hub_state.specs.State.{incident_number}
-use Rattle.hub_state.specs.declared.TheConstants.{INCIDENT_LIMIT, REVISION_LIMIT}
-use Rattle.hub_state.specs.declared.state.Incident.{Incident}
-use Rattle.hub_state.specs.declared.state.Naming.{Naming}
-use Rattle.hub_state.proofs.Keeping.{numbers_above}
-use Rattle.hub_store.specs.Fit.{AreTaken, IsShort, ShortItem, ShortNaming, FitIncident}
-use Rattle.hub_store.specs.Items.{Item, items_from, items_in, item_row}
-use Rattle.hub_store.specs.inner.Moving.{HasTexts, IsReadable, ReadsFirst, old_shown, incidents_up_to}
-use Rattle.hub_store.specs.Rows.{named_row_2, naming_row_2}
-use Rattle.hub_store.proofs.Versions.OldTexts.{read_back}
-use Rattle.sqlite_trees.proofs.ListLemmas.{all-append, all-map, all_both, all_weaker, ascending-append, ascending-map}
-use Rattle.hub_store.specs.inner.Beside.{CanName, CanStand, NumberedApart, ShortNamingAs, Unlike, alike, IsRowOf}
-use Rattle.hub_store.specs.inner.Moving.{naming_in}
-use Rattle.hub_store.proofs.Rows.Compare.{and-true, equal_numbers, equal_texts}
-use Rattle.hub_store.proofs.Versions.Standing.{can_hold, number_before}
-use Rattle.std.proofs.lemmas.List.{length-map, map-append, take-append-drop}
-use Rattle.sqlite_value.specs.Keys.{first_key}
-use Rattle.hub_store.specs.Items.{items_of}
 
 -- ---- limits
 

@@ -1,15 +1,8 @@
 -- What a migration has moved, document by document.
-use Rattle.std.proofs.Common.{◌≡◌, ℕ, [], ◌∷◌, ◌++◌, map, Some, None, sym, ap, subst, ◌∙◌, arith, take}
-use Rattle.std.proofs.lemmas.List.{map-append}
-use Rattle.std.proofs.lemmas.List.Sorted.{IsPermutation-append_comm}
-use Rattle.hub_state.specs.State.{State}
-use Rattle.hub_state.specs.Sound.{IsSound}
-use Rattle.hub_state.specs.declared.state.Incident.{Incident}
-use Rattle.hub_store.specs.Items.{items_in, item_row}
-use Rattle.hub_store.specs.inner.Moving.{incident_above, incidents_up_to, naming_in}
-use Rattle.hub_store.specs.inner.PutsLines.{HasMore}
-use Rattle.hub_store.proofs.Rows.Items.{items_put}
-use Rattle.hub_store.proofs.Versions.OldTexts.{next_at, up_to_all}
+use Rattle.std.proofs.{Common.{◌≡◌, ℕ, [], ◌∷◌, ◌++◌, map, Some, None, sym, ap, subst, ◌∙◌, arith, take}, lemmas.List.map-append}
+use Rattle.{std.proofs.lemmas.List.Sorted.IsPermutation-append_comm, hub_state.specs.{Sound.IsSound, State.State, declared.state.Incident.Incident}}
+use Rattle.hub_store.{proofs.{Rows.Items.items_put, Versions.OldTexts.{next_at, up_to_all}}, specs.{Items.{items_in, item_row}, inner.Moving.incident_above}}
+use Rattle.hub_store.specs.inner.{Moving.{incidents_up_to, naming_in}, PutsLines.HasMore}
 
 -- with the next there is one more
 next_up_to : (s : State) (number : ℕ) (i : Incident) → IsSound s → incident_above number s ≡ Some i → incidents_up_to i.naming.number s ≡ incidents_up_to number s ++ i ∷ []

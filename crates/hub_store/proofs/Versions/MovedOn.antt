@@ -1,28 +1,12 @@
 -- How a migration gets from one version to the next, by what its calls make.
 use Rattle.std.proofs.Common.{◌≡◌, ◌<◌, ◌≤◌, nat_lt, ℕ, List, [], ◌∷◌, ◌++◌, map, Some, None, Ok, IsTrue, sym, ap, subst, ◌∙◌, arith, refl}
-use Rattle.sqlite_trees.proofs.ListLemmas.{map-map}
-use Rattle.sqlite.specs.Effect.{Database}
-use Rattle.sqlite.specs.State.{State, HasCleanDisk}
-use Rattle.hub_state.specs.Sound.{IsSound}
+use Rattle.{std.proofs.lemmas.Bool.{ltb-true, Decides.nat_tests}, sqlite_trees.proofs.ListLemmas.map-map, sqlite.specs.{Effect.Database, State.State}}
+use Rattle.{sqlite.specs.State.HasCleanDisk, hub_state.{proofs.Keeping.{found_is, found_each}, specs.{Sound.IsSound, declared.TheConstants.INCIDENT_LIMIT}}}
+use Rattle.{hub_state.specs.declared.state.{Incident.Incident, Naming.Naming}, hub_store.proofs.Versions.{Movable.all_low, Moved.{next_more, next_kept}}}
+use Rattle.hub_store.{proofs.Versions.Moved.all_moved, specs.{Fit.FitAs, Items.{items_in, items_of, item_row}, Layout.{parts_1, parts_2}, Means.HoldsAs}}
+use Rattle.hub_store.specs.{Opening.is_older, Parts.HoldsParts, Rows.{naming_row_2, named_row_2}, inner.{Beside.HoldsBeside, Moving.{HasTexts, HoldsMoved}}}
+use Rattle.hub_store.specs.inner.{Moving.{HoldsNext, incident_above, naming_in}, PutsLines.PutsLines}
 use Rattle.hub_state.specs.State as core
-use Rattle.hub_state.specs.declared.state.Incident.{Incident}
-use Rattle.hub_state.specs.declared.state.Naming.{Naming}
-use Rattle.std.proofs.lemmas.Bool.{ltb-true}
-use Rattle.std.proofs.lemmas.Bool.Decides.{nat_tests}
-use Rattle.hub_store.specs.Opening.{is_older}
-use Rattle.hub_state.specs.declared.TheConstants.{INCIDENT_LIMIT}
-use Rattle.hub_state.proofs.Keeping.{found_is, found_each}
-use Rattle.hub_store.specs.Fit.{FitAs}
-use Rattle.hub_store.specs.Items.{items_in, items_of, item_row}
-use Rattle.hub_store.specs.Layout.{parts_1, parts_2}
-use Rattle.hub_store.specs.Means.{HoldsAs}
-use Rattle.hub_store.specs.inner.Moving.{HasTexts, HoldsMoved, HoldsNext, incident_above, naming_in}
-use Rattle.hub_store.specs.Parts.{HoldsParts}
-use Rattle.hub_store.specs.inner.PutsLines.{PutsLines}
-use Rattle.hub_store.specs.Rows.{naming_row_2, named_row_2}
-use Rattle.hub_store.specs.inner.Beside.{HoldsBeside}
-use Rattle.hub_store.proofs.Versions.Movable.{all_low}
-use Rattle.hub_store.proofs.Versions.Moved.{next_more, next_kept, all_moved}
 
 is_above : (s : core.State) (number : ℕ) (i : Incident) → incident_above number s ≡ Some i → number < i.naming.number
 is_above s number i is = ltb-true number i.naming.number (found_is (λ (j : Incident). nat_lt number j.naming.number) s.incidents i is)

@@ -1,35 +1,16 @@
 -- The query of the next incident of version 1, with the table of lines after its tables.
-use Rattle.hub_store.proofs.Versions.ReadRows.{IsReading, read_same, read_answer, read_fails}
 use Rattle.std.proofs.Common.{◌≡◌, ◌≢◌, inl, inr, ℕ, pos, List, [], ◌∷◌, map, codes, nat_lt, Option, Result, IfOk, refl, sym, subst}
-use Rattle.std.proofs.lemmas.Result.{IfOk-weaker}
-use Rattle.sqlite_value.specs.declared.value.Value.TheVariants.{Int}
-use Rattle.sqlite_value.specs.Order.{Row}
+use Rattle.{std.proofs.lemmas.Result.IfOk-weaker, sqlite_value.specs.{Order.Row, declared.value.Value.TheVariants.Int}}
+use Rattle.{sqlite_trees.proofs.ListLemmas.all-slice_get, sqlite_tied.specs.Compute.everything, sqlite.specs.{Held.{Held, state}, Listing.understood}}
+use Rattle.sqlite.specs.{State.{HasCleanDisk, Survives}, declared.error.Error.{Error, TheVariants.SqliteFailure}}
+use Rattle.{hub_state.specs.declared.state.Incident.Incident, hub_store.proofs.{Edits.{Inside.goes_asked, Steps.on_any}, Versions.Movable.all_readable}}
+use Rattle.hub_store.proofs.Versions.{Movable.first_readable, OldTexts.{next_query, next_listed, reads_next}, ReadRows.{IsReading, read_same, read_answer}}
+use Rattle.hub_store.{proofs.Versions.ReadRows.read_fails, specs.{Failing.HasReason, Fit.AreTaken, Holdings.IsHeld, Layout.{incident_part, with_items}}}
+use Rattle.hub_store.specs.{Parts.held, Tables.beside_item, inner.{Beside.HoldsBeside, Makes.Makes, Moving.{ShowsIncident, HasTexts, ReadsFirst}}}
+use Rattle.hub_store.specs.inner.{Moving.incident_above, Queries.{HasShown, HasRefused}, Shown.ShowsFirst}
 use Rattle.sqlite_trees.specs.declared.store.Store as store
-use Rattle.sqlite_trees.proofs.ListLemmas.{all-slice_get}
-use Rattle.sqlite_tied.specs.Compute.{everything}
-use Rattle.sqlite.specs.declared.error.Error.{Error}
-use Rattle.sqlite.specs.declared.error.Error.TheVariants.{SqliteFailure}
 use Rattle.sqlite.specs.declared.error.ErrorCode.TheVariants as code
-use Rattle.sqlite.specs.Held.{Held, state}
-use Rattle.sqlite.specs.Listing.{understood}
-use Rattle.sqlite.specs.State.{HasCleanDisk, Survives}
 use Rattle.hub_state.specs.State as core
-use Rattle.hub_state.specs.declared.state.Incident.{Incident}
-use Rattle.hub_store.specs.Holdings.{IsHeld}
-use Rattle.hub_store.specs.Layout.{incident_part, with_items}
-use Rattle.hub_store.specs.inner.Makes.{Makes}
-use Rattle.hub_store.specs.inner.Moving.{ShowsIncident, HasTexts, ReadsFirst, incident_above}
-use Rattle.hub_store.specs.Failing.{HasReason}
-use Rattle.hub_store.specs.Fit.{AreTaken}
-use Rattle.hub_store.specs.Parts.{held}
-use Rattle.hub_store.specs.inner.Queries.{HasShown, HasRefused}
-use Rattle.hub_store.specs.inner.Shown.{ShowsFirst}
-use Rattle.hub_store.specs.Tables.{beside_item}
-use Rattle.hub_store.specs.inner.Beside.{HoldsBeside}
-use Rattle.hub_store.proofs.Versions.Movable.{all_readable, first_readable}
-use Rattle.hub_store.proofs.Edits.Inside.{goes_asked}
-use Rattle.hub_store.proofs.Versions.OldTexts.{next_query, next_listed, reads_next}
-use Rattle.hub_store.proofs.Edits.Steps.{on_any}
 
 abbrev pub next_incident : List ℕ
 next_incident = codes "SELECT number, source, ident, revision, text FROM incident WHERE number > ?1 ORDER BY number LIMIT 1"

@@ -1,40 +1,16 @@
 -- The incidents of version 1 as a migration reads them: the texts of their documents read back.
-use Rattle.std.proofs.lemmas.Bool.{lt-ltb, le-ltb}
-use Rattle.std.proofs.Common.{◌≡◌, ◌+◌, ℕ, pos, List, [], ◌∷◌, ◌++◌, map, filter, find, take, slice_get, Bool, true, false, cond, nat_lt, nat_cmp, Option, Some, None, Ok, refl, sym, ap, subst, ◌∙◌, arith, zero, suc}
-use Rattle.std.specs.List.{AllByRecursion}
-use Rattle.std.specs.Str.{IsUtf8, is_utf8}
-use Rattle.std.specs.declared.cmp.Ordering.TheVariants.{Less}
-use Rattle.std.proofs.lemmas.List.Elements.{All-contains, All-from_recursion}
-use Rattle.std.proofs.lemmas.Str.{is_utf8-from_IsUtf8}
-use Rattle.sqlite_value.specs.declared.value.Value.TheVariants.{Int}
-use Rattle.sqlite_value.specs.declared.keys.Key.{Key}
-use Rattle.sqlite_value.specs.Order.{Row}
-use Rattle.sqlite_value.proofs.OrderLemmas.{value_cmp-Int}
-use Rattle.sqlite_trees.specs.Tree.{Trees}
-use Rattle.sqlite_trees.proofs.ListLemmas.{all_both}
-use Rattle.sqlite_sql.specs.Term.{Term, lit, col, eval_all}
-use Rattle.sqlite_sql.specs.Query.{Query, IsAnswer, Output}
-use Rattle.iodef_tree.specs.Reading.{reading}
-use Rattle.iodef_tree.proofs.ReadBack.{texts-read-back}
-use Rattle.circle.specs.Sound.{CountsFrom}
-use Rattle.hub_state.specs.Documents.{Lines}
-use Rattle.hub_state.specs.Sound.{IsSound, IsAccepted}
+use Rattle.std.proofs.Common.{◌≡◌, ◌+◌, ℕ, pos, List, [], ◌∷◌, ◌++◌, map, filter, find, take, slice_get, Bool, true, false, cond, nat_lt, nat_cmp, Option, Some}
+use Rattle.std.proofs.{Common.{None, Ok, refl, sym, ap, subst, ◌∙◌, arith, zero, suc}, lemmas.{Bool.{lt-ltb, le-ltb}, List.Elements.All-contains}}
+use Rattle.std.{proofs.lemmas.{List.Elements.All-from_recursion, Str.is_utf8-from_IsUtf8}, specs.{List.AllByRecursion, Str.{IsUtf8, is_utf8}}}
+use Rattle.{std.specs.declared.cmp.Ordering.TheVariants.Less, sqlite_value.{proofs.OrderLemmas.value_cmp-Int, specs.{Order.Row, declared.keys.Key.Key}}}
+use Rattle.{sqlite_value.specs.declared.value.Value.TheVariants.Int, sqlite_trees.{proofs.ListLemmas.all_both, specs.Tree.Trees}, sqlite_sql.specs.Query.Query}
+use Rattle.{sqlite_sql.specs.{Query.{IsAnswer, Output}, Term.{Term, lit, col, eval_all}}, iodef_tree.{proofs.ReadBack.texts-read-back, specs.Reading.reading}}
+use Rattle.{circle.specs.Sound.CountsFrom, hub_state.specs.{Documents.Lines, Sound.{IsSound, IsAccepted}, State.incident_number}}
+use Rattle.{hub_state.specs.declared.state.Incident.Incident, hub_store.proofs.{LookUps.Listed.{listed, int_below}, Rows.Compare.{more_than, and-true}}}
+use Rattle.hub_store.{proofs.Rows.{Forms.{one_table, is_above, by_column}, Rising.counted, Statements.{keeps, shows}, Unique.some_one}, specs.Fit.FitIncident}
+use Rattle.hub_store.specs.{Fit.NamesNoCommunity, Holdings.IsHeld, Layout.incident_part, Parts.held, Rows.{document_text, incident_row}}
+use Rattle.hub_store.specs.inner.{Moving.{ShowsIncident, old_shown, HasTexts, incident_above}, Shown.ShowsFirst}
 use Rattle.hub_state.specs.State as core
-use Rattle.hub_state.specs.State.{incident_number}
-use Rattle.hub_state.specs.declared.state.Incident.{Incident}
-use Rattle.hub_store.specs.Rows.{document_text, incident_row}
-use Rattle.hub_store.specs.Fit.{FitIncident, NamesNoCommunity}
-use Rattle.hub_store.specs.inner.Shown.{ShowsFirst}
-use Rattle.hub_store.specs.Holdings.{IsHeld}
-use Rattle.hub_store.specs.Parts.{held}
-use Rattle.hub_store.specs.Layout.{incident_part}
-use Rattle.hub_store.specs.inner.Moving.{ShowsIncident, old_shown, HasTexts, incident_above}
-use Rattle.hub_store.proofs.Rows.Compare.{more_than, and-true}
-use Rattle.hub_store.proofs.Rows.Forms.{one_table, is_above, by_column}
-use Rattle.hub_store.proofs.LookUps.Listed.{listed, int_below}
-use Rattle.hub_store.proofs.Rows.Rising.{counted}
-use Rattle.hub_store.proofs.Rows.Statements.{keeps, shows}
-use Rattle.hub_store.proofs.Rows.Unique.{some_one}
 
 -- the text of a stored document reads as that document
 pub read_back : (doc : Lines) → IsAccepted doc → IsUtf8 (document_text doc) → reading (document_text doc) ≡ Ok (doc ∷ [])

@@ -1,21 +1,11 @@
 -- Why a query in a transaction fails that SQL understands.
-use Rattle.std.proofs.Common.{◌≡◌, ◌≢◌, ◌⊎◌, inl, inr, ℕ, List, append-nil, false, IsSome, None, ap, subst, ◌∙◌}
-use Rattle.sqlite_value.specs.Order.{Row}
-use Rattle.sqlite_sql.specs.Query.{Query}
-use Rattle.sqlite_schema.specs.declared.command.Command.TheVariants.{Select}
-use Rattle.sqlite_schema.specs.declared.schema.Schema.{Schema}
-use Rattle.sqlite_resolve.specs.declared.compiled.Compiled.{Compiled}
-use Rattle.sqlite.specs.declared.error.Error.{Error}
-use Rattle.sqlite.specs.declared.error.Error.TheVariants.{SqliteFailure}
+use Rattle.{std.proofs.Common.{◌≡◌, ◌≢◌, ◌⊎◌, inl, inr, ℕ, List, append-nil, false, IsSome, None, ap, subst, ◌∙◌}, sqlite_value.specs.Order.Row}
+use Rattle.{sqlite_sql.specs.Query.Query, sqlite_schema.specs.declared.{command.Command.TheVariants.Select, schema.Schema.Schema}}
+use Rattle.{sqlite_resolve.specs.declared.compiled.Compiled.Compiled, sqlite.{proofs.Callers.command_of, specs.{Clock.timed, Effect.RefusesQuery}}}
+use Rattle.sqlite.specs.{Effect.RefusesToRead, Listing.{understood, reads_listing, IsSourceOf}, State.{State, IsNotRun, IsStatement, FailsToQuery, FailsToShow}}
+use Rattle.{sqlite.specs.{State.IsTooLate, declared.error.Error.{Error, TheVariants.SqliteFailure}}, hub_store.proofs.Rows.Forms.program}
+use Rattle.hub_store.{proofs.Versions.Causes.{IsWhole, failed_only, is_statement, known, whole_of}, specs.Failing.HasReason}
 use Rattle.sqlite.specs.declared.error.ErrorCode.TheVariants as code
-use Rattle.sqlite.specs.Clock.{timed}
-use Rattle.sqlite.specs.Effect.{RefusesQuery, RefusesToRead}
-use Rattle.sqlite.specs.Listing.{understood, reads_listing, IsSourceOf}
-use Rattle.sqlite.specs.State.{State, IsNotRun, IsStatement, FailsToQuery, FailsToShow, IsTooLate}
-use Rattle.sqlite.proofs.Callers.{command_of}
-use Rattle.hub_store.specs.Failing.{HasReason}
-use Rattle.hub_store.proofs.Versions.Causes.{IsWhole, failed_only, is_statement, known, whole_of}
-use Rattle.hub_store.proofs.Rows.Forms.{program}
 
 module _ (sql : List ℕ) (params : Row) (old new : State) (schema : Schema) (has : old.now.schema ≡ schema) (q : Query) (heads : List (List ℕ)) (is : command_of (understood schema sql) ≡ Select (program q) heads)
     (whole : IsWhole sql params (understood schema sql)) (unlisted : reads_listing schema sql ≡ false) (e : Error) where

@@ -1,35 +1,15 @@
 -- A query under a schema that is known: what it shows and leaves, and why it fails.
-use Rattle.hub_store.specs.Failing.{HasReason}
-use Rattle.sqlite_sql.specs.Program.{ProgramOverflows}
 use Rattle.std.proofs.Common.{◌≡◌, ◌≢◌, inl, inr, ℕ, List, [], ◌∷◌, map, filter, true, false, IsSome, Option, Ok, refl, sym, ap, subst, ◌∙◌}
-use Rattle.std.specs.List.Sorted.{IsPermutation}
-use Rattle.std.proofs.lemmas.Bool.{true≢false}
-use Rattle.sqlite_value.specs.declared.value.Value.TheVariants.{Null}
-use Rattle.sqlite_value.specs.Order.{Row}
-use Rattle.sqlite_trees.specs.Tree.{Trees}
+use Rattle.{std.{proofs.lemmas.Bool.true≢false, specs.List.Sorted.IsPermutation}, sqlite_sql.specs.{Program.ProgramOverflows, Query.{Query, IsAnswer}}}
+use Rattle.{sqlite_sql.specs.Term.Term, sqlite_value.specs.{Order.Row, declared.value.Value.TheVariants.Null}, sqlite_trees.specs.Tree.Trees}
+use Rattle.{sqlite_schema.specs.declared.{command.Command.TheVariants.Select, schema.Schema.Schema}, sqlite_typing.specs.Types.accepts_program}
+use Rattle.sqlite.{proofs.Callers.{IsPlain, command_of, reads_as, unchanged_then}, specs.{Effect.{Database, RefusesQuery}, Held.{Held, state}}}
+use Rattle.sqlite.specs.{Listing.{understood, reads_listing}, State.{IsUnchanged, Shown}, declared.error.Error.{Error, TheVariants.SqliteFailure}}
+use Rattle.hub_store.proofs.{LookUps.Finding.seen_through, Rows.{Forms.{one_table, program}, Outcomes.plain_shown, Statements.{keeps, shows, selected}}}
+use Rattle.hub_store.{proofs.{Rows.Statements.overlaid, Versions.{Causes.{IsWhole, plain_of, reason_after}, QueryCauses.query_fails}}, specs.Failing.HasReason}
+use Rattle.hub_store.specs.{Holdings.{Holding, IsHeld}, inner.{Queries.{HasShown, HasRefused}, Remakes.ShowsOf}}
 use Rattle.sqlite_trees.specs.declared.store.Store as store
-use Rattle.sqlite_sql.specs.Term.{Term}
-use Rattle.sqlite_sql.specs.Query.{Query, IsAnswer}
-use Rattle.sqlite_schema.specs.declared.command.Command.TheVariants.{Select}
-use Rattle.sqlite_schema.specs.declared.schema.Schema.{Schema}
-use Rattle.sqlite_typing.specs.Types.{accepts_program}
-use Rattle.sqlite.specs.declared.error.Error.{Error}
-use Rattle.sqlite.specs.declared.error.Error.TheVariants.{SqliteFailure}
 use Rattle.sqlite.specs.declared.error.ErrorCode.TheVariants as code
-use Rattle.sqlite.specs.Effect.{Database, RefusesQuery}
-use Rattle.sqlite.specs.Held.{Held, state}
-use Rattle.sqlite.specs.Listing.{understood, reads_listing}
-use Rattle.sqlite.specs.State.{IsUnchanged, Shown}
-use Rattle.sqlite.proofs.Callers.{IsPlain, command_of, reads_as, unchanged_then}
-use Rattle.hub_store.specs.Holdings.{Holding, IsHeld}
-use Rattle.hub_store.specs.inner.Queries.{HasShown, HasRefused}
-use Rattle.hub_store.specs.inner.Remakes.{ShowsOf}
-use Rattle.hub_store.proofs.Versions.Causes.{IsWhole, plain_of, reason_after}
-use Rattle.hub_store.proofs.LookUps.Finding.{seen_through}
-use Rattle.hub_store.proofs.Rows.Forms.{one_table, program}
-use Rattle.hub_store.proofs.Versions.QueryCauses.{query_fails}
-use Rattle.hub_store.proofs.Rows.Outcomes.{plain_shown}
-use Rattle.hub_store.proofs.Rows.Statements.{keeps, shows, selected, overlaid}
 
 -- For a schema and a text that are written out each field but the last is `refl`.
 pub record IsReading (schema : Schema) (text : List ℕ) (params : Row) (query : Query) (heads : List (List ℕ)) : Type 0 where

@@ -1,32 +1,14 @@
 -- The text that asks for the version can be compiled if there is the column.
-use Rattle.sqlite_rules.proofs.ListLemmas.{has_got}
-use Rattle.std.proofs.Common.{◌≡◌, ◌<◌, ◌+◌, ◌^◌, ◌≤◌, ◌==◌, inl, inr, ℕ, List, [], ◌∷◌, Bool, true, false, cond, nat_le, count_by, is_some, slice_get, option_map, Some, None, Ok, Err, refl, sym, ap, subst, ◌∙◌, add-one, eq-eqb, arith}
-use Rattle.std.specs.List.{find}
-use Rattle.std.proofs.lemmas.Bool.{true≢false}
-use Rattle.std.proofs.lemmas.Bool.Decides.{leb_tells}
-use Rattle.std.proofs.lemmas.List.Sums.{sum_by-cons}
-use Rattle.std.proofs.lemmas.Option.{slice_get-map}
+use Rattle.std.proofs.Common.{◌≡◌, ◌<◌, ◌+◌, ◌^◌, ◌≤◌, ◌==◌, inl, inr, ℕ, List, [], ◌∷◌, Bool, true, false, cond, nat_le, count_by, is_some, slice_get}
+use Rattle.std.proofs.{Common.{option_map, Some, None, Ok, Err, refl, sym, ap, subst, ◌∙◌, add-one, eq-eqb, arith}, lemmas.Bool.{true≢false, Decides.leb_tells}}
+use Rattle.{std.{proofs.lemmas.{List.Sums.sum_by-cons, Option.slice_get-map}, specs.List.find}, sqlite_rules.{proofs.ListLemmas.has_got, specs.Lists.Has}}
+use Rattle.sqlite_schema.specs.{Names.{place_of, is_key}, declared.{command.Command.TheVariants.Select, schema.{Column.Column, Schema.Schema, Table.Table}}}
+use Rattle.sqlite_typing.specs.{Types.{accepts_program, table_classes, row_classes, column_class, class_in}, declared.class.Class.Class}
+use Rattle.{sqlite_resolve.specs.{Compile.compiled, Lowering.Checked, declared.compiled.Compiled.Compiled}, sqlite_catalog.proofs.LayoutLemmas.zipped_left}
+use Rattle.{sqlite_catalog.specs.Listing.IsTableRow, sqlite.specs.{Effect.{Database, IsDatabase, RefusesToRead}, Listing.{understood, if_select, misses_table}}}
+use Rattle.{sqlite.specs.{Listing.listing_schema, declared.error.Error.Error}, hub_store.proofs.{Rows.Forms.program, Versions.AnySchema.{column_query, asks}}}
+use Rattle.hub_store.{proofs.Versions.{AnySchema.{reads, typed}, VersionRows.with_place}, specs.Versions.{version_column, version_text}}
 use Rattle.sqlite_schema.specs.declared.schema.Kind.TheVariants as kind
-use Rattle.sqlite_schema.specs.declared.schema.Column.{Column}
-use Rattle.sqlite_schema.specs.declared.schema.Table.{Table}
-use Rattle.sqlite_schema.specs.declared.schema.Schema.{Schema}
-use Rattle.sqlite_schema.specs.declared.command.Command.TheVariants.{Select}
-use Rattle.sqlite_schema.specs.Names.{place_of, is_key}
-use Rattle.sqlite_typing.specs.declared.class.Class.{Class}
-use Rattle.sqlite_typing.specs.Types.{accepts_program, table_classes, row_classes, column_class, class_in}
-use Rattle.sqlite_rules.specs.Lists.{Has}
-use Rattle.sqlite_resolve.specs.declared.compiled.Compiled.{Compiled}
-use Rattle.sqlite_resolve.specs.Lowering.{Checked}
-use Rattle.sqlite_resolve.specs.Compile.{compiled}
-use Rattle.sqlite_catalog.specs.Listing.{IsTableRow}
-use Rattle.sqlite_catalog.proofs.LayoutLemmas.{zipped_left}
-use Rattle.sqlite.specs.declared.error.Error.{Error}
-use Rattle.sqlite.specs.Effect.{Database, IsDatabase, RefusesToRead}
-use Rattle.sqlite.specs.Listing.{understood, if_select, misses_table, listing_schema}
-use Rattle.hub_store.specs.Versions.{version_column, version_text}
-use Rattle.hub_store.proofs.Rows.Forms.{program}
-use Rattle.hub_store.proofs.Versions.AnySchema.{column_query, asks, reads, typed}
-use Rattle.hub_store.proofs.Versions.VersionRows.{with_place}
 
 -- ---- lists
 

@@ -1,40 +1,18 @@
 -- The statements that make a table anew, for any parts.
-use Rattle.std.proofs.Common.{◌≡◌, ◌≢◌, ℕ, ◌+◌, ◌<◌, List, [], ◌∷◌, ◌++◌, map, flat_map, take, drop, length, get_or, Result, Ok, IfErr, OnOk, IsTrue, take-append-drop, refl, sym, ap, ap₂, subst, ◌∙◌}
-use Rattle.std.specs.List.Sorted.{IsPermutation}
-use Rattle.std.proofs.lemmas.List.{take_more, map-append, at_drop_more}
-use Rattle.std.proofs.lemmas.Result.{IfErr-weaker}
-use Rattle.std.proofs.lemmas.List.Sorted.{IsPermutation-middle, IsPermutation-sym}
-use Rattle.sqlite_value.specs.Value.{owned}
-use Rattle.sqlite_value.specs.declared.value.Value.TheVariants.{Null}
-use Rattle.sqlite_value.specs.declared.value.ValueRef.{ValueRef}
-use Rattle.sqlite_value.specs.Order.{Row, column}
-use Rattle.sqlite_schema.specs.declared.schema.Index.{Index}
-use Rattle.sqlite_schema.specs.declared.schema.Table.{Table}
-use Rattle.sqlite_catalog.specs.Change.{created, next_tree, without_table}
+use Rattle.std.proofs.Common.{◌≡◌, ◌≢◌, ℕ, ◌+◌, ◌<◌, List, [], ◌∷◌, ◌++◌, map, flat_map, take, drop, length, get_or, Result, Ok, IfErr, OnOk, IsTrue}
+use Rattle.std.proofs.{Common.{take-append-drop, refl, sym, ap, ap₂, subst, ◌∙◌}, lemmas.List.{take_more, map-append, at_drop_more}}
+use Rattle.std.{proofs.lemmas.{List.Sorted.{IsPermutation-middle, IsPermutation-sym}, Result.IfErr-weaker}, specs.List.Sorted.IsPermutation}
+use Rattle.sqlite_value.specs.{Order.{Row, column}, Value.owned, declared.value.{Value.TheVariants.Null, ValueRef.ValueRef}}
+use Rattle.{sqlite_schema.specs.declared.schema.{Index.Index, Table.Table}, sqlite_catalog.specs.Change.{created, next_tree, without_table}}
+use Rattle.sqlite.specs.{Effect.Database, Held.{Held, state}, State.{State, HasCleanDisk, Survives}, Values.{bound, bound_value}, declared.error.Error.Error}
+use Rattle.{sqlite.specs.declared.error.Error.TheVariants.SqliteFailure, hub_store.proofs.Edits.{Inside.goes_asked, Steps.on_ok}}
+use Rattle.hub_store.proofs.{Rows.{PartRows.exchanged_rows, Parts.{drops, adds}}, Versions.Causes.{IsCreation, plain_of, fails_for_reason, reason_after}}
+use Rattle.hub_store.{proofs.Versions.{Creates.made_by, DropCauses.{IsDropping, drop_fails}, Drops.dropped_by}, specs.{Failing.HasReason, Keeps.{Goes, HasRun}}}
+use Rattle.hub_store.specs.{Keeps.HasFailed, Layout.{Step, apart_from, made_anew}, Parts.{Part, indexes_of, schema_of, HoldsParts}, inner.Beside.AreNumbered}
+use Rattle.hub_store.specs.inner.{Makes.{Makes, FailsOnly, Creates}, Queries.{HasShown, HasRefused}, Remakes.{Leaves, FailsForReason, ShowsOf}}
+use Rattle.hub_store.specs.inner.Remakes.{IsRefusedForReason, HoldsAnew}
 use Rattle.sqlite_trees.specs.declared.store.Store as store
-use Rattle.sqlite.specs.declared.error.Error.{Error}
-use Rattle.sqlite.specs.declared.error.Error.TheVariants.{SqliteFailure}
 use Rattle.sqlite.specs.declared.error.ErrorCode.TheVariants as code
-use Rattle.sqlite.specs.Effect.{Database}
-use Rattle.sqlite.specs.Held.{Held, state}
-use Rattle.sqlite.specs.State.{State, HasCleanDisk, Survives}
-use Rattle.sqlite.specs.Values.{bound, bound_value}
-use Rattle.hub_store.specs.Failing.{HasReason}
-use Rattle.hub_store.specs.Keeps.{Goes, HasRun, HasFailed}
-use Rattle.hub_store.specs.inner.Makes.{Makes, FailsOnly, Creates}
-use Rattle.hub_store.specs.inner.Queries.{HasShown, HasRefused}
-use Rattle.hub_store.specs.Layout.{Step, apart_from, made_anew}
-use Rattle.hub_store.specs.Parts.{Part, indexes_of, schema_of, HoldsParts}
-use Rattle.hub_store.specs.inner.Beside.{AreNumbered}
-use Rattle.hub_store.specs.inner.Remakes.{Leaves, FailsForReason, ShowsOf, IsRefusedForReason, HoldsAnew}
-use Rattle.hub_store.proofs.Versions.Causes.{IsCreation, plain_of, fails_for_reason, reason_after}
-use Rattle.hub_store.proofs.Versions.Creates.{made_by}
-use Rattle.hub_store.proofs.Versions.Drops.{dropped_by}
-use Rattle.hub_store.proofs.Versions.DropCauses.{IsDropping, drop_fails}
-use Rattle.hub_store.proofs.Rows.Parts.{drops, adds}
-use Rattle.hub_store.proofs.Edits.Inside.{goes_asked}
-use Rattle.hub_store.proofs.Rows.PartRows.{exchanged_rows}
-use Rattle.hub_store.proofs.Edits.Steps.{on_ok}
 
 -- ---- DROP of one part, to which nothing refers: for parts that are written out, `refl` proves the last premise
 

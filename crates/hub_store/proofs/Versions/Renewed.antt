@@ -1,23 +1,12 @@
 -- What a migration returns, by what the query for the version left and then the steps.
-use Rattle.std.proofs.Common.{◌≡◌, ◌≢◌, ◌≤◌, ◌⊎◌, inl, inr, ℕ, Bool, true, false, IsTrue, IsSome, Some, refl, sym, subst, ◌∙◌, arith}
-use Rattle.std.proofs.lemmas.Bool.{true≢false}
-use Rattle.sqlite_trees.specs.Tree.{Trees}
-use Rattle.sqlite.specs.Effect.{Database}
-use Rattle.sqlite.specs.State.{State, HasCleanDisk, Survives}
-use Rattle.sqlite.proofs.StateLemmas.{survives_then}
+use Rattle.std.proofs.{Common.{◌≡◌, ◌≤◌, ◌⊎◌, inl, inr, ℕ, Bool, true, false, IsTrue, IsSome, Some, refl, sym, subst, ◌∙◌, arith}, lemmas.Bool.true≢false}
+use Rattle.{sqlite_trees.specs.Tree.Trees, sqlite.{proofs.StateLemmas.survives_then, specs.{Effect.Database, State.{State, HasCleanDisk, Survives}}}}
+use Rattle.{hub_state.specs.declared.shelf.ShelfFault.ShelfFault, hub_store.proofs.{Edits.Runs.kept_has, Versions.VersionHeld.{older_tells, newest_tells}}}
+use Rattle.hub_store.specs.{Content.{HasAs, Has, CommitsState}, Failing.HasReason, Keeps.KeepsCommitted, Means.HoldsAs, Opening.{newest, is_older, opened_as}}
+use Rattle.hub_store.specs.{Opening.{IsMigrationFault, IsRenewed, IsRenewedFrom, IsBrought, IsNotBrought, IsMigrated, IsUnmigrated}, Versions.version_of}
+use Rattle.hub_store.specs.declared.sql_shelf.OpenFault.{OpenFault, TheVariants.{Failed, NoMemory}}
 use Rattle.hub_state.specs.State as core
-use Rattle.hub_state.specs.declared.shelf.ShelfFault.{ShelfFault}
 use Rattle.hub_state.specs.declared.shelf.ShelfFault.TheVariants as shelf
-use Rattle.hub_store.specs.declared.sql_shelf.OpenFault.{OpenFault}
-use Rattle.hub_store.specs.declared.sql_shelf.OpenFault.TheVariants.{Failed, NoMemory}
-use Rattle.hub_store.specs.Content.{HasAs, Has, CommitsState}
-use Rattle.hub_store.specs.Failing.{HasReason}
-use Rattle.hub_store.specs.Keeps.{KeepsCommitted}
-use Rattle.hub_store.specs.Means.{HoldsAs}
-use Rattle.hub_store.specs.Opening.{newest, is_older, opened_as, IsMigrationFault, IsRenewed, IsRenewedFrom, IsBrought, IsNotBrought, IsMigrated, IsUnmigrated}
-use Rattle.hub_store.specs.Versions.{version_of}
-use Rattle.hub_store.proofs.Edits.Runs.{kept_has}
-use Rattle.hub_store.proofs.Versions.VersionHeld.{older_tells, newest_tells}
 
 pub committed_has : (old new : State) (v : ℕ) (s : core.State) → HasAs v old s → CommitsState new s → Has new s
 committed_has old new v s has it = record { sound = has.sound; holds = λ _. it.holds; settled = λ _. it.settled }

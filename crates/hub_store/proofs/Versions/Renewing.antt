@@ -1,18 +1,10 @@
 -- Why a store of an older version that stands for a state isn't brought to the newest.
-use Rattle.std.proofs.Common.{◌≡◌, ◌≤◌, inl, inr, ℕ, Bool, true, false, is_some, IsTrue, refl, sym, subst}
-use Rattle.sqlite_trees.specs.declared.store.Store as store
-use Rattle.sqlite_schema.specs.Names.{same_name}
-use Rattle.sqlite.specs.Held.{Held, state}
-use Rattle.sqlite.specs.State.{State, IsLive}
-use Rattle.hub_state.specs.State as core
-use Rattle.hub_store.specs.Content.{HasAs}
-use Rattle.hub_store.specs.Failing.{HasReason}
-use Rattle.hub_store.specs.Opening.{is_older}
-use Rattle.hub_store.specs.Tables.{schema_by}
+use Rattle.{std.proofs.Common.{◌≡◌, ◌≤◌, inl, inr, ℕ, Bool, true, false, is_some, IsTrue, refl, sym, subst}, sqlite_schema.specs.Names.same_name}
+use Rattle.{sqlite.specs.{Held.{Held, state}, State.{State, IsLive}}, hub_store.proofs.{Edits.Runs.has_now, Versions.Causes.reason_before}}
+use Rattle.hub_store.{proofs.Versions.VersionHeld.{IsOneOfThree, older_is}, specs.{Content.HasAs, Failing.HasReason, Opening.is_older, Tables.schema_by}}
 use Rattle.hub_store.specs.Versions.{version_column}
-use Rattle.hub_store.proofs.Versions.Causes.{reason_before}
-use Rattle.hub_store.proofs.Edits.Runs.{has_now}
-use Rattle.hub_store.proofs.Versions.VersionHeld.{IsOneOfThree, older_is}
+use Rattle.sqlite_trees.specs.declared.store.Store as store
+use Rattle.hub_state.specs.State as core
 
 column_there : (v : ℕ) → IsOneOfThree v → is_some (version_column (schema_by v)) ≡ true
 unfolding same_name

@@ -1,25 +1,12 @@
 -- The rows that a table takes: the same in another order, the first of them, and no conflict between them.
-use Rattle.std.proofs.Common.{◌≡◌, inl, inr, ◌+◌, ◌<◌, ◌^◌, ◌&&◌, ◌||◌, List, [], ◌∷◌, ◌++◌, map, Bool, false, refl, sym, ap, subst, ◌∙◌, arith}
-use Rattle.std.specs.List.{AllByRecursion, list_any}
-use Rattle.std.specs.List.Sorted.{IsPermutation}
-use Rattle.std.proofs.lemmas.Cmp.{tied_itself}
-use Rattle.std.proofs.lemmas.List.{length-append}
-use Rattle.std.proofs.lemmas.List.Sorted.{length_permutation, IsPermutation-append_comm, IsPermutation-sym}
-use Rattle.std.proofs.Math.Bool.{and-false}
-use Rattle.sqlite_value.specs.declared.value.Value.{Value}
-use Rattle.sqlite_value.specs.declared.value.Value.TheVariants.{Null, Int, Real, Text, Blob}
-use Rattle.sqlite_value.specs.Order.{Row}
-use Rattle.sqlite_value.proofs.OrderLemmas.{value_cmp_total}
-use Rattle.sqlite_sql.specs.Ops.{binary}
-use Rattle.sqlite_schema.specs.Rules.{differ}
-use Rattle.sqlite_rules.specs.Lists.{Has}
-use Rattle.hub_store.specs.Fit.{ShortItem}
-use Rattle.hub_state.specs.declared.state.Naming.{Naming}
-use Rattle.hub_store.specs.Items.{item_row}
-use Rattle.hub_store.specs.inner.Beside.{CanHold, CanName, CanStand, NumberedApart, ShortNamingAs, Unlike, IsRowOf, CanNumber}
-use Rattle.sqlite_trees.specs.Tree.{IsAscending, rowid}
-use Rattle.sqlite_trees.proofs.ListLemmas.{all-map, all-permutation, all_weaker, along_permutation, ascending-map, ascending_from_map, ascending_weaker}
-use Rattle.sqlite_rules.proofs.ListLemmas.{all_has}
+use Rattle.std.proofs.Common.{◌≡◌, inl, inr, ◌<◌, ◌^◌, ◌&&◌, ◌||◌, List, [], ◌∷◌, ◌++◌, map, Bool, false, refl, sym, ap, subst, ◌∙◌, arith}
+use Rattle.std.proofs.{Math.Bool.and-false, lemmas.{Cmp.tied_itself, List.{length-append, Sorted.{length_permutation, IsPermutation-append_comm}}}}
+use Rattle.std.{proofs.lemmas.List.Sorted.IsPermutation-sym, specs.List.{AllByRecursion, list_any, Sorted.IsPermutation}}
+use Rattle.sqlite_value.{proofs.OrderLemmas.value_cmp_total, specs.{Order.Row, declared.value.Value.{Value, TheVariants.{Null, Int, Real, Text, Blob}}}}
+use Rattle.{sqlite_sql.specs.Ops.binary, sqlite_schema.specs.Rules.differ, sqlite_rules.{proofs.ListLemmas.all_has, specs.Lists.Has}}
+use Rattle.{hub_state.specs.declared.state.Naming.Naming, sqlite_trees.proofs.ListLemmas.{all-map, all-permutation, all_weaker, along_permutation}}
+use Rattle.sqlite_trees.{proofs.ListLemmas.{ascending-map, ascending_from_map, ascending_weaker}, specs.Tree.{IsAscending, rowid}}
+use Rattle.hub_store.specs.{Fit.ShortItem, Items.item_row, inner.Beside.{CanHold, CanName, CanStand, NumberedApart, ShortNamingAs, Unlike, IsRowOf, CanNumber}}
 
 -- ---- pairs
 

@@ -1,27 +1,12 @@
 -- Rows that a text puts into the last part, and the rows of a step, which are put one after another in any order.
-use Rattle.std.proofs.Common.{◌≡◌, inl, List, [], ◌∷◌, ◌++◌, map, ℕ, Ok, refl, sym, ap, subst}
-use Rattle.std.specs.List.Sorted.{IsPermutation}
-use Rattle.std.proofs.lemmas.List.{map-append}
-use Rattle.std.proofs.lemmas.List.Sorted.{IsPermutation-map, IsPermutation-sym}
-use Rattle.sqlite_value.specs.Order.{Row}
-use Rattle.sqlite_trees.specs.declared.store.Store as store
-use Rattle.sqlite_trees.proofs.ListLemmas.{map-map}
-use Rattle.sqlite_schema.specs.declared.schema.Keys.TheVariants.{Enforced}
-use Rattle.sqlite_rules.specs.declared.error.Rowids.TheVariants.{Chosen}
-use Rattle.sqlite_rules.specs.Edit.{Applies, numbered}
-use Rattle.sqlite_rules.proofs.ProbeLemmas.{has_mapped}
-use Rattle.sqlite.specs.State.{State, Executes}
-use Rattle.sqlite.specs.Values.{bound_value}
-use Rattle.hub_store.specs.Holdings.{IsHeld}
-use Rattle.hub_store.specs.Layout.{Step}
-use Rattle.hub_store.specs.Parts.{Part, HoldsParts, held, schema_of}
+use Rattle.std.proofs.{Common.{◌≡◌, inl, List, [], ◌∷◌, ◌++◌, map, ℕ, Ok, refl, sym, ap, subst}, lemmas.List.{map-append, Sorted.IsPermutation-map}}
+use Rattle.{std.{proofs.lemmas.List.Sorted.IsPermutation-sym, specs.List.Sorted.IsPermutation}, sqlite_value.specs.Order.Row}
+use Rattle.{sqlite_trees.proofs.ListLemmas.map-map, sqlite_schema.specs.declared.schema.Keys.TheVariants.Enforced, sqlite_rules.proofs.ProbeLemmas.has_mapped}
+use Rattle.{sqlite_rules.specs.{Edit.{Applies, numbered}, declared.error.Rowids.TheVariants.Chosen}, sqlite.specs.{State.{State, Executes}, Values.bound_value}}
+use Rattle.hub_store.proofs.Rows.{Held.{come_in, permuted}, Lists.has_permuted, PartRows.{Stands, changes, with_rows}, Statements.inserted}
+use Rattle.hub_store.{proofs.Versions.{Causes.plain_of, Inserts.IsInsert}, specs.{Holdings.IsHeld, Layout.Step, Parts.{Part, HoldsParts, held, schema_of}}}
 use Rattle.hub_store.specs.inner.Remakes.{FailsForReason, HoldsAnew, Leaves, PutsEach, TakesEach}
-use Rattle.hub_store.proofs.Versions.Causes.{plain_of}
-use Rattle.hub_store.proofs.Rows.Held.{come_in, permuted}
-use Rattle.hub_store.proofs.Versions.Inserts.{IsInsert}
-use Rattle.hub_store.proofs.Rows.Lists.{has_permuted}
-use Rattle.hub_store.proofs.Rows.PartRows.{Stands, changes, with_rows}
-use Rattle.hub_store.proofs.Rows.Statements.{inserted}
+use Rattle.sqlite_trees.specs.declared.store.Store as store
 
 -- the rows that a text puts are in their part
 pub puts_rows : (qs : List Part) (p : Part) (rs : List Part) (at : ℕ) → Stands qs p rs at → (text : List ℕ) (params : Row) (rows : List Row) → IsInsert (schema_of (qs ++ p ∷ rs)) p.table at text params rows

@@ -1,49 +1,21 @@
 -- The texts of the step to version 3: what each makes, and that it fails only for a limit on steps.
-use Rattle.hub_store.proofs.Versions.Standing.{number_before, number_permuted}
-use Rattle.hub_store.proofs.Versions.WriteCauses.{IsWritable}
-use Rattle.sqlite_rules.specs.Cast.{cast_row}
-use Rattle.hub_store.proofs.Rows.Forms.{one_table}
+use Rattle.std.proofs.{Common.{◌≡◌, ℕ, pos, List, [], ◌∷◌, map, drop, take, codes, refl, subst, ◌<◌, ◌^◌, suc, arith, ◌∙◌, inl, inr, ap}, lemmas.Bool.lt-ltb}
+use Rattle.{std.proofs.lemmas.List.Sorted.IsPermutation-refl, sqlite_rules.specs.{Cast.cast_row, Edit.numbered}, sqlite_value.specs.Order.{Row, column}}
+use Rattle.{sqlite_value.specs.declared.value.Value.TheVariants.{Null, Int}, sqlite_sql.specs.Term.{Term, col, lit}}
+use Rattle.{sqlite_schema.specs.declared.schema.{Schema.Schema, Table.Table}, sqlite_catalog.specs.Change.without_table, sqlite_tied.specs.Compute.everything}
+use Rattle.{sqlite.specs.{Effect.Database, Held.state, Listing.understood}, hub_state.specs.{Sound.IsSound, State.grantee_key}}
+use Rattle.{hub_state.specs.declared.state.Permission.Permission, sqlite_trees.proofs.ListLemmas.map-map, hub_store.proofs.Rows.Compare.{cast_int, cast_null}}
+use Rattle.hub_store.proofs.{Rows.{Forms.one_table, Held.bare, PartRows.{Stands, puts}, Parts.AreHeld, Statements.shows}, Versions.Causes.{IsCreation, naming}}
+use Rattle.hub_store.proofs.Versions.{DropCauses.IsDropping, Grantable.{grants_stand, as_kept}, Inserts.{IsFitRow, IsInsert, IsKeyed, behind_fails}}
+use Rattle.hub_store.proofs.Versions.{Inserts.insert_counts, ReadRows.{IsReading, reads_rows, read_fails}, Remaking.{drops_leave, drops_fail, creates_leave}}
+use Rattle.hub_store.proofs.Versions.{Remaking.creates_fail, Standing.{number_before, number_permuted}, StepRows.{puts_each, puts_rows, takes_each}}
+use Rattle.hub_store.{proofs.Versions.WriteCauses.IsWritable, specs.{Fit.{FitAs, AreEndless, AreTaken, IsShort}, Layout.{hub_part, under, apart_from}}}
+use Rattle.hub_store.specs.{Layout.{made_anew, permission_part, permission_part_3, permission_step, parts_2}, Means.HoldsAs, Parts.{Part, held, HoldsParts}}
+use Rattle.hub_store.specs.{Rows.{endless_row, without_end}, Tables.{schema_by, permission_table, permission_table_3}}
+use Rattle.hub_store.specs.{declared.next_version.TheConstants.{READ_PERMISSIONS, DROP_PERMISSIONS, CREATE_PERMISSIONS, PUT_PERMISSION}, inner.Beside.CanGrant}
+use Rattle.hub_store.specs.inner.{Beside.{IsRowOf, Unlike, ending_row}, Remakes.{StepTexts, Leaves, MakeAnew, Remakes, TakesEach, HoldsAnew, FailsForReason}}
 use Rattle.sqlite_trees.specs.declared.store.Store as store
 use Rattle.hub_state.specs.State as core
-use Rattle.std.proofs.Common.{◌≡◌, ℕ, pos, List, [], ◌∷◌, map, drop, take, codes, refl, subst, ◌<◌, ◌^◌, suc, arith, ◌∙◌, inl, inr, ap}
-use Rattle.std.proofs.lemmas.List.Sorted.{IsPermutation-refl}
-use Rattle.sqlite_value.specs.declared.value.Value.TheVariants.{Null, Int}
-use Rattle.sqlite_value.specs.Order.{Row, column}
-use Rattle.sqlite_sql.specs.Term.{Term, col, lit}
-use Rattle.sqlite_schema.specs.declared.schema.Schema.{Schema}
-use Rattle.sqlite_catalog.specs.Change.{without_table}
-use Rattle.sqlite_tied.specs.Compute.{everything}
-use Rattle.sqlite.specs.Effect.{Database}
-use Rattle.sqlite.specs.Held.{state}
-use Rattle.sqlite.specs.Listing.{understood}
-use Rattle.hub_state.specs.Sound.{IsSound}
-use Rattle.hub_state.specs.declared.state.Permission.{Permission}
-use Rattle.hub_store.specs.declared.next_version.TheConstants.{READ_PERMISSIONS, DROP_PERMISSIONS, CREATE_PERMISSIONS, PUT_PERMISSION}
-use Rattle.hub_store.specs.Fit.{FitAs, AreEndless, AreTaken, IsShort}
-use Rattle.hub_store.specs.Layout.{hub_part, under, apart_from, made_anew, permission_part, permission_part_3, permission_step, parts_2}
-use Rattle.hub_store.specs.Means.{HoldsAs}
-use Rattle.hub_store.specs.Parts.{Part, held, HoldsParts}
-use Rattle.hub_store.specs.Rows.{endless_row, without_end}
-use Rattle.hub_store.specs.Tables.{schema_by, permission_table, permission_table_3}
-use Rattle.hub_store.specs.inner.Remakes.{StepTexts, Leaves, MakeAnew, Remakes, TakesEach, HoldsAnew, FailsForReason}
-use Rattle.hub_store.proofs.Versions.Causes.{IsCreation, naming}
-use Rattle.hub_store.proofs.Versions.DropCauses.{IsDropping}
-use Rattle.hub_store.proofs.Rows.PartRows.{Stands, puts}
-use Rattle.hub_store.proofs.Rows.Parts.{AreHeld}
-use Rattle.hub_store.proofs.Rows.Statements.{shows}
-use Rattle.hub_store.proofs.Versions.ReadRows.{IsReading, reads_rows, read_fails}
-use Rattle.hub_store.proofs.Versions.Remaking.{drops_leave, drops_fail, creates_leave, creates_fail}
-use Rattle.std.proofs.lemmas.Bool.{lt-ltb}
-use Rattle.sqlite_schema.specs.declared.schema.Table.{Table}
-use Rattle.sqlite_rules.specs.Edit.{numbered}
-use Rattle.hub_state.specs.State.{grantee_key}
-use Rattle.hub_store.proofs.Rows.Compare.{cast_int, cast_null}
-use Rattle.hub_store.proofs.Rows.Held.{bare}
-use Rattle.hub_store.proofs.Versions.Inserts.{IsFitRow, IsInsert, IsKeyed, behind_fails, insert_counts}
-use Rattle.hub_store.specs.inner.Beside.{CanGrant, IsRowOf, Unlike, ending_row}
-use Rattle.hub_store.proofs.Versions.StepRows.{puts_each, puts_rows, takes_each}
-use Rattle.sqlite_trees.proofs.ListLemmas.{map-map}
-use Rattle.hub_store.proofs.Versions.Grantable.{grants_stand, as_kept}
 
 abbrev schema_2 : Schema
 schema_2 = schema_by 2

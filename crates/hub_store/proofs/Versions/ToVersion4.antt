@@ -1,50 +1,22 @@
 -- The texts of the step to version 4: what each makes, and that it fails only for a limit on steps.
-use Rattle.hub_store.proofs.Versions.Standing.{can_before, can_permuted}
-use Rattle.hub_store.proofs.Versions.WriteCauses.{IsWritable}
-use Rattle.sqlite_rules.specs.Cast.{cast_row}
-use Rattle.hub_store.proofs.Rows.Forms.{one_table}
+use Rattle.std.proofs.Common.{◌≡◌, ℕ, pos, List, [], ◌∷◌, ◌++◌, map, drop, take, codes, refl, sym, ap, ap₂, subst, ◌^◌, arith, inl, inr, ◌∙◌}
+use Rattle.{std.{proofs.lemmas.{Bool.lt-ltb, List.Sorted.IsPermutation-refl}, specs.List.AllByRecursion}, sqlite_rules.specs.Cast.cast_row}
+use Rattle.{sqlite_value.specs.{Order.{Row, column}, declared.value.Value.TheVariants.{Int, Null}}, sqlite_sql.specs.Term.{Term, col, lit}}
+use Rattle.{sqlite_schema.specs.declared.schema.{Schema.Schema, Table.Table}, sqlite_catalog.specs.Change.without_table, sqlite_tied.specs.Compute.everything}
+use Rattle.{sqlite.specs.{Effect.Database, Held.state, Listing.understood}, hub_state.specs.{Sound.IsSound, declared.state.{Incident.Incident, Naming.Naming}}}
+use Rattle.{sqlite_trees.proofs.ListLemmas.{map-map, all_both}, hub_store.proofs.Rows.{Compare.{cast_int, cast_null}, Forms.one_table, PartRows.{Stands, puts}}}
+use Rattle.hub_store.proofs.{Rows.Parts.AreHeld, Versions.{Causes.{IsCreation, naming}, DropCauses.IsDropping, Inserts.{IsFitRow, IsInsert, IsKeyed}}}
+use Rattle.hub_store.proofs.Versions.{Inserts.number_fails, Movable.names_stand_as, ReadRows.{IsReading, reads_rows, read_fails}, Remaking.drops_leave}
+use Rattle.hub_store.proofs.Versions.{Remaking.{drops_fail, creates_leave, creates_fail}, Standing.{can_before, can_permuted}, StepRows.{puts_each, puts_rows}}
+use Rattle.hub_store.{proofs.Versions.{StepRows.takes_each, WriteCauses.IsWritable}, specs.Fit.{AreTaken, IsFit, NamesNoCommunity, NoneNamesCommunity}}
+use Rattle.hub_store.specs.{Fit.{ShortNaming, IsShort}, Layout.{hub_part, under, apart_from, made_anew, incident_part_2, incident_part_4, incident_step}}
+use Rattle.hub_store.specs.{Layout.parts_3, Means.HoldsAs, Parts.{Part, held, HoldsParts}, Rows.{naming_row_2, named_row_2, named_row, without_community}}
+use Rattle.hub_store.specs.{Tables.{schema_by, incident_table_2, incident_table_4}, Values.number_or_null, declared.next_version.TheConstants.READ_INCIDENTS}
+use Rattle.hub_store.specs.{declared.next_version.TheConstants.{DROP_INCIDENTS, CREATE_INCIDENTS, PUT_INCIDENT}, inner.Beside.{CanName, IsRowOf, NumberedApart}}
+use Rattle.hub_store.specs.inner.{Beside.{ShortNamingAs, unnamed_row}, Moving.naming_in, Remakes.{StepTexts, Leaves, MakeAnew, Remakes, TakesEach, HoldsAnew}}
+use Rattle.hub_store.specs.inner.{Remakes.FailsForReason, Shown.naming_shown_2}
 use Rattle.sqlite_trees.specs.declared.store.Store as store
 use Rattle.hub_state.specs.State as core
-use Rattle.std.proofs.Common.{◌≡◌, ℕ, pos, List, [], ◌∷◌, ◌++◌, map, drop, take, codes, refl, sym, ap, ap₂, subst, ◌^◌, arith, inl, inr, ◌∙◌}
-use Rattle.std.specs.List.{AllByRecursion}
-use Rattle.std.proofs.lemmas.List.Sorted.{IsPermutation-refl}
-use Rattle.sqlite_value.specs.declared.value.Value.TheVariants.{Int, Null}
-use Rattle.sqlite_value.specs.Order.{Row, column, number}
-use Rattle.sqlite_sql.specs.Term.{Term, col, lit}
-use Rattle.sqlite_schema.specs.declared.schema.Schema.{Schema}
-use Rattle.sqlite_catalog.specs.Change.{without_table}
-use Rattle.sqlite_tied.specs.Compute.{everything}
-use Rattle.sqlite.specs.Effect.{Database}
-use Rattle.sqlite.specs.Held.{state}
-use Rattle.sqlite.specs.Listing.{understood}
-use Rattle.hub_state.specs.Sound.{IsSound}
-use Rattle.hub_state.specs.declared.state.Incident.{Incident}
-use Rattle.hub_state.specs.declared.state.Naming.{Naming}
-use Rattle.hub_store.specs.declared.next_version.TheConstants.{READ_INCIDENTS, DROP_INCIDENTS, CREATE_INCIDENTS, PUT_INCIDENT}
-use Rattle.hub_store.specs.Fit.{AreTaken, IsFit, NamesNoCommunity, NoneNamesCommunity, ShortNaming, IsShort}
-use Rattle.hub_store.specs.Layout.{hub_part, under, apart_from, made_anew, incident_part_2, incident_part_4, incident_step, parts_3}
-use Rattle.hub_store.specs.Means.{HoldsAs}
-use Rattle.hub_store.specs.Parts.{Part, held, HoldsParts}
-use Rattle.hub_store.specs.Rows.{naming_row_2, named_row_2, named_row, without_community}
-use Rattle.hub_store.specs.Tables.{schema_by, incident_table_2, incident_table_4}
-use Rattle.hub_store.specs.Values.{number_or_null}
-use Rattle.hub_store.specs.inner.Moving.{naming_in}
-use Rattle.hub_store.specs.inner.Remakes.{StepTexts, Leaves, MakeAnew, Remakes, TakesEach, HoldsAnew, FailsForReason}
-use Rattle.hub_store.specs.inner.Shown.{naming_shown_2}
-use Rattle.hub_store.proofs.Versions.Causes.{IsCreation, naming}
-use Rattle.hub_store.proofs.Versions.DropCauses.{IsDropping}
-use Rattle.hub_store.proofs.Rows.PartRows.{Stands, puts}
-use Rattle.hub_store.proofs.Rows.Parts.{AreHeld}
-use Rattle.hub_store.proofs.Versions.ReadRows.{IsReading, reads_rows, read_fails}
-use Rattle.hub_store.proofs.Versions.Remaking.{drops_leave, drops_fail, creates_leave, creates_fail}
-use Rattle.std.proofs.lemmas.Bool.{lt-ltb}
-use Rattle.sqlite_schema.specs.declared.schema.Table.{Table}
-use Rattle.hub_store.proofs.Rows.Compare.{cast_int, cast_null}
-use Rattle.hub_store.proofs.Versions.Inserts.{IsFitRow, IsInsert, IsKeyed, number_fails}
-use Rattle.hub_store.specs.inner.Beside.{CanName, IsRowOf, NumberedApart, ShortNamingAs, unnamed_row}
-use Rattle.hub_store.proofs.Versions.StepRows.{puts_each, puts_rows, takes_each}
-use Rattle.sqlite_trees.proofs.ListLemmas.{map-map, all_both}
-use Rattle.hub_store.proofs.Versions.Movable.{names_stand_as}
 
 abbrev schema_3 : Schema
 schema_3 = schema_by 3

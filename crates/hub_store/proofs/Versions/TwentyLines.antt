@@ -1,42 +1,18 @@
 -- Twenty lines, put by one statement.
-use Rattle.std.proofs.Common.{◌≡◌, ◌≢◌, ℕ, ◌*◌, suc, pos, List, [], ◌∷◌, ◌++◌, map, length, true, is_some, Ok, Err, codes, refl, sym, ap, subst, append-nil, ◌∙◌}
-use Rattle.sqlite_value.specs.declared.value.Value.TheVariants.{Int}
-use Rattle.sqlite_value.specs.Order.{Row}
-use Rattle.sqlite_schema.specs.declared.schema.Schema.{Schema}
-use Rattle.sqlite_schema.specs.declared.command.Source.TheVariants.{Values}
-use Rattle.sqlite_schema.specs.declared.command.Command.TheVariants.{Insert}
-use Rattle.sqlite_tied.specs.Compute.{everything}
-use Rattle.sqlite.specs.Effect.{value_rows}
-use Rattle.sqlite.specs.Listing.{understood}
+use Rattle.std.proofs.Common.{◌≡◌, ◌≢◌, ℕ, ◌*◌, suc, pos, List, [], ◌∷◌, ◌++◌, map, length, true, is_some, Ok, Err, codes, refl, sym, ap, subst, append-nil}
+use Rattle.{std.{proofs.{Common.◌∙◌, lemmas.List.Sorted.IsPermutation-sym}, specs.List.AllByRecursion}, sqlite_value.specs.Order.Row}
+use Rattle.{sqlite_value.specs.declared.value.Value.TheVariants.Int, sqlite_schema.specs.declared.command.Command.TheVariants.Insert}
+use Rattle.{sqlite_schema.specs.declared.{command.Source.TheVariants.Values, schema.Schema.Schema}, sqlite_tied.specs.Compute.everything}
+use Rattle.sqlite.{proofs.Callers.command_of, specs.{Effect.value_rows, Listing.understood, State.{Executes, ExecutesInside}, declared.error.Error.Error}}
+use Rattle.{sqlite.specs.declared.error.Error.TheVariants.SqliteFailure, sqlite_rules.specs.Cast.cast_row, sqlite_typing.specs.Types.{accepts_terms, class_of}}
+use Rattle.{hub_state.specs.{Documents.Lines, State.{State, empty}}, hub_store.proofs.Rows.{Held.{bare, past_rowids}, LineRows.{terms_for, rows_for}}}
+use Rattle.hub_store.proofs.{Rows.{LineRows.{cast_items, stands_between}, Places.item_place}, Versions.{Causes.IsWhole, Inserts.IsInsert}}
+use Rattle.hub_store.proofs.Versions.{LineCauses.{lines_fail, terms_accepted, lines_bound, lines_long}, Migrating.lines_beside, Standing.stand_permuted}
+use Rattle.hub_store.{proofs.Versions.StepRows.puts_rows, specs.{Failing.HasReason, Items.{items_from, item_row, placed_lines}, Layout.newest}}
+use Rattle.hub_store.specs.{Layout.{in_every_version, item_part, behind_items, newest_tables, with_items}, Means.HoldsBetween, Parts.{schema_of, HoldsParts}}
+use Rattle.hub_store.specs.{Tables.hub_schema, inner.{Beside.{HoldsBeside, CanStand}, PutsLines.HasMore}}
 use Rattle.sqlite.specs.State as sql
-use Rattle.sqlite.specs.State.{Executes, ExecutesInside}
-use Rattle.sqlite_rules.specs.Cast.{cast_row}
-use Rattle.sqlite.specs.declared.error.Error.{Error}
-use Rattle.sqlite.specs.declared.error.Error.TheVariants.{SqliteFailure}
 use Rattle.sqlite.specs.declared.error.ErrorCode.TheVariants as code
-use Rattle.sqlite_typing.specs.Types.{accepts_terms, class_of}
-use Rattle.std.specs.List.{AllByRecursion}
-use Rattle.std.proofs.lemmas.List.Sorted.{IsPermutation-sym}
-use Rattle.sqlite.proofs.Callers.{command_of}
-use Rattle.hub_state.specs.Documents.{Lines}
-use Rattle.hub_state.specs.State.{State, empty}
-use Rattle.hub_store.specs.Items.{items_from, item_row, placed_lines}
-use Rattle.hub_store.specs.Layout.{newest, in_every_version, item_part, behind_items, newest_tables, with_items}
-use Rattle.hub_store.specs.Parts.{schema_of, HoldsParts}
-use Rattle.hub_store.specs.Means.{HoldsBetween}
-use Rattle.hub_store.specs.inner.PutsLines.{HasMore}
-use Rattle.hub_store.specs.Tables.{hub_schema}
-use Rattle.hub_store.specs.inner.Beside.{HoldsBeside, CanStand}
-use Rattle.hub_store.specs.Failing.{HasReason}
-use Rattle.hub_store.proofs.Versions.Causes.{IsWhole}
-use Rattle.hub_store.proofs.Rows.Held.{bare, past_rowids}
-use Rattle.hub_store.proofs.Versions.LineCauses.{lines_fail, terms_accepted, lines_bound, lines_long}
-use Rattle.hub_store.proofs.Rows.LineRows.{terms_for, rows_for, cast_items, stands_between}
-use Rattle.hub_store.proofs.Versions.Migrating.{lines_beside}
-use Rattle.hub_store.proofs.Versions.Inserts.{IsInsert}
-use Rattle.hub_store.proofs.Versions.StepRows.{puts_rows}
-use Rattle.hub_store.proofs.Rows.Places.{item_place}
-use Rattle.hub_store.proofs.Versions.Standing.{stand_permuted}
 
 abbrev pub put_twenty : List ℕ
 put_twenty = codes "INSERT INTO item (incident, place, depth, name, in_array, kind, text) VALUES (?1, ?2, ?3, ?4, ?5, ?6, ?7), (?1, ?8, ?9, ?10, ?11, ?12, ?13), (?1, ?14, ?15, ?16, ?17, ?18, ?19), (?1, ?20, ?21, ?22, ?23, ?24, ?25), (?1, ?26, ?27, ?28, ?29, ?30, ?31), (?1, ?32, ?33, ?34, ?35, ?36, ?37), (?1, ?38, ?39, ?40, ?41, ?42, ?43), (?1, ?44, ?45, ?46, ?47, ?48, ?49), (?1, ?50, ?51, ?52, ?53, ?54, ?55), (?1, ?56, ?57, ?58, ?59, ?60, ?61), (?1, ?62, ?63, ?64, ?65, ?66, ?67), (?1, ?68, ?69, ?70, ?71, ?72, ?73), (?1, ?74, ?75, ?76, ?77, ?78, ?79), (?1, ?80, ?81, ?82, ?83, ?84, ?85), (?1, ?86, ?87, ?88, ?89, ?90, ?91), (?1, ?92, ?93, ?94, ?95, ?96, ?97), (?1, ?98, ?99, ?100, ?101, ?102, ?103), (?1, ?104, ?105, ?106, ?107, ?108, ?109), (?1, ?110, ?111, ?112, ?113, ?114, ?115), (?1, ?116, ?117, ?118, ?119, ?120, ?121)"

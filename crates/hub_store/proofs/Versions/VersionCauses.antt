@@ -1,52 +1,21 @@
 -- The statements that take the version and put another, with any tables after it, fail only for a limit on steps.
-use Rattle.sqlite_rules.specs.Cast.{cast_row}
-use Rattle.std.specs.Str.{bytes_eq}
-use Rattle.hub_store.specs.inner.Beside.{AreNumbered, IsRowOf, Unlike, CanNumber}
-use Rattle.hub_store.proofs.Rows.Held.{bare}
-use Rattle.hub_store.proofs.Versions.StepRows.{puts_rows}
-use Rattle.hub_store.proofs.Versions.Inserts.{IsFitRow, IsInsert, IsKeyed, behind_fails, is_own}
-use Rattle.std.proofs.Common.{◌≡◌, ◌≢◌, inl, inr, ℕ, ◌==◌, pos, List, [], ◌∷◌, map, drop, length, nat_lt, Bool, true, false, not, ◌||◌, ◌&&◌, IsSome, Option, Ok, Err, codes, refl, sym, ap, subst, ◌∙◌, arith, ◌<◌, ◌^◌}
-use Rattle.std.specs.List.{AllByRecursion, list_all}
-use Rattle.std.specs.List.Sorted.{IsPermutation}
-use Rattle.std.proofs.lemmas.Bool.{true≢false, and_parts, and_from, not-true, lt-ltb}
-use Rattle.std.proofs.lemmas.List.Sorted.{length_permutation, IsPermutation-refl}
-use Rattle.std.proofs.Math.Bool.{and-false}
-use Rattle.sqlite_value.specs.declared.value.Value.TheVariants.{Null, Int}
-use Rattle.sqlite_value.specs.Order.{Row}
-use Rattle.sqlite_trees.specs.Tree.{Trees, with_tree}
-use Rattle.sqlite_sql.specs.Term.{lit, col}
-use Rattle.sqlite_sql.specs.Query.{Query}
-use Rattle.sqlite_schema.specs.declared.command.Command.TheVariants.{Delete}
-use Rattle.sqlite_schema.specs.declared.schema.Constraint.TheVariants.{Datatype, NotNull, Check, PrimaryKey, Unique, ForeignKey}
-use Rattle.sqlite_schema.specs.declared.schema.Index.{Index}
-use Rattle.sqlite_schema.specs.declared.schema.Schema.{Schema}
-use Rattle.sqlite_schema.specs.declared.schema.Table.{Table}
-use Rattle.sqlite_schema.specs.declared.schema.Keys.TheVariants.{Enforced}
-use Rattle.sqlite_schema.specs.Rules.{Keeps, guards, clashes}
-use Rattle.sqlite_rules.specs.declared.error.Refusal.TheVariants.{Violates, Mismatch, NoRowid, BadReference, TooDeep}
-use Rattle.sqlite_rules.specs.declared.error.Rowids.TheVariants.{Given}
-use Rattle.sqlite_rules.specs.Calls.{ids_of}
-use Rattle.sqlite_rules.specs.Edit.{edit_of, numbered}
-use Rattle.sqlite_rules.proofs.ListLemmas.{test_has, test_from}
-use Rattle.sqlite_tied.specs.Compute.{everything}
-use Rattle.sqlite.specs.declared.error.Error.{Error}
-use Rattle.sqlite.specs.declared.error.Error.TheVariants.{SqliteFailure}
-use Rattle.sqlite.specs.declared.error.ErrorCode.TheVariants as code
-use Rattle.sqlite.specs.Effect.{IsDatabase, RefusesQuery}
-use Rattle.sqlite.specs.Listing.{understood}
-use Rattle.sqlite.specs.State.{State, Executes, ExecutesInside}
-use Rattle.sqlite.proofs.Callers.{statement_of}
-use Rattle.hub_store.specs.Failing.{HasReason}
-use Rattle.hub_store.specs.Layout.{hub_part, under}
-use Rattle.hub_store.specs.Parts.{Part, schema_of, are_beside, HoldsParts}
-use Rattle.hub_store.specs.Shapes.{hub_table}
+use Rattle.std.proofs.Common.{◌≡◌, ◌≢◌, inl, inr, ℕ, ◌==◌, pos, List, [], ◌∷◌, map, drop, length, nat_lt, Bool, true, false, not, ◌||◌, ◌&&◌, IsSome, Option}
+use Rattle.std.proofs.{Common.{Ok, Err, codes, refl, sym, ap, subst, ◌∙◌, arith, ◌<◌, ◌^◌}, Math.Bool.and-false, lemmas.Bool.{true≢false, and_parts, and_from}}
+use Rattle.std.{proofs.lemmas.{Bool.{not-true, lt-ltb}, List.Sorted.{length_permutation, IsPermutation-refl}}, specs.List.{AllByRecursion, list_all}}
+use Rattle.{std.specs.{List.Sorted.IsPermutation, Str.bytes_eq}, sqlite_rules.{proofs.ListLemmas.{test_has, test_from}, specs.{Calls.ids_of, Cast.cast_row}}}
+use Rattle.sqlite_rules.specs.{Edit.{edit_of, numbered}, declared.error.Refusal.TheVariants.{Violates, Mismatch, NoRowid, BadReference, TooDeep}}
+use Rattle.{sqlite_rules.specs.declared.error.Rowids.TheVariants.Given, sqlite_value.specs.{Order.Row, declared.value.Value.TheVariants.{Null, Int}}}
+use Rattle.{sqlite_trees.specs.Tree.{Trees, with_tree}, sqlite_sql.specs.{Query.Query, Term.{lit, col}}, sqlite_schema.specs.Rules.{Keeps, guards, clashes}}
+use Rattle.sqlite_schema.specs.declared.{command.Command.TheVariants.Delete, schema.Constraint.TheVariants.{Datatype, NotNull, Check, PrimaryKey, Unique}}
+use Rattle.sqlite_schema.specs.declared.schema.{Constraint.TheVariants.ForeignKey, Index.Index, Keys.TheVariants.Enforced, Schema.Schema, Table.Table}
+use Rattle.{sqlite_tied.specs.Compute.everything, sqlite.{proofs.Callers.statement_of, specs.{Effect.{IsDatabase, RefusesQuery}, Listing.understood}}}
+use Rattle.sqlite.specs.{State.{State, Executes, ExecutesInside}, declared.error.Error.{Error, TheVariants.SqliteFailure}}
+use Rattle.hub_store.proofs.Rows.{Compare.{cast_int, cast_null}, Forms.{one_table, program}, Held.bare, PartRows.{Stands, takes}, Texts.put_version}
 use Rattle.hub_store.proofs.Versions.Beside.{each_row, unreferred, unreferred_by, apart, none_referred, no_works, other_indexes, still_unique}
-use Rattle.hub_store.proofs.Versions.Causes.{fails_as}
-use Rattle.hub_store.proofs.Rows.Compare.{cast_int, cast_null}
-use Rattle.hub_store.proofs.Rows.Forms.{one_table, program}
-use Rattle.hub_store.proofs.Rows.PartRows.{Stands, takes}
-use Rattle.hub_store.proofs.Rows.Texts.{put_version}
-use Rattle.hub_store.proofs.Versions.WriteCauses.{Breaks, IsWritable, delete_stops}
+use Rattle.hub_store.proofs.Versions.{Causes.fails_as, Inserts.{IsFitRow, IsInsert, IsKeyed, behind_fails, is_own}, StepRows.puts_rows, WriteCauses.Breaks}
+use Rattle.hub_store.{proofs.Versions.WriteCauses.{IsWritable, delete_stops}, specs.{Failing.HasReason, Layout.{hub_part, under}, Parts.{Part, schema_of}}}
+use Rattle.hub_store.specs.{Parts.{are_beside, HoldsParts}, Shapes.hub_table, inner.Beside.{AreNumbered, IsRowOf, Unlike, CanNumber}}
+use Rattle.sqlite.specs.declared.error.ErrorCode.TheVariants as code
 
 abbrev pub take_version : List ℕ
 take_version = codes "DELETE FROM hub"

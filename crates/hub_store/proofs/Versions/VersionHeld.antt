@@ -1,19 +1,10 @@
 -- A store that holds a state in a version has that version.
-use Rattle.std.proofs.Common.{◌≡◌, ◌==◌, ◌⊎◌, inl, inr, ℕ, pos, List, [], ◌∷◌, map, drop, Bool, true, false, eqb-true, Some, IsTrue, refl, sym, subst, ap, ◌∙◌, arith}
-use Rattle.std.specs.List.Sorted.{IsPermutation}
-use Rattle.std.proofs.lemmas.Bool.Decides.{nat_tests}
-use Rattle.sqlite_value.specs.declared.value.Value.TheVariants.{Int}
-use Rattle.sqlite_value.specs.Order.{Row, column}
-use Rattle.sqlite_schema.specs.Names.{same_name}
-use Rattle.sqlite.specs.Effect.{Database}
-use Rattle.sqlite.specs.State.{State}
-use Rattle.sqlite.proofs.Callers.{one_permutation}
+use Rattle.std.proofs.Common.{◌≡◌, ◌==◌, ◌⊎◌, inl, inr, ℕ, pos, List, [], ◌∷◌, map, drop, Bool, true, false, eqb-true, Some, IsTrue, refl, sym, subst, ap, ◌∙◌}
+use Rattle.{std.{proofs.{Common.arith, lemmas.Bool.Decides.nat_tests}, specs.List.Sorted.IsPermutation}, sqlite_value.specs.Order.{Row, column}}
+use Rattle.{sqlite_value.specs.declared.value.Value.TheVariants.Int, sqlite_schema.specs.Names.same_name, sqlite.proofs.Callers.one_permutation}
+use Rattle.{sqlite.specs.{Effect.Database, State.State}, hub_store.{proofs.Rows.Compare.column_past, specs.{Content.{HasAs, Has}, Means.HoldsAs}}}
+use Rattle.hub_store.specs.{Opening.{newest, is_older}, Versions.{hub_of, versions_by, only_u32, version_of}}
 use Rattle.hub_state.specs.State as core
-use Rattle.hub_store.specs.Content.{HasAs, Has}
-use Rattle.hub_store.specs.Means.{HoldsAs}
-use Rattle.hub_store.specs.Opening.{newest, is_older}
-use Rattle.hub_store.specs.Versions.{hub_of, versions_by, only_u32, version_of}
-use Rattle.hub_store.proofs.Rows.Compare.{column_past}
 
 -- the one row of the table, whose rowid means nothing
 one_version : (v : ℕ) (rows : List Row) → IsPermutation ((Int (pos v) ∷ []) ∷ []) (map (drop 1) rows) → map (λ r. column r 1) rows ≡ Int (pos v) ∷ []

@@ -1,29 +1,15 @@
 -- What two rows of the version's query say of all rows.
-use Rattle.std.proofs.Common.{◌≡◌, ℕ, pos, negsuc, List, [], ◌∷◌, map, filter, take, Bool, true, false, cond, ◌==◌, eqb-true, Option, Some, None, is_some, slice_get, option_and_then, inl, inr, Ok, codes, refl, sym, ap, subst, ◌∙◌, arith}
-use Rattle.std.specs.List.{position_from}
-use Rattle.std.specs.List.Sorted.{IsPermutation}
-use Rattle.std.proofs.lemmas.List.Sorted.{IsPermutation-map, length_permutation}
-use Rattle.std.proofs.lemmas.Option.{option_and_then_some, slice_get_cases}
-use Rattle.sqlite_value.specs.declared.value.Value.{Value}
-use Rattle.sqlite_value.specs.declared.value.Value.TheVariants.{Null, Int, Real, Text, Blob}
-use Rattle.sqlite_value.specs.Order.{Row, column}
-use Rattle.sqlite_trees.specs.Tree.{Trees}
-use Rattle.sqlite_trees.proofs.ListLemmas.{map-map}
-use Rattle.sqlite_sql.specs.Term.{lit, col}
-use Rattle.sqlite_sql.specs.Query.{IsAnswer, Output}
-use Rattle.sqlite_schema.specs.declared.schema.Column.{Column}
-use Rattle.sqlite_schema.specs.declared.schema.Table.{Table}
-use Rattle.sqlite_schema.specs.declared.schema.Schema.{Schema}
-use Rattle.sqlite_schema.specs.Names.{table_named, column_named, place_of}
-use Rattle.sqlite_rules.proofs.RowLemmas.{position_within}
-use Rattle.sqlite_resolve.specs.declared.compiled.Compiled.{Compiled}
-use Rattle.sqlite_resolve.specs.Compile.{compiled}
-use Rattle.sqlite.specs.Effect.{Database, Reads}
-use Rattle.sqlite.proofs.Callers.{one_permutation}
-use Rattle.hub_store.specs.Versions.{tables_at, if_alone, hub_of, version_column, values_at, versions_by, only_u32, version_of, version_text}
-use Rattle.hub_store.proofs.Versions.AnySchema.{column_query, asks}
-use Rattle.hub_store.proofs.Rows.Statements.{keeps, ordered_rows, overlaid}
-use Rattle.hub_store.proofs.LookUps.Finding.{no_permutation}
+use Rattle.std.proofs.Common.{◌≡◌, ℕ, pos, negsuc, List, [], ◌∷◌, map, filter, take, Bool, true, false, cond, ◌==◌, eqb-true, Option, Some, None, is_some}
+use Rattle.std.proofs.{Common.{slice_get, option_and_then, inl, inr, Ok, codes, refl, sym, ap, subst, ◌∙◌, arith}, lemmas.List.Sorted.IsPermutation-map}
+use Rattle.std.{proofs.lemmas.{List.Sorted.length_permutation, Option.{option_and_then_some, slice_get_cases}}, specs.List.position_from}
+use Rattle.{std.specs.List.Sorted.IsPermutation, sqlite_value.specs.{Order.{Row, column}, declared.value.Value.{Value, TheVariants.{Null, Int, Real, Text}}}}
+use Rattle.{sqlite_value.specs.declared.value.Value.TheVariants.Blob, sqlite_trees.{proofs.ListLemmas.map-map, specs.Tree.Trees}}
+use Rattle.{sqlite_sql.specs.{Query.{IsAnswer, Output}, Term.{lit, col}}, sqlite_schema.specs.Names.{table_named, column_named, place_of}}
+use Rattle.{sqlite_schema.specs.declared.schema.{Column.Column, Schema.Schema, Table.Table}, sqlite_rules.proofs.RowLemmas.position_within}
+use Rattle.{sqlite_resolve.specs.{Compile.compiled, declared.compiled.Compiled.Compiled}, sqlite.{proofs.Callers.one_permutation, specs.Effect.Database}}
+use Rattle.{sqlite.specs.Effect.Reads, hub_store.proofs.{LookUps.Finding.no_permutation, Rows.Statements.{keeps, ordered_rows, overlaid}}}
+use Rattle.hub_store.{proofs.Versions.AnySchema.{column_query, asks}, specs.Versions.{tables_at, if_alone, hub_of, version_column, values_at, versions_by}}
+use Rattle.hub_store.specs.Versions.{only_u32, version_of, version_text}
 
 -- two values are no version
 no_version : (x y : Value) (more : List Value) → only_u32 (x ∷ y ∷ more) ≡ None

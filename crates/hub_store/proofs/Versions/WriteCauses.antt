@@ -1,33 +1,15 @@
 -- A write to one table, with no table referring to another, stops for a limit on steps, for a rule, or at a row that
 -- can't be stored.
-use Rattle.std.proofs.Common.{◌≡◌, ◌≢◌, ◌⊎◌, inl, inr, ℕ, suc, zero, ◌/◌, List, [], ◌∷◌, length, length-append, true, false, cond, IsSome, Option, Some, None, slice_get, Err, sym, ap, subst, ◌∙◌, arith}
-use Rattle.std.proofs.lemmas.Bool.{true≢false, cond-false}
-use Rattle.sqlite_value.specs.Order.{Row}
-use Rattle.sqlite_trees.specs.Tree.{Trees}
-use Rattle.sqlite_sql.specs.Term.{Term}
-use Rattle.sqlite_typing.specs.Types.{accepts_terms}
-use Rattle.sqlite_schema.specs.declared.command.Source.TheVariants.{Values}
-use Rattle.sqlite_schema.specs.declared.command.Command.TheVariants.{Insert, Delete}
-use Rattle.sqlite_schema.specs.declared.program.Program.{Program}
-use Rattle.sqlite_schema.specs.declared.schema.Among.TheVariants.{All}
-use Rattle.sqlite_schema.specs.declared.schema.Keys.TheVariants.{Enforced}
-use Rattle.sqlite_schema.specs.declared.schema.Table.{Table}
-use Rattle.sqlite_schema.specs.declared.schema.Schema.{Schema}
-use Rattle.sqlite_schema.specs.Rules.{Refers}
-use Rattle.sqlite_rules.specs.declared.error.Refusal.{Refusal}
-use Rattle.sqlite_rules.specs.declared.error.Rowids.TheVariants.{Chosen, Above, Given}
-use Rattle.sqlite_rules.specs.Action.{Leads, Writes}
-use Rattle.sqlite_rules.specs.Calls.{ids_of}
-use Rattle.sqlite_rules.specs.Edit.{Edit, IsRefused, IsOversized, edit_of, taken_by}
-use Rattle.sqlite_rules.specs.Lists.{Has}
-use Rattle.sqlite.specs.declared.error.Error.{Error}
-use Rattle.sqlite.specs.Effect.{value_rows, RefusesQuery}
-use Rattle.sqlite.specs.Rows.{Task, Written, Sourced, Queried, Counter, Edited, Inserts, Deletes, stamped, rowids_for, count_of}
-use Rattle.sqlite.specs.Does.{Does, AtPlace, OnRows, Concludes, Tested}
-use Rattle.sqlite.specs.State.{State, mode_of}
-use Rattle.hub_store.proofs.Versions.Causes.{stops, gave}
-use Rattle.hub_store.proofs.Versions.Beside.{are_unreferred, none_refer, no_works, unreferred_by}
-use Rattle.hub_store.proofs.Rows.Statements.{other_one}
+use Rattle.std.proofs.Common.{◌≡◌, ◌⊎◌, inl, inr, ℕ, suc, zero, ◌/◌, List, [], ◌∷◌, length, length-append, true, false, cond, IsSome, Option, Some, None}
+use Rattle.{std.proofs.{Common.{slice_get, Err, sym, ap, subst, ◌∙◌, arith}, lemmas.Bool.{true≢false, cond-false}}, sqlite_value.specs.Order.Row}
+use Rattle.{sqlite_trees.specs.Tree.Trees, sqlite_sql.specs.Term.Term, sqlite_typing.specs.Types.accepts_terms, sqlite_schema.specs.Rules.Refers}
+use Rattle.sqlite_schema.specs.declared.{command.{Command.TheVariants.{Insert, Delete}, Source.TheVariants.Values}, program.Program.Program}
+use Rattle.{sqlite_schema.specs.declared.schema.{Among.TheVariants.All, Keys.TheVariants.Enforced, Schema.Schema, Table.Table}, sqlite_rules.specs.Action.Leads}
+use Rattle.sqlite_rules.specs.{Action.Writes, Calls.ids_of, Edit.{Edit, IsRefused, IsOversized, edit_of, taken_by}, Lists.Has, declared.error.Refusal.Refusal}
+use Rattle.{sqlite_rules.specs.declared.error.Rowids.TheVariants.{Chosen, Above, Given}, sqlite.specs.Does.{Does, AtPlace, OnRows, Concludes, Tested}}
+use Rattle.sqlite.specs.{Effect.{value_rows, RefusesQuery}, Rows.{Task, Written, Sourced, Queried, Counter, Edited, Inserts, Deletes, stamped, rowids_for}}
+use Rattle.{sqlite.specs.{Rows.count_of, State.{State, mode_of}, declared.error.Error.Error}, hub_store.proofs.Rows.Statements.other_one}
+use Rattle.hub_store.proofs.Versions.{Beside.{are_unreferred, none_refer, no_works, unreferred_by}, Causes.{stops, gave}}
 
 -- a rule is broken, or a row can't be stored
 abbrev pub Breaks : Schema → Trees → Edit → Type 0

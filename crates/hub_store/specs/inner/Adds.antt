@@ -2,7 +2,8 @@
 use Rattle.std.specs.Prelude.{◌≡◌, pos, List, [], ◌∷◌, ◌++◌, map}
 use Rattle.sqlite_value.specs.declared.value.Value.TheVariants.{Int, Text, Blob}
 use Rattle.sqlite_value.specs.Order.{Row}
-use Rattle.circle.specs.declared.command.RowEdit.TheVariants.{PutOrg, PutAccount, PutClient, PutCommunity, PutMembership, PutConnection, PutGroup, PutGroupMember, PutArrangement}
+use Rattle.circle.specs.declared.command.RowEdit.TheVariants.{PutOrg, PutAccount, PutClient, PutCommunity, PutMembership, PutConnection, PutGroup}
+use Rattle.circle.specs.declared.command.RowEdit.TheVariants.{PutGroupMember, PutArrangement}
 use Rattle.circle.specs.declared.directory.Org.{Org}
 use Rattle.circle.specs.declared.directory.Account.{Account}
 use Rattle.circle.specs.declared.directory.Client.{Client}

@@ -5,11 +5,11 @@ use Rattle.sqlite_schema.specs.declared.schema.Table.{Table}
 use Rattle.sqlite_schema.specs.declared.schema.Schema.{Schema}
 use Rattle.sqlite.specs.declared.error.Error.{Error}
 use Rattle.sqlite.specs.declared.error.Error.TheVariants.{SqliteFailure}
-use Rattle.sqlite.specs.declared.error.ErrorCode.TheVariants as code
 use Rattle.sqlite.specs.Effect.{Database, IsDatabase}
 use Rattle.sqlite.specs.State.{State, HasCleanDisk}
 use Rattle.hub_store.specs.Failing.{HasReason}
 use Rattle.hub_store.specs.Keeps.{Goes}
+use Rattle.sqlite.specs.declared.error.ErrorCode.TheVariants as code
 
 -- the schema is this one and its tables have no row; the database obeys them, if there are any
 pub record HasEmpty (schema : Schema) (db : Database) : Type 0 where

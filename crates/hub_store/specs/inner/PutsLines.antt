@@ -4,12 +4,12 @@ use Rattle.sqlite_value.specs.Order.{Row}
 use Rattle.sqlite.specs.declared.error.Error.{Error}
 use Rattle.sqlite.specs.State.{State}
 use Rattle.hub_state.specs.Documents.{Lines}
-use Rattle.hub_state.specs.State as core
 use Rattle.hub_store.specs.Items.{items_from, item_row}
 use Rattle.hub_store.specs.Means.{HoldsBetween}
 use Rattle.hub_store.specs.Keeps.{Goes}
 use Rattle.hub_store.specs.inner.Makes.{Makes, FailsOnly}
 use Rattle.hub_store.specs.inner.Beside.{HoldsBeside, CanStand}
+use Rattle.hub_state.specs.State as core
 
 -- The second rows are the first and those of the lines, which begin at this place.
 abbrev pub HasMore : ℕ → ℕ → Lines → List Row → List Row → Type 0

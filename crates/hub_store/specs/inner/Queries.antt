@@ -1,15 +1,15 @@
 -- What a query in a transaction leaves and shows.
 use Rattle.std.specs.Prelude.{◌≡◌, ◌⊎◌, List, ℕ, Result, IfOk, OnOk, IsTrue}
 use Rattle.sqlite_value.specs.Order.{Row}
-use Rattle.sqlite_trees.specs.declared.store.Store as store
 use Rattle.sqlite.specs.declared.error.Error.{Error}
 use Rattle.sqlite.specs.Held.{Held, state}
 use Rattle.sqlite.specs.State.{State, HasCleanDisk, KeepsCommit, IsUnchanged, Shown, FailsToQuery, IsTooLate, Survives}
-use Rattle.hub_state.specs.State as core
 use Rattle.hub_state.specs.Sound.{IsSound}
 use Rattle.hub_store.specs.Content.{Has}
 use Rattle.hub_store.specs.Keeps.{Knows, KeepsCommitted}
 use Rattle.hub_store.specs.Means.{Holds}
+use Rattle.sqlite_trees.specs.declared.store.Store as store
+use Rattle.hub_state.specs.State as core
 
 -- the text was prepared, which changed nothing, and showed these rows
 pub record HasShown {S : Type 0} (g : store.Ghosts S) (text : List ℕ) (params : Row) (old new : Held S) (rows : List Row) : Type 0 where

@@ -1,12 +1,10 @@
 -- Making a table anew by four texts: what each text does, for any list of parts.
 use Rattle.std.specs.Prelude.{◌≡◌, ◌≢◌, ℕ, List, [], ◌∷◌, ◌++◌, map, None, Ok, Err, IsTrue, IsPermutation}
 use Rattle.sqlite_value.specs.Order.{Row}
-use Rattle.sqlite_trees.specs.declared.store.Store as store
 use Rattle.sqlite_rules.specs.Lists.{Has}
 use Rattle.sqlite_catalog.specs.Change.{next_tree}
 use Rattle.sqlite.specs.declared.error.Error.{Error}
 use Rattle.sqlite.specs.declared.error.Error.TheVariants.{SqliteFailure}
-use Rattle.sqlite.specs.declared.error.ErrorCode.TheVariants as code
 use Rattle.sqlite.specs.Effect.{Database}
 use Rattle.sqlite.specs.Held.{Held, state}
 use Rattle.sqlite.specs.State.{IsUnchanged, Executes, ExecutesInside}
@@ -17,6 +15,8 @@ use Rattle.hub_store.specs.Layout.{Step, apart_from, made_anew, under}
 use Rattle.hub_store.specs.Parts.{Part, schema_of, are_beside, HoldsParts}
 use Rattle.hub_store.specs.inner.Beside.{AreNumbered}
 use Rattle.hub_store.specs.inner.Queries.{HasShown, HasRefused}
+use Rattle.sqlite_trees.specs.declared.store.Store as store
+use Rattle.sqlite.specs.declared.error.ErrorCode.TheVariants as code
 
 -- the texts of a step
 pub record StepTexts : Type 0 where

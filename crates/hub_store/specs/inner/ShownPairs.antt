@@ -18,8 +18,8 @@ use Rattle.hub_store.specs.Values.{flag}
 use Rattle.hub_store.specs.Rows.{handling_number}
 use Rattle.hub_store.specs.Pairs.{Pair}
 use Rattle.hub_store.specs.inner.PairKinds.{pairs_from, pairs_to}
-use Rattle.hub_store.specs.declared.pair_kind.PairKind.TheVariants as kind
 use Rattle.hub_store.specs.declared.joined_rows.Joined.{Joined}
+use Rattle.hub_store.specs.declared.pair_kind.PairKind.TheVariants as kind
 
 -- the first column is this number and no other
 abbrev pub ShowsNumber : Row → ℕ → Type 0

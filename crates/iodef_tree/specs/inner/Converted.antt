@@ -2,7 +2,6 @@
 -- has the texts that lines may have, and has no empty array.
 use Rattle.std.specs.Prelude.{◌≡◌, List, map, true}
 use Rattle.std.specs.List.{AllByRecursion}
-use Rattle.serde_json.specs.Data as json
 use Rattle.serde_json.specs.Data.{Data}
 use Rattle.iodef_tree.specs.Filled.{IsFilled, IsMemberFilled, IsItemFilled}
 use Rattle.iodef_tree.specs.inner.FitValues.{IsBodyOrdered, AreBodiesOrdered, HasBodyTexts, HaveTexts}
@@ -13,6 +12,7 @@ use Rattle.iodef_tree.specs.View.{forest, bodies, body}
 use Rattle.iodef_tree.specs.declared.object.Object.{Object}
 use Rattle.iodef_tree.specs.declared.object.Member.{Member}
 use Rattle.iodef_tree.specs.declared.object.Item.{Item}
+use Rattle.serde_json.specs.Data as json
 
 -- the object is the members of this JSON object
 pub record IsObjectOf (ms : json.Members) (o : Object) : Type 0 where

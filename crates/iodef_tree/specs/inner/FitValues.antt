@@ -1,7 +1,6 @@
 -- What reading keeps on its way, for clauses that no caller outside the crate reads.
 use Rattle.std.specs.Prelude.{◌≡◌, ◌≤◌, ℕ, suc, ◌+◌, List, [], ◌∷◌, sum_by, Bool, true, false, not, ◌&&◌, ◌||◌, Option, option_map, option_and_then, codes}
 use Rattle.std.specs.List.{AllByRecursion}
-use Rattle.serde_json.specs.Data as json
 use Rattle.serde_json.specs.Data.{Data, put}
 use Rattle.serde_json.specs.Find.{as_array, as_object, get_member, is_float}
 use Rattle.serde_json.specs.Written.{members_have_float}
@@ -12,6 +11,7 @@ use Rattle.iodef_tree.specs.Values.{Surrounded, Node, is_not_whole, is_nested_cl
 use Rattle.iodef_tree.specs.Reading.{with_incident, document_of}
 use Rattle.iodef_tree.specs.declared.TheConstants.{DEPTH_LIMIT}
 use Rattle.iodef_tree.specs.declared.unfit_values.Sought.{Sought}
+use Rattle.serde_json.specs.Data as json
 use Rattle.iodef_tree.specs.declared.unfit_values.Sought.TheVariants as sought
 
 -- whether a value is one that is sought

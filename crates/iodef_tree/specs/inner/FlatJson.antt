@@ -1,7 +1,6 @@
 -- The JSON object that a document is, read off the flat list of its lines.
 use Rattle.std.specs.Prelude.{◌≡◌, ℕ, suc, List, [], ◌∷◌, Bool, false, ◌&&◌, if◌then◌else◌, Option, Some, None, unwrap_or}
 use Rattle.std.specs.Str.{bytes_eq}
-use Rattle.serde_json.specs.Data as json
 use Rattle.serde_json.specs.Data.{Data}
 use Rattle.serde_json.specs.Read.{read}
 use Rattle.json_pointer.specs.Text.{Bytes}
@@ -12,8 +11,9 @@ use Rattle.iodef_tree.specs.Tree.{Forest, lines}
 use Rattle.iodef_tree.specs.TreeOf.{by_depth}
 use Rattle.iodef_tree.specs.declared.line.Line.{Line}
 use Rattle.iodef_tree.specs.declared.line.Kind.{Kind}
-use Rattle.iodef_tree.specs.declared.line.Kind.TheVariants as kind
 use Rattle.iodef_tree.specs.declared.shape.Sibling.{Sibling}
+use Rattle.serde_json.specs.Data as json
+use Rattle.iodef_tree.specs.declared.line.Kind.TheVariants as kind
 
 -- whether a line is one more element of the array in which the newest sibling is
 abbrev pub continues : Option Sibling → Line → Bool

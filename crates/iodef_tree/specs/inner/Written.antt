@@ -1,13 +1,13 @@
 -- A tree as JSON text, as the program writes it down the tree.
 use Rattle.std.specs.Prelude.{ℕ, zero, suc, List, [], ◌∷◌, ◌++◌, map, Bool, true, false, if◌then◌else◌, ◌||◌, ◌==◌, nat_lt, Option, Some, None}
 use Rattle.json.specs.Print.{quoted}
-use Rattle.serde_json.specs.Data as json
 use Rattle.serde_json.specs.Data.{Data}
 use Rattle.serde_json.specs.View.{items_of as listed}
 use Rattle.serde_json.specs.Written.{comma_if}
 use Rattle.json_pointer.specs.Text.{Bytes}
 use Rattle.iodef_tree.specs.Json.{content_data}
 use Rattle.iodef_tree.specs.Tree.{Content, text, value, Forest, end, leaf, branch, Body, holds, says, Bodies, one, many}
+use Rattle.serde_json.specs.Data as json
 
 -- ---- as text
 

@@ -1,9 +1,8 @@
 -- One pass down the tree: what a class inherits from above, and the first class that breaks the marking rule.
-use Rattle.std.specs.Prelude.{ℕ, List, [], ◌∷◌, ◌++◌, reverse, if◌then◌else◌, Option, Some, None, is_some, unwrap_or, option_map, codes}
+use Rattle.std.specs.Prelude.{ℕ, List, [], ◌∷◌, ◌++◌, reverse, if◌then◌else◌, Option, Some, None, is_some, unwrap_or, option_map, codes, Vec}
 use Rattle.std.specs.Option.{option_or}
 use Rattle.std.specs.Str.{bytes_eq}
 use Rattle.std.specs.declared.alloc.Global.{Global}
-use Rattle.std.specs.Prelude.{Vec}
 use Rattle.iodef_tree.specs.Text.{Bytes, Tokens}
 use Rattle.iodef_tree.specs.Tree.{Forest, end, leaf, branch, Body, holds, says, steps}
 use Rattle.iodef_tree.specs.Pointer.{pointer_text}

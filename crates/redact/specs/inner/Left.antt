@@ -1,5 +1,6 @@
 -- What the program's pass keeps, lists and counts of the members of one class.
-use Rattle.std.specs.Prelude.{◌≡◌, ℕ, suc, ◌+◌, ◌<◌, ◌^◌, Bool, true, false, List, [], ◌∷◌, ◌++◌, if◌then◌else◌, Option, Some, None, is_some, option_map, decimal}
+use Rattle.std.specs.Prelude.{◌≡◌, ℕ, suc, ◌+◌, ◌<◌, ◌^◌, Bool, true, false, List, [], ◌∷◌, ◌++◌, if◌then◌else◌, Option, Some, None, is_some, option_map}
+use Rattle.std.specs.Prelude.{decimal}
 use Rattle.std.specs.List.{cons_option}
 use Rattle.iodef_tree.specs.Text.{Bytes, Tokens}
 use Rattle.iodef_tree.specs.Tree.{Forest, Body, holds, says, Bodies, one, many}
@@ -13,8 +14,8 @@ use Rattle.redact.specs.inner.Judged.{Judgment, Judged, Surrounding, root, insid
 use Rattle.redact.specs.inner.Tokens.{path_of}
 use Rattle.redact.specs.inner.Pass.{judgment_by, pass}
 use Rattle.redact.specs.declared.pass.Surrounding.{Surrounding as Place}
-use Rattle.redact.specs.declared.pass.Surrounding.TheVariants as place
 use Rattle.redact.specs.declared.pass.State.{State}
+use Rattle.redact.specs.declared.pass.Surrounding.TheVariants as place
 
 -- where members are, by the program's `Surrounding`
 abbrev pub home_of : Place → Surrounding

@@ -1,5 +1,6 @@
 -- What a search of a report whose lines come one at a time knows of the classes that may still get lines.
-use Rattle.std.specs.Prelude.{◌≡◌, ◌≤◌, ◌<◌, ℕ, suc, ◌-◌, Bool, true, false, not, ◌&&◌, ◌||◌, List, [], ◌∷◌, ◌++◌, length, take, if◌then◌else◌, Option, Some, None, is_some, is_none, option_map, codes, string_bytes}
+use Rattle.std.specs.Prelude.{◌≡◌, ◌≤◌, ◌<◌, ℕ, suc, ◌-◌, Bool, true, false, not, ◌&&◌, ◌||◌, List, [], ◌∷◌, ◌++◌, length, take, if◌then◌else◌, Option, Some}
+use Rattle.std.specs.Prelude.{None, is_some, is_none, option_map, codes, string_bytes}
 use Rattle.std.specs.List.{list_any}
 use Rattle.std.specs.Str.{bytes_eq}
 use Rattle.iodef_tree.specs.Text.{Bytes, Tokens, same_path}
@@ -8,7 +9,6 @@ use Rattle.iodef_tree.specs.Outline.{back, deepest, is_outline}
 use Rattle.iodef_tree.specs.Shown.{Shows}
 use Rattle.iodef_tree.specs.declared.line.Line.{Line}
 use Rattle.iodef_tree.specs.declared.line.Kind.{Kind}
-use Rattle.iodef_tree.specs.declared.line.Kind.TheVariants as kind
 use Rattle.marking.specs.Label.{LabelValue, extended, spelled, is_at_most}
 use Rattle.marking.specs.Marks.{Held, absent, one_text, restriction_at, ext_restriction_at}
 use Rattle.marking.specs.declared.label.Handling.TheVariants.{Red}
@@ -24,12 +24,13 @@ use Rattle.redact.specs.Told.{is_named, is_hit, holds_needle}
 use Rattle.redact.specs.Sifted.{located_back, Tracks}
 use Rattle.redact.specs.declared.want.Want.{Want}
 use Rattle.redact.specs.declared.open_classes.Sight.{Sight}
-use Rattle.redact.specs.declared.open_classes.Sight.TheVariants as sight
 use Rattle.redact.specs.declared.open_classes.Beside.{Beside}
-use Rattle.redact.specs.declared.open_classes.Beside.TheVariants as beside
 use Rattle.redact.specs.declared.open_classes.Open.{Open}
 use Rattle.redact.specs.declared.open_classes.Seeker.{Seeker}
 use Rattle.redact.specs.Probed.{InEach, IsSure}
+use Rattle.iodef_tree.specs.declared.line.Kind.TheVariants as kind
+use Rattle.redact.specs.declared.open_classes.Sight.TheVariants as sight
+use Rattle.redact.specs.declared.open_classes.Beside.TheVariants as beside
 
 -- ---- what is wanted
 

@@ -1,5 +1,4 @@
-use Rattle.std.proofs.Common.{rules, arith}
-use Rattle.circle.proofs.Judged.{counted_edit}
+use Rattle.{std.proofs.Common.{rules, arith}, circle.proofs.Judged.counted_edit}
 use Rattle.circle.proofs.judge.judge_by_facts.Goals as goal
 
 pub returns-in-None-clause-edit : goal.returns-in-None-clause-edit

@@ -1,8 +1,5 @@
-use Rattle.std.proofs.Common.{rules}
-use Rattle.std.specs.Ordering.{is_lt}
-use Rattle.std.proofs.lemmas.List.Sorted.{IsPartitionPoint-from_clause}
+use Rattle.{std.{proofs.{Common.rules, lemmas.List.Sorted.IsPartitionPoint-from_clause}, specs.Ordering.is_lt}, circle.proofs.Lookup.parted_below}
 use Rattle.circle.specs.Ordered.{pair_cmp}
-use Rattle.circle.proofs.Lookup.{parted_below}
 use Rattle.circle_rows.proofs.keyed.count_below.Goals as goal
 
 pub returns-clause-parted : goal.returns-clause-parted

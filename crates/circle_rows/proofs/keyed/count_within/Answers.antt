@@ -1,9 +1,5 @@
-use Rattle.std.proofs.Common.{rules}
-use Rattle.std.specs.Prelude.{not}
-use Rattle.std.specs.Ordering.{is_lt}
-use Rattle.std.proofs.lemmas.List.Sorted.{IsPartitionPoint-from_clause}
-use Rattle.circle.specs.Ordered.{pair_cmp}
-use Rattle.circle.proofs.Lookup.{parted_within, not_true, not_false}
+use Rattle.std.{proofs.{Common.rules, lemmas.List.Sorted.IsPartitionPoint-from_clause}, specs.{Ordering.is_lt, Prelude.not}}
+use Rattle.circle.{proofs.Lookup.{parted_within, not_true, not_false}, specs.Ordered.pair_cmp}
 use Rattle.circle_rows.proofs.keyed.count_within.Goals as goal
 
 pub returns-clause-parted : goal.returns-clause-parted

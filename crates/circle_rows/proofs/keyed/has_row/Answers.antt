@@ -1,6 +1,4 @@
-use Rattle.std.proofs.Common.{ap, ◌∙◌, not, ◌==◌, length}
-use Rattle.circle.specs.Stretches.{same_pair}
-use Rattle.circle.proofs.Lookup.{some_having}
+use Rattle.{std.proofs.Common.{ap, ◌∙◌, not, ◌==◌, length}, circle.{proofs.Lookup.some_having, specs.Stretches.same_pair}}
 use Rattle.circle_rows.proofs.keyed.has_row.Goals as goal
 
 pub returns : goal.returns

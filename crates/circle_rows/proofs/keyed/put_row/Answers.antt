@@ -1,6 +1,4 @@
-use Rattle.std.proofs.Common.{sym, ◌∙◌, subst}
-use Rattle.circle.specs.Stretches.{Ascend}
-use Rattle.circle.proofs.Lookup.{put_parted}
+use Rattle.{std.proofs.Common.{sym, ◌∙◌, subst}, circle.{proofs.Lookup.put_parted, specs.Stretches.Ascend}}
 use Rattle.circle_rows.proofs.keyed.put_row.Goals as goal
 
 pub returns-clause-items : goal.returns-clause-items

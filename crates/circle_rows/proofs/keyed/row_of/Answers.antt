@@ -1,7 +1,4 @@
-use Rattle.std.proofs.Common.{ap, ◌∙◌}
-use Rattle.std.specs.Prelude.{slice_get}
-use Rattle.circle.specs.Stretches.{same_pair}
-use Rattle.circle.proofs.Lookup.{first_having}
+use Rattle.{std.{proofs.Common.{ap, ◌∙◌}, specs.Prelude.slice_get}, circle.{proofs.Lookup.first_having, specs.Stretches.same_pair}}
 use Rattle.circle_rows.proofs.keyed.row_of.Goals as goal
 
 pub returns : goal.returns

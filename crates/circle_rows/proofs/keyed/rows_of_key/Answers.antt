@@ -1,7 +1,5 @@
-use Rattle.std.proofs.Common.{◌≡◌, ◌-◌, sym, subst, arith, length, take, drop}
-use Rattle.std.proofs.lemmas.List.{take_all, length-drop}
-use Rattle.circle.specs.Stretches.{Ascend}
-use Rattle.circle.proofs.Lookup.{stretch, ascend_drop}
+use Rattle.{std.proofs.{Common.{◌≡◌, ◌-◌, sym, subst, arith, length, take, drop}, lemmas.List.{take_all, length-drop}}, circle.proofs.Lookup.stretch}
+use Rattle.circle.{proofs.Lookup.ascend_drop, specs.Stretches.Ascend}
 use Rattle.circle_rows.proofs.keyed.rows_of_key.Goals as goal
 
 pub returns : goal.returns

@@ -1,7 +1,4 @@
-use Rattle.std.proofs.Common.{rules}
-use Rattle.std.specs.Prelude.{not}
-use Rattle.std.proofs.lemmas.Fn.{filter_same}
-use Rattle.circle.specs.Stretches.{same_pair}
+use Rattle.{std.{proofs.{Common.rules, lemmas.Fn.filter_same}, specs.Prelude.not}, circle.specs.Stretches.same_pair}
 use Rattle.circle_rows.proofs.keyed.take_rows.Goals as goal
 
 pub returns-clause-items : goal.returns-clause-items

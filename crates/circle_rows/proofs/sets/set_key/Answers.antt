@@ -1,5 +1,4 @@
-use Rattle.std.proofs.Common.{◌==◌, if◌then◌else◌, ◌∙◌, ap, length, arith}
-use Rattle.circle.specs.declared.directory.Account.{Account}
+use Rattle.{std.proofs.Common.{◌==◌, if◌then◌else◌, ◌∙◌, ap, length, arith}, circle.specs.declared.directory.Account.Account}
 use Rattle.circle_rows.proofs.Exchanged.{exchanged_more}
 use Rattle.circle_rows.proofs.sets.set_key.Goals as goal
 

@@ -1,5 +1,4 @@
-use Rattle.std.proofs.Common.{◌≡◌, ◌++◌, take, drop}
-use Rattle.circle.specs.Aftermath.{exchange_key}
+use Rattle.{std.proofs.Common.{◌≡◌, ◌++◌, take, drop}, circle.specs.Aftermath.exchange_key}
 use Rattle.circle_rows.proofs.sets.set_key.Given as goal
 
 abbrev pub invariant-loop-row : goal.invariant-loop-row

@@ -1,6 +1,4 @@
-use Rattle.std.proofs.Common.{◌≡◌, ◌++◌, take, drop, false}
-use Rattle.circle.specs.declared.directory.Person.{Person}
-use Rattle.circle.specs.Aftermath.{exchange_account}
+use Rattle.{std.proofs.Common.{◌≡◌, ◌++◌, take, drop, false}, circle.specs.{Aftermath.exchange_account, declared.directory.Person.Person}}
 use Rattle.circle_rows.proofs.sets.suspend.Given as goal
 
 abbrev pub invariant-loop-row : goal.invariant-loop-row

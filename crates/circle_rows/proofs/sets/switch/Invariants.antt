@@ -1,6 +1,4 @@
-use Rattle.std.proofs.Common.{◌≡◌, ◌++◌, take, drop}
-use Rattle.circle.specs.declared.directory.Group.{Group}
-use Rattle.circle.specs.Aftermath.{exchange_group}
+use Rattle.{std.proofs.Common.{◌≡◌, ◌++◌, take, drop}, circle.specs.{Aftermath.exchange_group, declared.directory.Group.Group}}
 use Rattle.circle_rows.proofs.sets.switch.Given as goal
 
 abbrev pub invariant-loop-row : goal.invariant-loop-row

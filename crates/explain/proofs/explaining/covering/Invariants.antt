@@ -1,7 +1,4 @@
-use Rattle.std.proofs.Common.{◌≡◌, ◌++◌, drop}
-use Rattle.std.specs.Prelude.{filter}
-use Rattle.iodef_tree.specs.Paths.{located}
-use Rattle.policy.specs.Permissions.{covers}
+use Rattle.{std.{proofs.Common.{◌≡◌, ◌++◌, drop}, specs.Prelude.filter}, iodef_tree.specs.Paths.located, policy.specs.Permissions.covers}
 use Rattle.explain.proofs.explaining.covering.Given as goal
 
 abbrev pub invariant-loop-permission : goal.invariant-loop-permission

@@ -1,7 +1,4 @@
-use Rattle.std.proofs.Common.{◌∙◌, refl, ap}
-use Rattle.iodef_tree.specs.Paths.{located}
-use Rattle.marking.specs.Label.{text_of}
-use Rattle.policy.specs.Verdict.{handling_for}
+use Rattle.{std.proofs.Common.{◌∙◌, refl, ap}, iodef_tree.specs.Paths.located, marking.specs.Label.text_of, policy.specs.Verdict.handling_for}
 use Rattle.explain.proofs.Parts.{explained-decided, explains-undecided, explains-unsited}
 use Rattle.explain.proofs.explaining.explain.Goals as goal
 

@@ -1,7 +1,5 @@
-use Rattle.std.proofs.Common.{◌≡◌, ◌++◌, ◌∷◌, [], take, sym, ◌∙◌, ap, arith, rules}
-use Rattle.std.proofs.lemmas.List.{take_more}
-use Rattle.explain.specs.Explanation.{passages_at, passages_on}
-use Rattle.explain.proofs.Passages.{passages-root, passages-push}
+use Rattle.{std.proofs.{Common.{◌≡◌, ◌++◌, ◌∷◌, [], take, sym, ◌∙◌, ap, arith, rules}, lemmas.List.take_more}, explain.proofs.Passages.passages-root}
+use Rattle.explain.{proofs.Passages.passages-push, specs.Explanation.{passages_at, passages_on}}
 use Rattle.explain.proofs.explaining.passages.Goals as goal
 
 pub loop-token-init : goal.loop-token-init

@@ -1,5 +1,4 @@
-use Rattle.std.proofs.Common.{◌≡◌, take}
-use Rattle.explain.specs.Explanation.{passages_on}
+use Rattle.{std.proofs.Common.{◌≡◌, take}, explain.specs.Explanation.passages_on}
 use Rattle.explain.proofs.explaining.passages.Given as goal
 
 abbrev pub invariant-loop-token : goal.invariant-loop-token

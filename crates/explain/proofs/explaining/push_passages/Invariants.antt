@@ -1,7 +1,4 @@
-use Rattle.std.proofs.Common.{◌≡◌, ◌++◌, map, drop}
-use Rattle.std.specs.Prelude.{filter}
-use Rattle.iodef_tree.specs.Text.{same_path}
-use Rattle.explain.specs.Explanation.{passage}
+use Rattle.{std.{proofs.Common.{◌≡◌, ◌++◌, map, drop}, specs.Prelude.filter}, iodef_tree.specs.Text.same_path, explain.specs.Explanation.passage}
 use Rattle.explain.proofs.explaining.push_passages.Given as goal
 
 abbrev pub invariant-loop-gate : goal.invariant-loop-gate

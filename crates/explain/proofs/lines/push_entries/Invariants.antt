@@ -1,6 +1,4 @@
-use Rattle.std.proofs.Common.{◌≡◌, ◌++◌, drop, string_bytes}
-use Rattle.std.specs.List.{flat_map}
-use Rattle.explain.specs.Lines.{permission_line}
+use Rattle.{std.{proofs.Common.{◌≡◌, ◌++◌, drop, string_bytes}, specs.List.flat_map}, explain.specs.Lines.permission_line}
 use Rattle.explain.proofs.lines.push_entries.Given as goal
 
 abbrev pub invariant-loop-entry : goal.invariant-loop-entry

@@ -1,6 +1,4 @@
-use Rattle.std.proofs.Common.{◌≡◌, ◌++◌, drop, string_bytes}
-use Rattle.std.specs.List.{flat_map}
-use Rattle.explain.specs.Lines.{gate_line}
+use Rattle.{std.{proofs.Common.{◌≡◌, ◌++◌, drop, string_bytes}, specs.List.flat_map}, explain.specs.Lines.gate_line}
 use Rattle.explain.proofs.lines.push_gates.Given as goal
 
 abbrev pub invariant-loop-passage : goal.invariant-loop-passage

@@ -1,5 +1,4 @@
-use Rattle.std.proofs.Common.{◌≡◌, ◌++◌, take, drop}
-use Rattle.explain.specs.Listing.{put}
+use Rattle.{std.proofs.Common.{◌≡◌, ◌++◌, take, drop}, explain.specs.Listing.put}
 use Rattle.explain.proofs.listing.place_for.Given as goal
 
 abbrev pub invariant-loop-place : goal.invariant-loop-place

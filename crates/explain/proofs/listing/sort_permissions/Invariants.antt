@@ -1,5 +1,4 @@
-use Rattle.std.proofs.Common.{◌≡◌, map, drop}
-use Rattle.explain.specs.Listing.{put_all, permissions_in_order, entry_of}
+use Rattle.{std.proofs.Common.{◌≡◌, map, drop}, explain.specs.Listing.{put_all, permissions_in_order, entry_of}}
 use Rattle.explain.proofs.listing.sort_permissions.Given as goal
 
 abbrev pub invariant-loop-permission : goal.invariant-loop-permission

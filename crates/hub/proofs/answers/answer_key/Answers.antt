@@ -1,13 +1,6 @@
-use Rattle.std.proofs.Common.{◌≡◌, Option, Some, sym, subst, ◌∙◌, arith}
-use Rattle.std.specs.Prelude.{ℤ}
-use Rattle.std.proofs.Common.{w64, to_z, of_z}
-use Rattle.std.proofs.lemmas.Int.{to_z-of_z}
-use Rattle.hub_core.specs.Refusals.{state_after}
-use Rattle.circle.specs.declared.directory.Person.{Person}
-use Rattle.hub.specs.Replies.{caller_of, reply_by}
-use Rattle.hub.specs.Machine.{left_by}
-use Rattle.hub.specs.Serving.{IsDoneAsDue, due_to}
-use Rattle.hub.proofs.Served.{caller_there, caller_org, served_on}
+use Rattle.std.{proofs.{Common.{◌≡◌, Option, Some, sym, subst, ◌∙◌, arith, w64, to_z, of_z}, lemmas.Int.to_z-of_z}, specs.Prelude.ℤ}
+use Rattle.{hub_core.specs.Refusals.state_after, circle.specs.declared.directory.Person.Person, hub.proofs.Served.{caller_there, caller_org, served_on}}
+use Rattle.hub.specs.{Machine.left_by, Replies.{caller_of, reply_by}, Serving.{IsDoneAsDue, due_to}}
 use Rattle.hub.proofs.answers.answer_key.Goals as goal
 
 pub returns-in-Some-clause-step : goal.returns-in-Some-clause-step

@@ -1,5 +1,4 @@
-use Rattle.std.proofs.Common.{sym, ◌∙◌}
-use Rattle.hub.proofs.Served.{served_reading}
+use Rattle.{std.proofs.Common.{sym, ◌∙◌}, hub.proofs.Served.served_reading}
 use Rattle.hub.proofs.answers.answer_person.Goals as goal
 
 pub returns-in-Some-clause-step : goal.returns-in-Some-clause-step

@@ -1,5 +1,4 @@
-use Rattle.std.proofs.Common.{rules, ◌≡◌, Bool, IfOk, subst}
-use Rattle.hub_state.proofs.Marked.{met_found}
+use Rattle.{std.proofs.Common.{rules, ◌≡◌, Bool, IfOk, subst}, hub_state.proofs.Marked.met_found}
 use Rattle.hub.proofs.asker.is_met.Goals as goal
 
 pub returns : goal.returns

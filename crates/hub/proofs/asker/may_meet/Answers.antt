@@ -1,6 +1,4 @@
-use Rattle.std.proofs.Common.{rules, ◌≡◌, Bool, false, IfOk, subst, SFits, w64, sym, ◌∙◌, to_z-of_z}
-use Rattle.std.proofs.lemmas.Result.{IfOk-weaker}
-use Rattle.hub_state.specs.Reads.{met_for}
+use Rattle.{std.proofs.{Common.{rules, ◌≡◌, false, subst, SFits, w64, sym, ◌∙◌, to_z-of_z}, lemmas.Result.IfOk-weaker}, hub_state.specs.Reads.met_for}
 use Rattle.hub.proofs.Passing.{met_there}
 use Rattle.hub.proofs.asker.may_meet.Goals as goal
 

@@ -1,7 +1,5 @@
-use Rattle.std.proofs.Common.{◌≡◌, Option, IfOk, subst, SFits, w64, rules, to_z-of_z}
-use Rattle.policy.specs.declared.standing.Standing.{Standing}
-use Rattle.hub_core.specs.Reads.{standing_of}
-use Rattle.hub.proofs.Standings.{standing_of-numbered}
+use Rattle.{std.proofs.Common.{◌≡◌, Option, IfOk, subst, SFits, w64, rules, to_z-of_z}, policy.specs.declared.standing.Standing.Standing}
+use Rattle.{hub_core.specs.Reads.standing_of, hub.proofs.Standings.standing_of-numbered}
 use Rattle.hub.proofs.asker.standing_of_person.Goals as goal
 
 pub returns : goal.returns

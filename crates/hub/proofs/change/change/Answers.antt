@@ -1,11 +1,6 @@
-use Rattle.std.proofs.Common.{◌≡◌, Some, inl, inr, sym, ap, subst, ◌∙◌, arith}
-use Rattle.std.proofs.lemmas.Bool.{true≢false}
-use Rattle.hub_core.specs.Edits.{with_edits}
-use Rattle.hub_core.specs.Sound.{IsSound}
-use Rattle.hub_core.specs.Refusals.{state_after}
-use Rattle.hub_core.proofs.Kept.{stays_sound}
-use Rattle.hub.specs.Serving.{due_to, is_made, made_reply}
-use Rattle.hub.proofs.Changing.{changed_reply}
+use Rattle.{std.proofs.{Common.{◌≡◌, Some, inl, inr, sym, ap, subst, ◌∙◌, arith}, lemmas.Bool.true≢false}, hub_core.proofs.Kept.stays_sound}
+use Rattle.{hub_core.specs.{Edits.with_edits, Refusals.state_after, Sound.IsSound}, hub.{proofs.Changing.changed_reply, specs.Serving.{due_to, is_made}}}
+use Rattle.hub.specs.Serving.{made_reply}
 use Rattle.hub.proofs.change.change.Goals as goal
 
 pub returns-in-Ok-apply-clause-step : goal.returns-in-Ok-apply-clause-step

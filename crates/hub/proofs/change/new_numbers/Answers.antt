@@ -1,7 +1,6 @@
-use Rattle.std.proofs.Common.{sym, ap, ◌∙◌, arith}
-use Rattle.hub.proofs.Changing.{number_more, number_none}
+use Rattle.{std.proofs.Common.{sym, ap, ◌∙◌, arith}, hub.proofs.{Changing.{number_more, number_none}, change.new_numbers.Goals.in-Some+in_ok-push}}
+use Rattle.hub.proofs.change.new_numbers.Goals.{in_default}
 use Rattle.hub.proofs.change.new_numbers.Goals as goal
-use Rattle.hub.proofs.change.new_numbers.Goals.{in-Some+in_ok-push, in_default}
 
 pub loop-edit-preserved : goal.loop-edit-preserved
 loop-edit-preserved c =

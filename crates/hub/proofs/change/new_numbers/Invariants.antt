@@ -1,5 +1,4 @@
-use Rattle.std.proofs.Common.{◌≡◌, ◌++◌, drop}
-use Rattle.hub.specs.Serving.{numbers_put}
+use Rattle.{std.proofs.Common.{◌≡◌, ◌++◌, drop}, hub.specs.Serving.numbers_put}
 use Rattle.hub.proofs.change.new_numbers.Given as goal
 
 abbrev pub invariant-loop-edit : goal.invariant-loop-edit

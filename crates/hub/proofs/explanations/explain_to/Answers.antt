@@ -1,14 +1,7 @@
-use Rattle.std.proofs.Common.{rules, ◌≡◌, None, sym, ap, subst, ◌∙◌, arith}
-use Rattle.iodef_tree.specs.Pointer.{pointer_tokens}
-use Rattle.circle.specs.Reads.{person_of}
-use Rattle.hub_core.specs.State.{incident_of}
-use Rattle.hub_core.specs.Facts.{facts_of}
-use Rattle.hub_core.specs.Refusals.{refusal_of}
-use Rattle.hub_state.specs.declared.reply.Reply.TheVariants.{Trace}
+use Rattle.{std.proofs.Common.{rules, ◌≡◌, None, sym, ap, subst, ◌∙◌, arith}, iodef_tree.specs.Pointer.pointer_tokens, circle.specs.Reads.person_of}
+use Rattle.{hub_core.specs.{Facts.facts_of, Refusals.refusal_of, State.incident_of}, hub_state.specs.declared.reply.Reply.TheVariants.Trace}
+use Rattle.hub.{proofs.Explained.explained, specs.{Replies.refused_or, Told.trace_of}}
 use Rattle.hub_state.specs.declared.request.Request.TheVariants as ask
-use Rattle.hub.specs.Told.{trace_of}
-use Rattle.hub.specs.Replies.{refused_or}
-use Rattle.hub.proofs.Explained.{explained}
 use Rattle.hub.proofs.explanations.explain_to.Goals as goal
 
 pub returns : goal.returns

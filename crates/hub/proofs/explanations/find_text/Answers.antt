@@ -1,13 +1,6 @@
-use Rattle.std.proofs.Common.{rules, ◌≡◌, Option, Some, IfOk, sym, ap, subst, ◌∙◌, arith}
-use Rattle.std.specs.Prelude.{option_map}
-use Rattle.iodef_tree.specs.Text.{Bytes}
-use Rattle.circle.specs.Reads.{person_of}
-use Rattle.hub_core.specs.State.{incident_of}
-use Rattle.hub_state.specs.declared.facts.Facts.{Facts}
-use Rattle.hub_state.specs.declared.state.Incident.{Incident}
-use Rattle.hub.specs.inner.Explaining.{text_of}
-use Rattle.hub_state.proofs.Marked.{marked}
-use Rattle.hub.proofs.Explained.{text_there}
+use Rattle.{std.{proofs.Common.{rules, ◌≡◌, Option, Some, IfOk, sym, ap, subst, ◌∙◌, arith}, specs.Prelude.option_map}, iodef_tree.specs.Text.Bytes}
+use Rattle.{circle.specs.Reads.person_of, hub_core.specs.State.incident_of, hub_state.{proofs.Marked.marked, specs.declared.facts.Facts.Facts}}
+use Rattle.{hub_state.specs.declared.state.Incident.Incident, hub.{proofs.Explained.text_there, specs.inner.Explaining.text_of}}
 use Rattle.hub.proofs.explanations.find_text.Goals as goal
 
 pub returns : goal.returns

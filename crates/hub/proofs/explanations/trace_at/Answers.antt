@@ -1,6 +1,4 @@
-use Rattle.std.proofs.Common.{◌≡◌, IfOk, Some, string_bytes, ap, subst, ◌∙◌}
-use Rattle.explain.specs.Explanation.{explanation}
-use Rattle.explain.specs.Lines.{trace_text}
+use Rattle.{std.proofs.Common.{◌≡◌, IfOk, Some, string_bytes, ap, subst, ◌∙◌}, explain.specs.{Explanation.explanation, Lines.trace_text}}
 use Rattle.hub.proofs.Explained.{text_of_explained}
 use Rattle.hub.proofs.explanations.trace_at.Goals as goal
 

@@ -1,9 +1,6 @@
-use Rattle.std.proofs.Common.{rules, ◌≡◌, Bool, IfOk, sym, subst, ◌∙◌, arith}
+use Rattle.{std.proofs.Common.{rules, ◌≡◌, Bool, IfOk, sym, subst, ◌∙◌, arith}, hub_core.specs.{Reads.case_for, State.incident_of}}
+use Rattle.{hub_state.specs.declared.state.Incident.Incident, hub.proofs.Paging.{ruled_out, none_told, shut_told, told_there}}
 use Rattle.hub.specs.inner.PageFilter.{passes_filter}
-use Rattle.hub_core.specs.State.{incident_of}
-use Rattle.hub_core.specs.Reads.{case_for}
-use Rattle.hub_state.specs.declared.state.Incident.{Incident}
-use Rattle.hub.proofs.Paging.{ruled_out, none_told, shut_told, told_there}
 use Rattle.hub.proofs.pages.is_wanted_by.Goals as goal
 
 pub returns-then-is_ruled_out : goal.returns-then-is_ruled_out

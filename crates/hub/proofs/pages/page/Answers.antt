@@ -1,12 +1,9 @@
-use Rattle.std.proofs.Common.{rules, ◌≡◌, ◌≤◌, ◌++◌, List, [], Some, length, take, filter, sym, ap, ◌∙◌, arith}
-use Rattle.hub_core.specs.Reads.{entries_after}
-use Rattle.hub_state.specs.declared.reply.Entry.{Entry}
-use Rattle.hub.specs.declared.TheConstants.{PAGE_LIMIT}
+use Rattle.{std.proofs.Common.{rules, ◌≡◌, ◌≤◌, ◌++◌, List, [], Some, length, take, filter, sym, ap, ◌∙◌, arith}, hub_core.specs.Reads.entries_after}
+use Rattle.{hub_state.specs.declared.reply.Entry.Entry, hub.proofs.{Keeping.{kept_on, kept_read, uncounted}, Paging.{take_full, no_end, passing_above}}}
+use Rattle.hub.proofs.{Paging.{page_on, page_end, none_read}, pages.page.Goals.{else-pages-test, then-pages-test+in_ok-entries+in-None}}
+use Rattle.hub.{proofs.pages.page.Goals.then-pages-test+in_ok-entries+in-Some+then-last-above, specs.declared.TheConstants.PAGE_LIMIT}
 use Rattle.hub.specs.inner.PageFilter.{is_wanted, is_wanted_at, number_at_end}
-use Rattle.hub.proofs.Keeping.{kept_on, kept_read, uncounted}
-use Rattle.hub.proofs.Paging.{take_full, no_end, passing_above, page_on, page_end, none_read}
 use Rattle.hub.proofs.pages.page.Goals as goal
-use Rattle.hub.proofs.pages.page.Goals.{else-pages-test, then-pages-test+in_ok-entries+in-None, then-pages-test+in_ok-entries+in-Some+then-last-above}
 
 pub returns : goal.returns
 returns g c = record {

@@ -1,12 +1,5 @@
-use Rattle.std.proofs.Common.{◌≡◌, ◌≤◌, ◌-◌, ◌++◌, take, length}
-use Rattle.hub_core.specs.State.{State}
-use Rattle.hub_core.specs.Sound.{IsSound}
-use Rattle.hub.specs.declared.TheConstants.{PAGE_LIMIT}
-use Rattle.hub.specs.Replies.{page_of}
-use Rattle.hub.specs.inner.PageFilter.{is_wanted}
-use Rattle.hub_core.specs.Shelves.{IsKept}
-use Rattle.hub.specs.inner.Asking.{IsThere}
-use Rattle.hub.proofs.Paging.{passing_above}
+use Rattle.{std.proofs.Common.{◌≡◌, ◌≤◌, ◌-◌, ◌++◌, take, length}, hub_core.specs.{Shelves.IsKept, Sound.IsSound, State.State}, hub.proofs.Paging.passing_above}
+use Rattle.hub.specs.{Replies.page_of, declared.TheConstants.PAGE_LIMIT, inner.{Asking.IsThere, PageFilter.is_wanted}}
 use Rattle.hub.proofs.pages.page.Given as goal
 
 abbrev pub invariant-pages : goal.invariant-pages

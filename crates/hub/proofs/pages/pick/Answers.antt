@@ -1,14 +1,8 @@
-use Rattle.std.proofs.Common.{rules, ◌≡◌, ◌≤◌, ◌++◌, [], ◌∷◌, true, not, length, drop, filter, get_or, sym, ap, ◌∙◌, arith}
-use Rattle.std.specs.Result.{is_ok}
-use Rattle.std.proofs.lemmas.Bool.{cond-true}
-use Rattle.std.proofs.lemmas.List.{length-append}
-use Rattle.hub_state.specs.declared.reply.Entry.{Entry}
-use Rattle.hub.specs.declared.TheConstants.{PAGE_LIMIT}
-use Rattle.hub.specs.inner.PageFilter.{is_wanted_at}
-use Rattle.hub.proofs.Keeping.{kept_on, uncounted}
-use Rattle.hub.proofs.Paging.{take_full, picked, passed_over, no_more}
+use Rattle.std.proofs.{Common.{rules, ◌≡◌, ◌≤◌, ◌++◌, [], ◌∷◌, true, not, length, drop, filter, get_or, sym, ap, ◌∙◌, arith}, lemmas.Bool.cond-true}
+use Rattle.{std.{proofs.lemmas.List.length-append, specs.Result.is_ok}, hub_state.specs.declared.reply.Entry.Entry, hub.proofs.Keeping.{kept_on, uncounted}}
+use Rattle.hub.proofs.{Paging.{take_full, picked, passed_over, no_more}, pages.pick.Goals.{then-branch+else-is_err, else-branch}}
+use Rattle.hub.specs.{declared.TheConstants.PAGE_LIMIT, inner.PageFilter.is_wanted_at}
 use Rattle.hub.proofs.pages.pick.Goals as goal
-use Rattle.hub.proofs.pages.pick.Goals.{then-branch+else-is_err, else-branch}
 
 pub returns-then-len-eq-PAGE_LIMIT-clause-found : goal.returns-then-len-eq-PAGE_LIMIT-clause-found
 returns-then-len-eq-PAGE_LIMIT-clause-found g c = record {

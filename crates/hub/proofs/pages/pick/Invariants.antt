@@ -1,11 +1,5 @@
-use Rattle.std.proofs.Common.{◌≡◌, ◌≤◌, ◌++◌, filter, take, drop, length}
-use Rattle.hub_core.specs.State.{State}
-use Rattle.hub_core.specs.Sound.{IsSound}
-use Rattle.hub_state.specs.declared.reply.Entry.{Entry}
-use Rattle.hub.specs.declared.TheConstants.{PAGE_LIMIT}
-use Rattle.hub.specs.inner.PageFilter.{is_wanted_at}
-use Rattle.hub_core.specs.Shelves.{IsKept}
-use Rattle.hub.specs.inner.Asking.{IsThere}
+use Rattle.{std.proofs.Common.{◌≡◌, ◌≤◌, ◌++◌, filter, take, drop, length}, hub_core.specs.{Shelves.IsKept, Sound.IsSound, State.State}}
+use Rattle.{hub_state.specs.declared.reply.Entry.Entry, hub.specs.{declared.TheConstants.PAGE_LIMIT, inner.{Asking.IsThere, PageFilter.is_wanted_at}}}
 use Rattle.hub.proofs.pages.pick.Given as goal
 
 abbrev pub invariant-loop-entry : goal.invariant-loop-entry

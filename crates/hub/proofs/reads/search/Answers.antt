@@ -1,14 +1,7 @@
-use Rattle.std.proofs.Common.{rules, ◌≡◌, Option, Some, IfOk, sym, ap, subst, ◌∙◌, arith, string_bytes}
-use Rattle.std.specs.Prelude.{option_map}
-use Rattle.iodef_tree.specs.Text.{Bytes}
-use Rattle.redact.specs.Wants.{meets_by}
-use Rattle.hub_core.specs.Reads.{case_for}
-use Rattle.hub_state.specs.declared.state.Incident.{Incident}
-use Rattle.hub_state.specs.declared.reply.Reply.{Reply}
-use Rattle.hub_state.specs.declared.reply.Reply.TheVariants.{Incidents}
+use Rattle.std.{proofs.Common.{rules, ◌≡◌, Option, Some, IfOk, sym, ap, subst, ◌∙◌, arith, string_bytes}, specs.Prelude.option_map}
+use Rattle.{iodef_tree.specs.Text.Bytes, redact.specs.Wants.meets_by, hub_core.specs.Reads.case_for, hub_state.specs.declared.reply.Reply.Reply}
+use Rattle.{hub_state.specs.declared.{reply.Reply.TheVariants.Incidents, state.Incident.Incident}, hub.specs.{Replies.page_of, Serving.searched}}
 use Rattle.hub.specs.Told.{standing_at}
-use Rattle.hub.specs.Replies.{page_of}
-use Rattle.hub.specs.Serving.{searched}
 use Rattle.hub.proofs.reads.search.Goals as goal
 
 pub returns : goal.returns

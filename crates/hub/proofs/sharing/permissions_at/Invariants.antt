@@ -1,5 +1,4 @@
-use Rattle.std.proofs.Common.{◌≡◌, map}
-use Rattle.hub.specs.Told.{permission_at}
+use Rattle.{std.proofs.Common.{◌≡◌, map}, hub.specs.Told.permission_at}
 use Rattle.hub.proofs.sharing.permissions_at.Given as goal
 
 abbrev pub invariant-loop-permission : goal.invariant-loop-permission

@@ -1,8 +1,5 @@
-use Rattle.std.proofs.Common.{rules, ◌≡◌, IfOk, subst, sym, ap, ◌∙◌, SFits, w64, to_z-of_z}
-use Rattle.std.proofs.lemmas.Bool.{eqb-true}
-use Rattle.hub_state.specs.declared.reply.Reply.TheVariants.{Sharing}
-use Rattle.hub.specs.Told.{sharing_made}
-use Rattle.hub.proofs.Shared.{found-due}
+use Rattle.std.proofs.{Common.{rules, ◌≡◌, IfOk, subst, sym, ap, ◌∙◌, SFits, w64, to_z-of_z}, lemmas.Bool.eqb-true}
+use Rattle.{hub_state.specs.declared.reply.Reply.TheVariants.Sharing, hub.{proofs.Shared.found-due, specs.Told.sharing_made}}
 use Rattle.hub.proofs.sharing.sharing.Goals as goal
 
 pub returns-in_ok-told-in-Some : goal.returns-in_ok-told-in-Some

@@ -1,7 +1,4 @@
-use Rattle.std.proofs.Common.{rules, ap, ◌∙◌}
-use Rattle.hub_core.specs.Reads.{entries_after}
-use Rattle.hub.specs.inner.Viewing.{first_being}
-use Rattle.hub.proofs.Seeing.{entry_is}
+use Rattle.{std.proofs.Common.{rules, ap, ◌∙◌}, hub_core.specs.Reads.entries_after, hub.{proofs.Seeing.entry_is, specs.inner.Viewing.first_being}}
 use Rattle.hub.proofs.view.entry.Goals as goal
 
 pub returns : goal.returns

@@ -1,10 +1,5 @@
-use Rattle.std.proofs.Common.{rules, ◌≡◌, Option, Some, sym, ap, subst, ◌∙◌, arith}
-use Rattle.std.specs.Prelude.{option_map}
-use Rattle.redact.specs.Excerpts.{told_by}
-use Rattle.redact.specs.declared.excerpts.Excerpt.{Excerpt}
-use Rattle.hub_core.specs.State.{incident_of}
-use Rattle.hub_core.specs.Reads.{served_of_incident}
-use Rattle.hub_state.proofs.Marked.{marked_found}
+use Rattle.{std.{proofs.Common.{rules, ◌≡◌, Option, Some, sym, ap, subst, ◌∙◌, arith}, specs.Prelude.option_map}, redact.specs.Excerpts.told_by}
+use Rattle.{redact.specs.declared.excerpts.Excerpt.Excerpt, hub_core.specs.{Reads.served_of_incident, State.incident_of}, hub_state.proofs.Marked.marked_found}
 use Rattle.hub.proofs.Seeing.{nothing_seen, shut_unseen, is_seen}
 use Rattle.hub.proofs.view.view.Goals as goal
 

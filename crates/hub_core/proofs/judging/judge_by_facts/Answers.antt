@@ -1,6 +1,5 @@
-use Rattle.std.proofs.Common.{refl}
+use Rattle.{std.proofs.Common.refl, hub_core.proofs.Judged.{refused_by, allowed_by}}
 use Rattle.hub_state.specs.declared.request.Request.TheVariants as ask
-use Rattle.hub_core.proofs.Judged.{refused_by, allowed_by}
 use Rattle.hub_core.proofs.judging.judge_by_facts.Goals as goal
 
 pub returns-in-Post-clause-refused : goal.returns-in-Post-clause-refused

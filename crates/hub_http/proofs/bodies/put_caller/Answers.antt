@@ -1,8 +1,5 @@
-use Rattle.hub_http.specs.Bodies.{role_name}
-use Rattle.json.specs.Print.{quoted, token_text}
-use Rattle.json.specs.Token.{boolean}
-use Rattle.std.proofs.Common.{codes, decimal, map, refl, ap}
-use Rattle.json_text.proofs.Objects.{begins, holds-more, holds-named, ends}
+use Rattle.{std.proofs.Common.{codes, decimal, refl, ap}, json.specs.{Print.{quoted, token_text}, Token.boolean}, json_text.proofs.Objects.{begins, holds-more}}
+use Rattle.{json_text.proofs.Objects.ends, hub_http.specs.Bodies.role_name}
 use Rattle.hub_http.proofs.bodies.put_caller.Goals as goal
 
 pub returns-clause-puts : goal.returns-clause-puts

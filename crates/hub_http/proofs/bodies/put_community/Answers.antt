@@ -1,8 +1,5 @@
-use Rattle.hub_http.specs.Bodies.{listed, whole}
-use Rattle.json.specs.Print.{quoted}
-use Rattle.serde_json.specs.Written.{compact_text}
-use Rattle.std.proofs.Common.{codes, decimal, map, refl, ap}
-use Rattle.json_text.proofs.Objects.{begins, holds-more, holds-named, ends}
+use Rattle.{std.proofs.Common.{codes, decimal, map, refl, ap}, json.specs.Print.quoted, serde_json.specs.Written.compact_text, json_text.proofs.Objects.begins}
+use Rattle.{json_text.proofs.Objects.{holds-more, holds-named, ends}, hub_http.specs.Bodies.{listed, whole}}
 use Rattle.hub_http.proofs.bodies.put_community.Goals as goal
 
 pub returns-clause-puts : goal.returns-clause-puts

@@ -1,7 +1,4 @@
-use Rattle.json.specs.Print.{quoted, token_text}
-use Rattle.json.specs.Token.{boolean}
-use Rattle.std.proofs.Common.{codes, decimal, map, true, refl, ap}
-use Rattle.json_text.proofs.Objects.{begins, holds-more, holds-named, ends}
+use Rattle.{std.proofs.Common.{codes, true, refl}, json.specs.{Print.token_text, Token.boolean}, json_text.proofs.Objects.{begins, holds-more, ends}}
 use Rattle.hub_http.proofs.bodies.put_done.Goals as goal
 
 pub returns-clause-puts : goal.returns-clause-puts

@@ -1,9 +1,5 @@
-use Rattle.std.proofs.Common.{None, refl}
-use Rattle.json.specs.Token.{null}
-use Rattle.json.specs.Print.{token_text}
-use Rattle.serde_json.specs.Written.{compact_text}
+use Rattle.{std.proofs.Common.{None, refl}, json.specs.{Print.token_text, Token.null}, serde_json.specs.Written.compact_text, hub_http.proofs.Arrays.token-is}
 use Rattle.hub_http.specs.Bodies.{end_or_null}
-use Rattle.hub_http.proofs.Arrays.{token-is}
 use Rattle.hub_http.proofs.bodies.put_end.Goals as goal
 
 pub returns-in-None-clause-puts : goal.returns-in-None-clause-puts

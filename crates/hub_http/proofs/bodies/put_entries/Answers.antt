@@ -1,9 +1,5 @@
-use Rattle.std.proofs.Common.{◌++◌, get_or, rules}
-use Rattle.hub_state.specs.declared.reply.Entry.{Entry}
-use Rattle.serde_json.specs.Written.{comma_if, compact_text}
-use Rattle.json_text.proofs.Puts.{ok-both-are}
-use Rattle.json_text.proofs.Lists.{array-begins, element-more, array-ends}
-use Rattle.hub_http.specs.Bodies.{entry_object}
+use Rattle.{std.proofs.Common.{◌++◌, get_or, rules}, hub_state.specs.declared.reply.Entry.Entry, serde_json.specs.Written.{comma_if, compact_text}}
+use Rattle.{json_text.proofs.{Lists.{array-begins, element-more, array-ends}, Puts.ok-both-are}, hub_http.specs.Bodies.entry_object}
 use Rattle.hub_http.proofs.bodies.put_entries.Goals as goal
 
 pub loop-entry-init : goal.loop-entry-init

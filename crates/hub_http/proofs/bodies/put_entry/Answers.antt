@@ -1,5 +1,4 @@
-use Rattle.std.proofs.Common.{codes, decimal, map, refl, ap}
-use Rattle.json_text.proofs.Objects.{begins, holds-more, holds-named, ends}
+use Rattle.{std.proofs.Common.{codes, decimal, refl}, json_text.proofs.Objects.{begins, holds-more, ends}}
 use Rattle.hub_http.proofs.bodies.put_entry.Goals as goal
 
 pub returns-clause-puts : goal.returns-clause-puts

@@ -1,9 +1,5 @@
-use Rattle.std.proofs.Common.{[], ◌∷◌, decimal, refl, ap}
-use Rattle.json.specs.Print.{quoted}
-use Rattle.serde_json.specs.Data.{string}
-use Rattle.iodef_tree.specs.Pointer.{pointer_text}
-use Rattle.hub_http.specs.Bodies.{whole, whole_or_zero}
-use Rattle.hub_http.proofs.Arrays.{begins, next, next-token, ends}
+use Rattle.{std.proofs.Common.{[], ◌∷◌, decimal, refl, ap}, json.specs.Print.quoted, serde_json.specs.Data.string, iodef_tree.specs.Pointer.pointer_text}
+use Rattle.hub_http.{proofs.Arrays.{begins, next, ends}, specs.Bodies.{whole, whole_or_zero}}
 use Rattle.hub_http.proofs.bodies.put_gate.Goals as goal
 
 pub returns-clause-puts : goal.returns-clause-puts

@@ -1,8 +1,5 @@
-use Rattle.std.proofs.Common.{◌++◌}
-use Rattle.serde_json.specs.Written.{comma_if, compact_text}
-use Rattle.json_text.proofs.Puts.{ok-both-are}
-use Rattle.json_text.proofs.Lists.{array-begins, element-more, array-ends}
-use Rattle.hub_http.specs.Bodies.{gate_triple}
+use Rattle.{std.proofs.Common.◌++◌, serde_json.specs.Written.{comma_if, compact_text}, json_text.proofs.Lists.{array-begins, element-more, array-ends}}
+use Rattle.{json_text.proofs.Puts.ok-both-are, hub_http.specs.Bodies.gate_triple}
 use Rattle.hub_http.proofs.bodies.put_gates.Goals as goal
 
 pub loop-gate-init : goal.loop-gate-init

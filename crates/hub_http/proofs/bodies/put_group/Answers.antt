@@ -1,7 +1,5 @@
-use Rattle.json.specs.Print.{quoted, token_text}
-use Rattle.json.specs.Token.{boolean}
-use Rattle.std.proofs.Common.{codes, decimal, map, refl, ap}
-use Rattle.json_text.proofs.Objects.{begins, holds-more, holds-named, ends}
+use Rattle.{std.proofs.Common.{codes, decimal, refl, ap}, json.specs.{Print.{quoted, token_text}, Token.boolean}, json_text.proofs.Objects.{begins, holds-more}}
+use Rattle.json_text.proofs.Objects.{ends}
 use Rattle.hub_http.proofs.bodies.put_group.Goals as goal
 
 pub returns-clause-puts : goal.returns-clause-puts

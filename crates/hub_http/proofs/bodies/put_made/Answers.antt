@@ -1,7 +1,5 @@
+use Rattle.{std.proofs.Common.{codes, map, refl}, serde_json.specs.Written.compact_text, json_text.proofs.Objects.{begins, holds-named, ends}}
 use Rattle.hub_http.specs.Bodies.{listed, whole}
-use Rattle.serde_json.specs.Written.{compact_text}
-use Rattle.std.proofs.Common.{codes, decimal, map, refl, ap}
-use Rattle.json_text.proofs.Objects.{begins, holds-more, holds-named, ends}
 use Rattle.hub_http.proofs.bodies.put_made.Goals as goal
 
 pub returns-clause-puts : goal.returns-clause-puts

@@ -1,8 +1,5 @@
-use Rattle.std.proofs.Common.{◌≡◌, ℤ, pos, negsuc, Some, w64, to_z-of_z, refl, ap, ◌∙◌}
-use Rattle.std.specs.Fmt.{signed_decimal}
-use Rattle.serde_json.specs.Written.{compact_text}
-use Rattle.hub_http.specs.Bodies.{end_or_null}
-use Rattle.hub_http.proofs.Arrays.{token-is}
+use Rattle.{std.{proofs.Common.{◌≡◌, ℤ, pos, negsuc, Some, to_z-of_z, refl, ap, ◌∙◌}, specs.Fmt.signed_decimal}, serde_json.specs.Written.compact_text}
+use Rattle.hub_http.{proofs.Arrays.token-is, specs.Bodies.end_or_null}
 use Rattle.hub_http.proofs.bodies.put_moment.Goals as goal
 
 -- the text of a moment is that of its number

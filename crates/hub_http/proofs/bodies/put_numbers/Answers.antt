@@ -1,8 +1,5 @@
-use Rattle.std.proofs.Common.{◌++◌, get_or, rules}
-use Rattle.serde_json.specs.Written.{comma_if, compact_text}
-use Rattle.json_text.proofs.Puts.{ok-both-are}
-use Rattle.json_text.proofs.Lists.{array-begins, element-more, array-ends}
-use Rattle.hub_http.specs.Bodies.{whole}
+use Rattle.{std.proofs.Common.{◌++◌, get_or, rules}, serde_json.specs.Written.{comma_if, compact_text}, json_text.proofs.Lists.{array-begins, element-more}}
+use Rattle.{json_text.proofs.{Lists.array-ends, Puts.ok-both-are}, hub_http.specs.Bodies.whole}
 use Rattle.hub_http.proofs.bodies.put_numbers.Goals as goal
 
 pub loop-n-init : goal.loop-n-init

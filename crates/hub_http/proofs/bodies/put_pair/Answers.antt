@@ -1,8 +1,5 @@
-use Rattle.std.proofs.Common.{[], ◌∷◌, decimal, refl}
-use Rattle.json.specs.Print.{quoted}
-use Rattle.serde_json.specs.Data.{string}
-use Rattle.hub_http.specs.Bodies.{whole}
-use Rattle.hub_http.proofs.Arrays.{begins, next, next-token, ends}
+use Rattle.{std.proofs.Common.{[], ◌∷◌, decimal, refl}, json.specs.Print.quoted, serde_json.specs.Data.string, hub_http.proofs.Arrays.{begins, next}}
+use Rattle.hub_http.{proofs.Arrays.{next-token, ends}, specs.Bodies.whole}
 use Rattle.hub_http.proofs.bodies.put_pair.Goals as goal
 
 pub returns-clause-puts : goal.returns-clause-puts

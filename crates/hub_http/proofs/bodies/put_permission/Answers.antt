@@ -1,11 +1,6 @@
-use Rattle.std.proofs.Common.{[], ◌∷◌, decimal, refl, ap}
-use Rattle.json.specs.Token.{boolean as flag}
-use Rattle.json.specs.Print.{quoted, token_text}
-use Rattle.serde_json.specs.Data.{boolean, string}
-use Rattle.serde_json.specs.Written.{compact_text}
-use Rattle.iodef_tree.specs.Pointer.{pointer_text}
-use Rattle.hub_http.specs.Bodies.{whole, grantee_kind, grantee_number, end_or_null}
-use Rattle.hub_http.proofs.Arrays.{begins, next, next-token, ends}
+use Rattle.{std.proofs.Common.{[], ◌∷◌, decimal, refl, ap}, json.specs.{Print.{quoted, token_text}, Token.boolean as flag}, serde_json.specs.Data.boolean}
+use Rattle.{serde_json.specs.{Data.string, Written.compact_text}, iodef_tree.specs.Pointer.pointer_text, hub_http.proofs.Arrays.{begins, next, next-token}}
+use Rattle.hub_http.{proofs.Arrays.ends, specs.Bodies.{whole, grantee_kind, grantee_number, end_or_null}}
 use Rattle.hub_http.proofs.bodies.put_permission.Goals as goal
 
 pub returns-clause-puts : goal.returns-clause-puts

@@ -1,6 +1,4 @@
-use Rattle.std.proofs.Common.{◌≡◌, ℕ, List, ◌∷◌, ◌++◌, drop, false}
-use Rattle.serde_json.specs.Written.{comma_if}
-use Rattle.json_text.proofs.Lists.{left_text}
+use Rattle.{std.proofs.Common.{◌≡◌, ℕ, List, ◌∷◌, ◌++◌, drop, false}, serde_json.specs.Written.comma_if, json_text.proofs.Lists.left_text}
 use Rattle.hub_http.specs.Bodies.{permission_row}
 use Rattle.hub_http.proofs.bodies.put_permissions.Given as goal
 

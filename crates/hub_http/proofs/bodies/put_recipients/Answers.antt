@@ -1,8 +1,5 @@
-use Rattle.std.proofs.Common.{◌++◌, get_or, rules}
-use Rattle.hub_state.specs.declared.request.Target.TheVariants.{Person}
-use Rattle.serde_json.specs.Written.{comma_if, compact_text}
-use Rattle.json_text.proofs.Puts.{ok-both-are}
-use Rattle.json_text.proofs.Lists.{array-begins, element-more, array-ends}
+use Rattle.{std.proofs.Common.{◌++◌, get_or, rules}, hub_state.specs.declared.request.Target.TheVariants.Person, serde_json.specs.Written.comma_if}
+use Rattle.{serde_json.specs.Written.compact_text, json_text.proofs.{Lists.{array-begins, element-more, array-ends}, Puts.ok-both-are}}
 use Rattle.hub_http.specs.Bodies.{target_pair}
 use Rattle.hub_http.proofs.bodies.put_recipients.Goals as goal
 

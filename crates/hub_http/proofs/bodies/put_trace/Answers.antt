@@ -1,6 +1,4 @@
-use Rattle.json.specs.Print.{quoted, token_text}
-use Rattle.std.proofs.Common.{codes, decimal, map, refl, ap}
-use Rattle.json_text.proofs.Objects.{begins, holds-more, holds-named, ends}
+use Rattle.{std.proofs.Common.{codes, refl}, json.specs.Print.quoted, json_text.proofs.Objects.{begins, holds-more, ends}}
 use Rattle.hub_http.proofs.bodies.put_trace.Goals as goal
 
 pub returns-clause-puts : goal.returns-clause-puts

@@ -1,9 +1,5 @@
-use Rattle.hub_http.specs.Bodies.{listed, withheld_pair}
-use Rattle.serde_json.specs.Data.{object}
-use Rattle.iodef_tree.specs.Json.{data_of}
-use Rattle.serde_json.specs.Written.{compact_text}
-use Rattle.std.proofs.Common.{codes, decimal, map, refl, ap}
-use Rattle.json_text.proofs.Objects.{begins, holds-more, holds-named, ends}
+use Rattle.{std.proofs.Common.{codes, decimal, map, refl, ap}, serde_json.specs.{Data.object, Written.compact_text}, iodef_tree.specs.Json.data_of}
+use Rattle.{json_text.proofs.Objects.{begins, holds-more, holds-named, ends}, hub_http.specs.Bodies.{listed, withheld_pair}}
 use Rattle.hub_http.proofs.bodies.put_view.Goals as goal
 
 pub returns-clause-puts : goal.returns-clause-puts

@@ -1,7 +1,4 @@
-use Rattle.std.proofs.Common.{ap}
-use Rattle.json.specs.Print.{quoted}
-use Rattle.json_text.proofs.Puts.{ok-both-are}
-use Rattle.json_text.proofs.Lists.{pair-is}
+use Rattle.{std.proofs.Common.ap, json.specs.Print.quoted, json_text.proofs.{Lists.pair-is, Puts.ok-both-are}}
 use Rattle.hub_http.proofs.bodies.put_withheld_pair.Goals as goal
 
 pub returns-clause-puts : goal.returns-clause-puts

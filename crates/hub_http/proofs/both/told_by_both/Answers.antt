@@ -1,10 +1,5 @@
-use Rattle.std.proofs.Common.{ℤ, sym, subst, w64}
-use Rattle.std.proofs.lemmas.Int.{to_z-of_z}
-use Rattle.std.proofs.lemmas.Result.{IfOk-weaker}
-use Rattle.hub.specs.Machine.{IsStep}
-use Rattle.hub_http.specs.Alike.{IsWrittenAlike}
-use Rattle.hub_http.specs.Replies.{reply_text}
-use Rattle.hub_http.proofs.WrittenAlike.{written-alike}
+use Rattle.{std.proofs.{Common.{ℤ, sym, subst, w64}, lemmas.{Int.to_z-of_z, Result.IfOk-weaker}}, hub.specs.Machine.IsStep}
+use Rattle.hub_http.{proofs.WrittenAlike.written-alike, specs.{Alike.IsWrittenAlike, Replies.reply_text}}
 use Rattle.hub_http.proofs.both.told_by_both.Goals as goal
 
 pub returns-clause-alike : goal.returns-clause-alike

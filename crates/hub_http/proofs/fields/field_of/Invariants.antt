@@ -1,7 +1,4 @@
-use Rattle.std.proofs.Common.{drop, map}
-use Rattle.httparse.specs.Borrowed.{header_parts}
-use Rattle.hub_http.specs.Fields.{field_values}
-use Rattle.hub_http.proofs.ValuesSoFar.{IsFront}
+use Rattle.{std.proofs.Common.{drop, map}, httparse.specs.Borrowed.header_parts, hub_http.{proofs.ValuesSoFar.IsFront, specs.Fields.field_values}}
 use Rattle.hub_http.proofs.fields.field_of.Given as goal
 
 abbrev pub invariant-loop-field : goal.invariant-loop-field

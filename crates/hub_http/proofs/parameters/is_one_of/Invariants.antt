@@ -1,6 +1,4 @@
-use Rattle.std.proofs.Common.{◌≡◌, drop}
-use Rattle.hub_http.specs.Parameters.{is_one_of}
-use Rattle.hub_http.specs.inner.Texts.{texts}
+use Rattle.{std.proofs.Common.{◌≡◌, drop}, hub_http.specs.{Parameters.is_one_of, inner.Texts.texts}}
 use Rattle.hub_http.proofs.parameters.is_one_of.Given as goal
 
 abbrev pub invariant-loop-known : goal.invariant-loop-known

@@ -1,7 +1,5 @@
-use Rattle.std.proofs.Common.{◌≡◌, ◌++◌, map}
-use Rattle.hub_http.specs.Parameters.{pairs_of, decoded_pair}
+use Rattle.{std.proofs.Common.{◌≡◌, ◌++◌, map}, form_urlencoded.specs.Parse.pairs_left, hub_http.specs.Parameters.{pairs_of, decoded_pair}}
 use Rattle.hub_http.specs.inner.Texts.{pair_views}
-use Rattle.form_urlencoded.specs.Parse.{pairs_left}
 use Rattle.hub_http.proofs.parameters.read_parameters.Given as goal
 
 abbrev pub invariant-loop-pair : goal.invariant-loop-pair

@@ -1,6 +1,4 @@
-use Rattle.std.proofs.Common.{◌∙◌}
-use Rattle.json_text.proofs.Puts.{ok-both-are}
-use Rattle.hub_http.proofs.Messages.{fields-is}
+use Rattle.{std.proofs.Common.◌∙◌, json_text.proofs.Puts.ok-both-are, hub_http.proofs.Messages.fields-is}
 use Rattle.hub_http.proofs.reply.put_fields.Goals as goal
 
 pub returns : goal.returns

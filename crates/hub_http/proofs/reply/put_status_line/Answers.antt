@@ -1,6 +1,4 @@
-use Rattle.std.proofs.Common.{◌∙◌, ap, decimal}
-use Rattle.json_text.proofs.Puts.{ok-both-are}
-use Rattle.hub_http.proofs.Messages.{status_line-is}
+use Rattle.{std.proofs.Common.{◌∙◌, ap, decimal}, json_text.proofs.Puts.ok-both-are, hub_http.proofs.Messages.status_line-is}
 use Rattle.hub_http.proofs.reply.put_status_line.Goals as goal
 
 pub returns : goal.returns

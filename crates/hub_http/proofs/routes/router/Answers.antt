@@ -1,6 +1,5 @@
 -- That no pattern is refused is computed, pattern by pattern.
-use Rattle.std.proofs.Common.{refl}
-use Rattle.matchit.proofs.OnLiterals.{matchit_on_literals}
+use Rattle.{std.proofs.Common.refl, matchit.proofs.OnLiterals.matchit_on_literals}
 use Rattle.hub_http.proofs.routes.router.Goals as goal
 
 pub returns-clause-fault : goal.returns-clause-fault

@@ -1,6 +1,4 @@
-use Rattle.std.proofs.Common.{◌≡◌, fold, map, take, drop, [], true}
-use Rattle.hub_http.specs.Routes.{with_entry, take_all}
-use Rattle.hub_http.specs.inner.Texts.{entry_view}
+use Rattle.{std.proofs.Common.{◌≡◌, fold, map, take, drop, [], true}, hub_http.specs.{Routes.{with_entry, take_all}, inner.Texts.entry_view}}
 use Rattle.hub_http.proofs.routes.router_of.Given as goal
 
 abbrev pub invariant-loop-entry : goal.invariant-loop-entry

@@ -1,6 +1,4 @@
-use Rattle.std.proofs.Common.{ℤ, subst, w64}
-use Rattle.std.proofs.lemmas.Int.{to_z-of_z}
-use Rattle.hub_http.specs.Serving.{Steps}
+use Rattle.{std.proofs.{Common.{ℤ, subst, w64}, lemmas.Int.to_z-of_z}, hub_http.specs.Serving.Steps}
 use Rattle.hub_http.proofs.serve.ask.Goals as goal
 
 pub returns-clause-steps : goal.returns-clause-steps

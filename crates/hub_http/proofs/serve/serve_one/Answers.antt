@@ -1,7 +1,4 @@
-use Rattle.std.proofs.Common.{◌≡◌, Err, true, refl, sym, subst}
-use Rattle.std.specs.Option.{is_some}
-use Rattle.hub_http.specs.Replies.{fault_status}
-use Rattle.hub_http.specs.Serving.{Gathers, HasRead}
+use Rattle.{std.{proofs.Common.{◌≡◌, Err, true, refl, sym, subst}, specs.Option.is_some}, hub_http.specs.{Replies.fault_status, Serving.{Gathers, HasRead}}}
 use Rattle.hub_http.proofs.serve.serve_one.Goals as goal
 
 pub returns-in-Ok-write_fault-clause-served : goal.returns-in-Ok-write_fault-clause-served

@@ -1,5 +1,4 @@
-use Rattle.std.proofs.Common.{◌≡◌, ◌++◌, ◌∷◌, [], rules}
-use Rattle.hub_http.proofs.Gates.{gates_step, gates_end, gates_fault}
+use Rattle.{std.proofs.Common.{◌≡◌, ◌++◌, ◌∷◌, [], rules}, hub_http.proofs.Gates.{gates_step, gates_end, gates_fault}}
 use Rattle.hub_http.proofs.spelling.read_gates.Goals as goal
 
 pub returns-in-Err : goal.returns-in-Err

@@ -1,7 +1,4 @@
-use Rattle.std.proofs.Common.{◌≡◌, drop}
-use Rattle.hub_http.specs.Spelling.{gates}
-use Rattle.hub_http.specs.inner.Texts.{texts}
-use Rattle.hub_http.proofs.Gates.{behind}
+use Rattle.{std.proofs.Common.{◌≡◌, drop}, hub_http.{proofs.Gates.behind, specs.{Spelling.gates, inner.Texts.texts}}}
 use Rattle.hub_http.proofs.spelling.read_gates.Given as goal
 
 abbrev pub invariant-loop-text : goal.invariant-loop-text

@@ -1,5 +1,4 @@
-use Rattle.std.proofs.Common.{rules}
-use Rattle.hub_http.proofs.Numbers.{too_large}
+use Rattle.{std.proofs.Common.rules, hub_http.proofs.Numbers.too_large}
 use Rattle.hub_http.proofs.spelling.read_number.Goals as goal
 
 pub returns-in-Err : goal.returns-in-Err

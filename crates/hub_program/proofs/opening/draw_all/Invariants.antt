@@ -1,6 +1,4 @@
-use Rattle.std.proofs.Common.{ℕ}
-use Rattle.hub_state.specs.Shelves.{IsKept}
-use Rattle.kept_rows.specs.Drawn.{Keeps}
+use Rattle.{hub_state.specs.Shelves.IsKept, kept_rows.specs.Drawn.Keeps}
 use Rattle.hub_program.proofs.opening.draw_all.Given as goal
 
 abbrev pub invariant-loop : goal.invariant-loop

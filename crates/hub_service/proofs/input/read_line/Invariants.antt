@@ -1,7 +1,4 @@
-use Rattle.std.specs.Prelude.{IsTrue}
-use Rattle.std.specs.List.{list_all}
-use Rattle.std.specs.Io.KnownBytes.{Consumes}
-use Rattle.hub_service.specs.Keys.{is_no_newline}
+use Rattle.{std.specs.{Io.KnownBytes.Consumes, List.list_all, Prelude.IsTrue}, hub_service.specs.Keys.is_no_newline}
 use Rattle.hub_service.proofs.input.read_line.Given as goal
 
 abbrev pub invariant-loop : goal.invariant-loop

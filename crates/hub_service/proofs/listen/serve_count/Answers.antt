@@ -1,5 +1,4 @@
-use Rattle.std.proofs.Common.{◌≡◌, refl, arith}
-use Rattle.hub_service.proofs.Served.{none_asked, runs_on}
+use Rattle.{std.proofs.Common.{◌≡◌, refl, arith}, hub_service.proofs.Served.{none_asked, runs_on}}
 use Rattle.hub_service.proofs.listen.serve_count.Goals as goal
 
 pub loop-init : goal.loop-init

@@ -1,5 +1,4 @@
-use Rattle.std.proofs.Common.{◌≡◌, ◌≤◌}
-use Rattle.hub_service.specs.Serving.{HasRun}
+use Rattle.{std.proofs.Common.{◌≡◌, ◌≤◌}, hub_service.specs.Serving.HasRun}
 use Rattle.hub_service.proofs.listen.serve_count.Given as goal
 
 abbrev pub invariant-loop : goal.invariant-loop

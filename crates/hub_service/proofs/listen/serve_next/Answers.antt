@@ -1,5 +1,4 @@
-use Rattle.std.proofs.Common.{refl}
-use Rattle.hub_service.proofs.Served.{none_asked}
+use Rattle.{std.proofs.Common.refl, hub_service.proofs.Served.none_asked}
 use Rattle.hub_service.proofs.listen.serve_next.Goals as goal
 
 pub returns-in_default-clause-run : goal.returns-in_default-clause-run

@@ -1,5 +1,4 @@
-use Rattle.std.proofs.Common.{None}
-use Rattle.hub_service.proofs.Served.{serves_run}
+use Rattle.{std.proofs.Common.None, hub_service.proofs.Served.serves_run}
 use Rattle.hub_service.proofs.listen.serve_stream.Goals as goal
 
 pub returns-in_err-served-clause-run : goal.returns-in_err-served-clause-run

@@ -1,6 +1,4 @@
-use Rattle.std.proofs.Common.{◌≡◌, ◌++◌, map, drop}
-use Rattle.hub_state.specs.Bare.{kept_edit}
-use Rattle.hub_state.specs.inner.Changes.{row_edit, directory_edits, row_edits}
+use Rattle.{std.proofs.Common.{◌≡◌, ◌++◌, map, drop}, hub_state.specs.{Bare.kept_edit, inner.Changes.{row_edit, directory_edits, row_edits}}}
 use Rattle.hub_state.proofs.change.changes_of.Given as goal
 
 abbrev pub invariant-loop-edit : goal.invariant-loop-edit

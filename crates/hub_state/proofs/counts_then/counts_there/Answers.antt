@@ -1,17 +1,9 @@
-use Rattle.std.proofs.Common.{◌≡◌, List, ◌∙◌, length, ◌+◌, ◌-◌, ◌^◌, true, sym, ap, subst}
-use Rattle.std.specs.Prelude.{is_some, min}
-use Rattle.hub_state.specs.Documents.{documents_in}
-use Rattle.hub_state.specs.Requests.{incident_asked, known_of, looked_up}
-use Rattle.hub_state.specs.inner.Shared.{counts_in, sharing_asked}
-use Rattle.hub_state.specs.Edits.{with_edits}
-use Rattle.hub_state.specs.State.{State, permissions_of, recipients_of}
-use Rattle.hub_state.specs.declared.edit.Edit.{Edit}
-use Rattle.hub_state.specs.declared.counts_then.Counts.{Counts}
-use Rattle.hub_state.specs.declared.request.Request.{Request}
+use Rattle.std.{proofs.Common.{◌≡◌, List, ◌∙◌, length, ◌+◌, ◌-◌, ◌^◌, true, sym, ap, subst}, specs.Prelude.{is_some, min}}
+use Rattle.hub_state.proofs.{Bounded.{recipients_told_left, recipients_told_with}, Then.{replace_edits, counts_are, exchanged_permissions}}
+use Rattle.hub_state.{proofs.Then.{exchanged_recipients, none_left}, specs.{Documents.documents_in, Edits.with_edits, Requests.{incident_asked, known_of}}}
+use Rattle.hub_state.specs.{Requests.looked_up, State.{State, permissions_of, recipients_of}, declared.{counts_then.Counts.Counts, edit.Edit.Edit}}
+use Rattle.hub_state.specs.{declared.{request.Request.Request, sharing.Sharing.Sharing}, inner.Shared.{counts_in, sharing_asked}}
 use Rattle.hub_state.specs.declared.request.Request.TheVariants as ask
-use Rattle.hub_state.specs.declared.sharing.Sharing.{Sharing}
-use Rattle.hub_state.proofs.Then.{replace_edits, counts_are, exchanged_permissions, exchanged_recipients, none_left}
-use Rattle.hub_state.proofs.Bounded.{recipients_told_left, recipients_told_with}
 use Rattle.hub_state.proofs.counts_then.counts_there.Goals as goal
 
 pub returns-in-Replace : goal.returns-in-Replace

@@ -1,11 +1,6 @@
-use Rattle.std.proofs.Common.{◌∙◌, ◌∷◌, [], sym, ap}
-use Rattle.std.specs.Prelude.{min}
-use Rattle.std.specs.Option.{option_map_or}
-use Rattle.hub_state.specs.Aftermath.{put_gate}
-use Rattle.hub_state.specs.Edits.{with_edits}
-use Rattle.hub_state.specs.State.{class_gates}
+use Rattle.{std.{proofs.Common.{◌∙◌, ◌∷◌, [], sym, ap}, specs.{Option.option_map_or, Prelude.min}}, hub_state.proofs.Bounded.{gates_told, gates_told_with}}
+use Rattle.hub_state.specs.{Aftermath.put_gate, Edits.with_edits, State.class_gates}
 use Rattle.hub_state.specs.declared.edit.Edit.TheVariants as edit
-use Rattle.hub_state.proofs.Bounded.{gates_told, gates_told_with}
 use Rattle.hub_state.proofs.counts_then.gates_with.Goals as goal
 
 pub returns-in-None : goal.returns-in-None

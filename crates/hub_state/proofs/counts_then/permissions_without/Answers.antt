@@ -1,10 +1,6 @@
-use Rattle.std.proofs.Common.{◌∙◌, ◌∷◌, [], sym, ap}
-use Rattle.std.specs.Prelude.{min}
-use Rattle.std.specs.Option.{option_map_or}
-use Rattle.hub_state.specs.Edits.{with_edits}
-use Rattle.hub_state.specs.State.{permissions_of}
+use Rattle.{std.{proofs.Common.{◌∙◌, ◌∷◌, [], sym, ap}, specs.{Option.option_map_or, Prelude.min}}, hub_state.proofs.Bounded.permissions_told}
+use Rattle.hub_state.{proofs.Bounded.permissions_told_left, specs.{Edits.with_edits, State.permissions_of}}
 use Rattle.hub_state.specs.declared.edit.Edit.TheVariants as edit
-use Rattle.hub_state.proofs.Bounded.{permissions_told, permissions_told_left}
 use Rattle.hub_state.proofs.counts_then.permissions_without.Goals as goal
 
 pub returns-in-None : goal.returns-in-None

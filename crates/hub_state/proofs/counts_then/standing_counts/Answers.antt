@@ -1,7 +1,5 @@
-use Rattle.std.proofs.Common.{◌∙◌, ap}
-use Rattle.std.specs.Prelude.{min}
+use Rattle.{std.{proofs.Common.{◌∙◌, ap}, specs.Prelude.min}, hub_state.proofs.Bounded.{gates_told, recipients_told, permissions_told}}
 use Rattle.hub_state.specs.declared.sharing.Sharing.{Sharing}
-use Rattle.hub_state.proofs.Bounded.{gates_told, recipients_told, permissions_told}
 use Rattle.hub_state.proofs.counts_then.standing_counts.Goals as goal
 
 pub returns : goal.returns

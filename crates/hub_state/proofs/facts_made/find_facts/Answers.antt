@@ -1,16 +1,8 @@
-use Rattle.std.proofs.Common.{rules, ◌≡◌, ◌∙◌, ℕ, Option, Some, None, is_some, refl, ap, arith}
-use Rattle.std.specs.Prelude.{option_map}
-use Rattle.circle.specs.declared.command.CircleFacts.{CircleFacts}
-use Rattle.circle.specs.declared.directory.Person.{Person}
-use Rattle.hub_state.specs.Documents.{Lines}
-use Rattle.hub_state.specs.Facts.{circle_facts_of, facts_of, posted_of}
-use Rattle.hub_state.specs.Requests.{incident_asked, incident_facts, known_of, looked_up}
+use Rattle.std.{proofs.Common.{rules, ◌≡◌, ◌∙◌, ℕ, Option, Some, None, is_some, refl, ap, arith}, specs.Prelude.option_map}
+use Rattle.{circle.specs.declared.{command.CircleFacts.CircleFacts, directory.Person.Person}, hub_state.specs.{Documents.Lines, Facts.circle_facts_of}}
+use Rattle.hub_state.specs.{Facts.{facts_of, posted_of}, Requests.{incident_asked, incident_facts, known_of, looked_up}, State.State}
+use Rattle.hub_state.specs.declared.{counts_then.Counts.Counts, facts.IncidentFacts.IncidentFacts, request.Request.Request, state.Incident.Incident}
 use Rattle.hub_state.specs.inner.Shared.{counts_in}
-use Rattle.hub_state.specs.State.{State}
-use Rattle.hub_state.specs.declared.counts_then.Counts.{Counts}
-use Rattle.hub_state.specs.declared.facts.IncidentFacts.{IncidentFacts}
-use Rattle.hub_state.specs.declared.request.Request.{Request}
-use Rattle.hub_state.specs.declared.state.Incident.{Incident}
 use Rattle.hub_state.proofs.facts_made.find_facts.Goals as goal
 
 is_there : (o : Option Incident) → is_some (option_map incident_facts o) ≡ is_some o

@@ -1,8 +1,4 @@
-use Rattle.std.proofs.Common.{◌≡◌, true, take}
-use Rattle.std.specs.List.{list_all}
-use Rattle.hub_state.specs.Requests.{is_own_group}
-use Rattle.hub_state.specs.Shelves.{IsKept}
-use Rattle.hub_state.specs.State.{State}
+use Rattle.{std.{proofs.Common.{◌≡◌, true, take}, specs.List.list_all}, hub_state.specs.{Requests.is_own_group, Shelves.IsKept, State.State}}
 use Rattle.hub_state.specs.declared.request.WantedGate.{WantedGate}
 use Rattle.hub_state.proofs.named_there.are_all_own.Given as goal
 

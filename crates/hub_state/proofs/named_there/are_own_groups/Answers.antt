@@ -1,8 +1,5 @@
-use Rattle.std.proofs.Common.{rules, ◌≡◌, ◌&&◌, true, Bool, sym, ap, subst, ◌∙◌, arith}
-use Rattle.std.specs.Prelude.{IfOk}
-use Rattle.std.specs.List.{list_all}
-use Rattle.hub_state.specs.Requests.{is_own_group}
-use Rattle.hub_state.specs.declared.request.WantedGate.{WantedGate}
+use Rattle.std.{proofs.Common.{rules, ◌≡◌, ◌&&◌, true, Bool, sym, ap, subst, ◌∙◌, arith}, specs.{List.list_all, Prelude.IfOk}}
+use Rattle.hub_state.specs.{Requests.is_own_group, declared.request.WantedGate.WantedGate}
 use Rattle.hub_state.proofs.named_there.are_own_groups.Goals as goal
 
 pub returns-then-branch : goal.returns-then-branch

@@ -1,6 +1,5 @@
-use Rattle.std.proofs.Common.{rules, ◌≡◌, ◌&&◌, true, Bool, sym, ap, subst, ◌∙◌, arith}
-use Rattle.std.specs.Prelude.{IfOk}
-use Rattle.hub_state.specs.Requests.{is_own_community, are_own_groups}
+use Rattle.{std.{proofs.Common.{rules, ◌≡◌, ◌&&◌, true, Bool, sym, ap, subst, ◌∙◌, arith}, specs.Prelude.IfOk}, hub_state.specs.Requests.is_own_community}
+use Rattle.hub_state.specs.Requests.{are_own_groups}
 use Rattle.hub_state.proofs.named_there.has_joined_all.Goals as goal
 
 pub returns-then-branch : goal.returns-then-branch

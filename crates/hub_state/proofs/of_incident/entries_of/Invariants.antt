@@ -1,5 +1,4 @@
-use Rattle.std.proofs.Common.{◌≡◌, map, take}
-use Rattle.hub_state.specs.Reads.{entry_of}
+use Rattle.{std.proofs.Common.{◌≡◌, map, take}, hub_state.specs.Reads.entry_of}
 use Rattle.hub_state.proofs.of_incident.entries_of.Given as goal
 
 abbrev pub invariant-loop-incident : goal.invariant-loop-incident

@@ -1,7 +1,4 @@
-use Rattle.std.proofs.Common.{◌≡◌, drop}
-use Rattle.hub_state.specs.Facts.{posted_in}
-use Rattle.hub_state.specs.Shelves.{IsKept}
-use Rattle.hub_state.specs.State.{State}
+use Rattle.{std.proofs.Common.{◌≡◌, drop}, hub_state.specs.{Facts.posted_in, Shelves.IsKept, State.State}}
 use Rattle.hub_state.proofs.posted_earlier.posted_among.Given as goal
 
 abbrev pub invariant-loop-document : goal.invariant-loop-document

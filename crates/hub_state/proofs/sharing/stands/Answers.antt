@@ -1,11 +1,6 @@
-use Rattle.std.proofs.Common.{◌≡◌, ◌∙◌, sym, ap, subst}
-use Rattle.hub_state.specs.Facts.{stands_in}
-use Rattle.hub_state.specs.inner.Questions.{is_target_among}
-use Rattle.hub_state.specs.Requests.{incident_asked}
-use Rattle.hub_state.specs.inner.Shared.{sharing_asked}
-use Rattle.hub_state.specs.declared.request.Request.{Request}
-use Rattle.hub_state.specs.declared.sharing.Sharing.{Sharing}
-use Rattle.hub_state.proofs.Counted.{gate_stands, granted_stands, permission_stands, target_among}
+use Rattle.{std.proofs.Common.{◌≡◌, ◌∙◌, sym, ap, subst}, hub_state.proofs.Counted.{gate_stands, granted_stands, permission_stands, target_among}}
+use Rattle.hub_state.specs.{Facts.stands_in, Requests.incident_asked, declared.{request.Request.Request, sharing.Sharing.Sharing}}
+use Rattle.hub_state.specs.inner.{Questions.is_target_among, Shared.sharing_asked}
 use Rattle.hub_state.proofs.sharing.stands.Goals as goal
 
 pub returns-in-Redistribute : goal.returns-in-Redistribute

@@ -1,11 +1,6 @@
-use Rattle.std.proofs.Common.{rules, ◌≡◌, ◌∙◌, true, false, not, if◌then◌else◌, subst, sym, ap}
-use Rattle.std.specs.Ordering.{is_lt}
-use Rattle.std.specs.List.{insert}
-use Rattle.std.specs.List.Sorted.{IsPartitionPoint}
-use Rattle.std.proofs.lemmas.List.Sorted.{IsPartitionPoint-from_clause}
-use Rattle.circle.specs.Ordered.{put_by}
-use Rattle.hub_state.specs.InOrder.{IsInOrder}
-use Rattle.hub_state.proofs.Ranked.{partitioned, above_back, put_inserted, put_in_order}
+use Rattle.std.proofs.{Common.{rules, ◌≡◌, ◌∙◌, true, false, not, if◌then◌else◌, subst, sym, ap}, lemmas.List.Sorted.IsPartitionPoint-from_clause}
+use Rattle.{std.specs.{List.{insert, Sorted.IsPartitionPoint}, Ordering.is_lt}, circle.specs.Ordered.put_by, hub_state.proofs.Ranked.{partitioned, above_back}}
+use Rattle.hub_state.{proofs.Ranked.{put_inserted, put_in_order}, specs.InOrder.IsInOrder}
 use Rattle.hub_state.proofs.sorted_rows.put.Given as given
 use Rattle.hub_state.proofs.sorted_rows.put.Goals as goal
 

@@ -1,8 +1,5 @@
-use Rattle.std.proofs.Common.{rules, ◌≡◌, ◌≤◌, length, true, false, subst}
-use Rattle.std.specs.Ordering.{is_lt, is_eq}
-use Rattle.std.specs.List.Sorted.{IsPartitionPoint, IsPartitionedBy}
-use Rattle.std.proofs.lemmas.List.Sorted.{IsPartitionPoint-from_clause}
-use Rattle.hub_state.proofs.Ranked.{alike_stretch}
+use Rattle.std.proofs.{Common.{rules, ◌≡◌, ◌≤◌, length, true, false, subst}, lemmas.List.Sorted.IsPartitionPoint-from_clause}
+use Rattle.{std.specs.{List.Sorted.{IsPartitionPoint, IsPartitionedBy}, Ordering.{is_lt, is_eq}}, hub_state.proofs.Ranked.alike_stretch}
 use Rattle.hub_state.proofs.sorted_rows.stretch_alike.Goals as goal
 
 pub returns : goal.returns

@@ -1,8 +1,5 @@
-use Rattle.std.proofs.Common.{rules, ◌≡◌, ◌≤◌, ◌==◌, length, true, false, subst}
-use Rattle.std.specs.Prelude.{nat_lt}
-use Rattle.std.specs.List.Sorted.{IsPartitionPoint, IsPartitionedBy}
-use Rattle.std.proofs.lemmas.List.Sorted.{IsPartitionPoint-from_clause}
-use Rattle.hub_state.proofs.Ranked.{owned_stretch}
+use Rattle.std.proofs.{Common.{rules, ◌≡◌, ◌≤◌, ◌==◌, length, true, false, subst}, lemmas.List.Sorted.IsPartitionPoint-from_clause}
+use Rattle.{std.specs.{List.Sorted.{IsPartitionPoint, IsPartitionedBy}, Prelude.nat_lt}, hub_state.proofs.Ranked.owned_stretch}
 use Rattle.hub_state.proofs.sorted_rows.stretch_of.Goals as goal
 
 pub returns : goal.returns

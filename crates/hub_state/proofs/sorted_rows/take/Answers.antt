@@ -1,6 +1,4 @@
-use Rattle.std.proofs.Common.{rules, not}
-use Rattle.hub_state.specs.InOrder.{is_alike}
-use Rattle.hub_state.proofs.Ranked.{left_in_order}
+use Rattle.{std.proofs.Common.{rules, not}, hub_state.{proofs.Ranked.left_in_order, specs.InOrder.is_alike}}
 use Rattle.hub_state.proofs.sorted_rows.take.Goals as goal
 
 pub returns-clause-in_order : goal.returns-clause-in_order

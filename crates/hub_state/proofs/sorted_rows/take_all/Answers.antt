@@ -1,5 +1,4 @@
-use Rattle.std.proofs.Common.{rules, not, ◌==◌}
-use Rattle.hub_state.proofs.Ranked.{left_in_order}
+use Rattle.{std.proofs.Common.{rules, not, ◌==◌}, hub_state.proofs.Ranked.left_in_order}
 use Rattle.hub_state.proofs.sorted_rows.take_all.Goals as goal
 
 pub returns-clause-in_order : goal.returns-clause-in_order

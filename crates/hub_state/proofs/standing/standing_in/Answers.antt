@@ -1,7 +1,4 @@
-use Rattle.std.proofs.Common.{w64, ap, ◌∙◌}
-use Rattle.std.proofs.lemmas.Int.{to_z-of_z}
-use Rattle.hub_state.specs.Reads.{standing_for}
-use Rattle.hub_state.proofs.Standings.{made_for}
+use Rattle.{std.proofs.{Common.{w64, ap, ◌∙◌}, lemmas.Int.to_z-of_z}, hub_state.{proofs.Standings.made_for, specs.Reads.standing_for}}
 use Rattle.hub_state.proofs.standing.standing_in.Goals as goal
 
 pub returns : goal.returns

@@ -1,11 +1,5 @@
-use Rattle.std.proofs.Common.{[]}
-use Rattle.sqlite.specs.Held.{state}
-use Rattle.hub_store.specs.Rows.{gate_row}
-use Rattle.hub_store.specs.inner.Adds.{gate_edit}
-use Rattle.hub_store.proofs.LookUps.Adding.{adds_all}
-use Rattle.hub_store.proofs.LookUps.AllListed.{all_gates_listed}
-use Rattle.hub_store.proofs.LookUps.Answering.{read_shown}
-use Rattle.hub_store.proofs.Rows.TextsWhole.{all_gates_is}
+use Rattle.{std.proofs.Common.[], sqlite.specs.Held.state, hub_store.proofs.LookUps.{Adding.adds_all, AllListed.all_gates_listed, Answering.read_shown}}
+use Rattle.hub_store.{proofs.Rows.TextsWhole.all_gates_is, specs.{Rows.gate_row, inner.Adds.gate_edit}}
 use Rattle.hub_store.proofs.add_incidents.add_gates.Goals as goal
 
 pub returns-clause-read : goal.returns-clause-read

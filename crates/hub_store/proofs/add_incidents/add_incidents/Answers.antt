@@ -1,6 +1,5 @@
-use Rattle.std.proofs.Common.{◌++◌}
-use Rattle.hub_store.specs.inner.Adds.{naming_edits, gate_edits, recipient_edits, permission_edits, incident_edits}
-use Rattle.hub_store.proofs.LookUps.Adding.{adds_then, adds_fail}
+use Rattle.{std.proofs.Common.◌++◌, hub_store.{proofs.LookUps.Adding.{adds_then, adds_fail}, specs.inner.Adds.{naming_edits, gate_edits, recipient_edits}}}
+use Rattle.hub_store.specs.inner.Adds.{permission_edits, incident_edits}
 use Rattle.hub_store.proofs.add_incidents.add_incidents.Goals as goal
 
 pub returns-in_err-rows-2-clause-read : goal.returns-in_err-rows-2-clause-read

@@ -1,11 +1,5 @@
-use Rattle.std.proofs.Common.{[]}
-use Rattle.sqlite.specs.Held.{state}
-use Rattle.hub_store.specs.inner.Adds.{naming_edit, namings}
-use Rattle.hub_store.specs.inner.Shown.{naming_shown}
-use Rattle.hub_store.proofs.LookUps.Adding.{adds_all}
-use Rattle.hub_store.proofs.LookUps.AllListed.{namings_listed}
-use Rattle.hub_store.proofs.LookUps.Answering.{read_shown}
-use Rattle.hub_store.proofs.Rows.TextsWhole.{all_namings_is}
+use Rattle.{std.proofs.Common.[], sqlite.specs.Held.state, hub_store.proofs.LookUps.{Adding.adds_all, AllListed.namings_listed, Answering.read_shown}}
+use Rattle.hub_store.{proofs.Rows.TextsWhole.all_namings_is, specs.inner.{Adds.{naming_edit, namings}, Shown.naming_shown}}
 use Rattle.hub_store.proofs.add_incidents.add_namings.Goals as goal
 
 pub returns-clause-read : goal.returns-clause-read

@@ -1,11 +1,5 @@
-use Rattle.std.proofs.Common.{[]}
-use Rattle.sqlite.specs.Held.{state}
-use Rattle.hub_store.specs.Rows.{permission_row}
-use Rattle.hub_store.specs.inner.Adds.{permission_edit}
-use Rattle.hub_store.proofs.LookUps.Adding.{adds_all}
-use Rattle.hub_store.proofs.LookUps.AllListed.{all_permissions_listed}
-use Rattle.hub_store.proofs.LookUps.Answering.{read_shown}
-use Rattle.hub_store.proofs.Rows.TextsWhole.{all_permissions_is}
+use Rattle.{std.proofs.Common.[], sqlite.specs.Held.state, hub_store.proofs.LookUps.{Adding.adds_all, AllListed.all_permissions_listed, Answering.read_shown}}
+use Rattle.hub_store.{proofs.Rows.TextsWhole.all_permissions_is, specs.{Rows.permission_row, inner.Adds.permission_edit}}
 use Rattle.hub_store.proofs.add_incidents.add_permissions.Goals as goal
 
 pub returns-clause-read : goal.returns-clause-read

@@ -1,11 +1,5 @@
-use Rattle.std.proofs.Common.{[]}
-use Rattle.sqlite.specs.Held.{state}
-use Rattle.hub_store.specs.Rows.{recipient_row}
-use Rattle.hub_store.specs.inner.Adds.{recipient_edit}
-use Rattle.hub_store.proofs.LookUps.Adding.{adds_all}
-use Rattle.hub_store.proofs.LookUps.AllListed.{all_recipients_listed}
-use Rattle.hub_store.proofs.LookUps.Answering.{read_shown}
-use Rattle.hub_store.proofs.Rows.TextsWhole.{all_recipients_is}
+use Rattle.{std.proofs.Common.[], sqlite.specs.Held.state, hub_store.proofs.LookUps.{Adding.adds_all, AllListed.all_recipients_listed, Answering.read_shown}}
+use Rattle.hub_store.{proofs.Rows.TextsWhole.all_recipients_is, specs.{Rows.recipient_row, inner.Adds.recipient_edit}}
 use Rattle.hub_store.proofs.add_incidents.add_recipients.Goals as goal
 
 pub returns-clause-read : goal.returns-clause-read

@@ -1,10 +1,5 @@
-use Rattle.std.proofs.Common.{[]}
-use Rattle.sqlite.specs.Held.{state}
-use Rattle.hub_store.specs.inner.Adds.{account_shown, account_edit}
-use Rattle.hub_store.proofs.LookUps.Adding.{adds_all}
-use Rattle.hub_store.proofs.LookUps.AllListed.{accounts_listed}
-use Rattle.hub_store.proofs.LookUps.Answering.{read_shown}
-use Rattle.hub_store.proofs.Rows.TextsWhole.{all_persons_is}
+use Rattle.{std.proofs.Common.[], sqlite.specs.Held.state, hub_store.proofs.LookUps.{Adding.adds_all, AllListed.accounts_listed, Answering.read_shown}}
+use Rattle.hub_store.{proofs.Rows.TextsWhole.all_persons_is, specs.inner.Adds.{account_shown, account_edit}}
 use Rattle.hub_store.proofs.add_numbered.add_accounts.Goals as goal
 
 pub returns-clause-read : goal.returns-clause-read

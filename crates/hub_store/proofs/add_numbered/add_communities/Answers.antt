@@ -1,10 +1,5 @@
-use Rattle.std.proofs.Common.{[]}
-use Rattle.sqlite.specs.Held.{state}
-use Rattle.hub_store.specs.inner.Adds.{community_shown, community_edit}
-use Rattle.hub_store.proofs.LookUps.Adding.{adds_all}
-use Rattle.hub_store.proofs.LookUps.AllListed.{communities_listed}
-use Rattle.hub_store.proofs.LookUps.Answering.{read_shown}
-use Rattle.hub_store.proofs.Rows.TextsWhole.{all_communities_is}
+use Rattle.{std.proofs.Common.[], sqlite.specs.Held.state, hub_store.proofs.LookUps.{Adding.adds_all, AllListed.communities_listed, Answering.read_shown}}
+use Rattle.hub_store.{proofs.Rows.TextsWhole.all_communities_is, specs.inner.Adds.{community_shown, community_edit}}
 use Rattle.hub_store.proofs.add_numbered.add_communities.Goals as goal
 
 pub returns-clause-read : goal.returns-clause-read

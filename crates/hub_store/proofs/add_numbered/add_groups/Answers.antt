@@ -1,11 +1,5 @@
-use Rattle.std.proofs.Common.{[]}
-use Rattle.sqlite.specs.Held.{state}
-use Rattle.hub_store.specs.inner.Adds.{group_edit}
-use Rattle.hub_store.specs.inner.ShownPairs.{group_shown}
-use Rattle.hub_store.proofs.LookUps.Adding.{adds_all}
-use Rattle.hub_store.proofs.LookUps.AllListed.{groups_listed}
-use Rattle.hub_store.proofs.LookUps.Answering.{read_shown}
-use Rattle.hub_store.proofs.Rows.TextsWhole.{all_groups_is}
+use Rattle.{std.proofs.Common.[], sqlite.specs.Held.state, hub_store.proofs.LookUps.{Adding.adds_all, AllListed.groups_listed, Answering.read_shown}}
+use Rattle.hub_store.{proofs.Rows.TextsWhole.all_groups_is, specs.inner.{Adds.group_edit, ShownPairs.group_shown}}
 use Rattle.hub_store.proofs.add_numbered.add_groups.Goals as goal
 
 pub returns-clause-read : goal.returns-clause-read

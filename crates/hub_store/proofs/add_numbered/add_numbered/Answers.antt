@@ -1,6 +1,5 @@
-use Rattle.std.proofs.Common.{◌++◌}
-use Rattle.hub_store.specs.inner.Adds.{org_edits, account_edits, community_edits, group_edits, numbered_edits}
-use Rattle.hub_store.proofs.LookUps.Adding.{adds_then, adds_fail}
+use Rattle.{std.proofs.Common.◌++◌, hub_store.{proofs.LookUps.Adding.{adds_then, adds_fail}, specs.inner.Adds.{org_edits, account_edits, community_edits}}}
+use Rattle.hub_store.specs.inner.Adds.{group_edits, numbered_edits}
 use Rattle.hub_store.proofs.add_numbered.add_numbered.Goals as goal
 
 pub returns-in_err-rows-2-clause-read : goal.returns-in_err-rows-2-clause-read

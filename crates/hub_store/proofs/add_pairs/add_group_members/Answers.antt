@@ -1,11 +1,7 @@
-use Rattle.std.proofs.Common.{◌≡◌, map, ◌∙◌}
-use Rattle.sqlite_trees.proofs.ListLemmas.{map-map}
-use Rattle.hub_store.specs.Rows.{group_member_pair}
-use Rattle.hub_store.specs.inner.Adds.{Adds, pair_shown, group_member_shown, group_member_edit, group_member_edits}
+use Rattle.{std.proofs.Common.{◌≡◌, map, ◌∙◌}, sqlite_trees.proofs.ListLemmas.map-map, hub_store.proofs.LookUps.{Adding.adds_all, Reading.read_made}}
+use Rattle.hub_store.specs.{Rows.group_member_pair, inner.Adds.{Adds, pair_shown, group_member_shown, group_member_edit, group_member_edits}}
 use Rattle.hub_store.specs.inner.PairKinds.{pairs_of}
 use Rattle.hub_store.specs.declared.pair_kind.PairKind.TheVariants as kind
-use Rattle.hub_store.proofs.LookUps.Adding.{adds_all}
-use Rattle.hub_store.proofs.LookUps.Reading.{read_made}
 use Rattle.hub_store.proofs.add_pairs.add_group_members.Goals as goal
 
 pub returns-clause-read : goal.returns-clause-read

@@ -1,11 +1,6 @@
-use Rattle.std.proofs.Common.{◌≡◌, map, ◌∙◌}
-use Rattle.sqlite_trees.proofs.ListLemmas.{map-map}
-use Rattle.hub_store.specs.Rows.{membership_pair}
-use Rattle.hub_store.specs.inner.Adds.{Adds, pair_shown, membership_shown, membership_edit, membership_edits}
-use Rattle.hub_store.specs.inner.PairKinds.{pairs_of}
+use Rattle.{std.proofs.Common.{◌≡◌, map, ◌∙◌}, sqlite_trees.proofs.ListLemmas.map-map, hub_store.proofs.LookUps.{Adding.adds_all, Reading.read_made}}
+use Rattle.hub_store.specs.{Rows.membership_pair, inner.{Adds.{Adds, pair_shown, membership_shown, membership_edit, membership_edits}, PairKinds.pairs_of}}
 use Rattle.hub_store.specs.declared.pair_kind.PairKind.TheVariants as kind
-use Rattle.hub_store.proofs.LookUps.Adding.{adds_all}
-use Rattle.hub_store.proofs.LookUps.Reading.{read_made}
 use Rattle.hub_store.proofs.add_pairs.add_memberships.Goals as goal
 
 pub returns-clause-read : goal.returns-clause-read

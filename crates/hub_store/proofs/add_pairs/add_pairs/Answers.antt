@@ -1,6 +1,5 @@
-use Rattle.std.proofs.Common.{◌++◌}
-use Rattle.hub_store.specs.inner.Adds.{client_edits, membership_edits, connection_edits, group_member_edits, arrangement_edits, pair_edits}
-use Rattle.hub_store.proofs.LookUps.Adding.{adds_then, adds_fail}
+use Rattle.{std.proofs.Common.◌++◌, hub_store.{proofs.LookUps.Adding.{adds_then, adds_fail}, specs.inner.Adds.{client_edits, membership_edits}}}
+use Rattle.hub_store.specs.inner.Adds.{connection_edits, group_member_edits, arrangement_edits, pair_edits}
 use Rattle.hub_store.proofs.add_pairs.add_pairs.Goals as goal
 
 pub returns-in_err-rows-2-clause-read : goal.returns-in_err-rows-2-clause-read

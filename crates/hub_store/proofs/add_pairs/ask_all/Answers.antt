@@ -1,10 +1,5 @@
-use Rattle.std.proofs.Common.{◌∷◌, [], Ok}
-use Rattle.sqlite_value.specs.declared.value.Value.TheVariants.{Text}
-use Rattle.sqlite.specs.Held.{state}
-use Rattle.hub_store.specs.inner.PairKinds.{kind_name}
-use Rattle.hub_store.proofs.LookUps.Answering.{read_shown}
-use Rattle.hub_store.proofs.LookUps.AskedPairs.{all_shown}
-use Rattle.hub_store.proofs.Rows.TextsWhole.{all_pairs_is}
+use Rattle.{std.proofs.Common.{◌∷◌, [], Ok}, sqlite_value.specs.declared.value.Value.TheVariants.Text, sqlite.specs.Held.state}
+use Rattle.hub_store.{proofs.{LookUps.{Answering.read_shown, AskedPairs.all_shown}, Rows.TextsWhole.all_pairs_is}, specs.inner.PairKinds.kind_name}
 use Rattle.hub_store.proofs.add_pairs.ask_all.Goals as goal
 
 pub returns-clause-read : goal.returns-clause-read

@@ -1,16 +1,7 @@
-use Rattle.std.proofs.Common.{◌≡◌, OnOk, sym, subst, arith, rules}
-use Rattle.sqlite_trees.specs.Tree.{Trees}
-use Rattle.sqlite.specs.State.{HasCleanDisk, Survives}
-use Rattle.sqlite.specs.Held.{state}
-use Rattle.sqlite.proofs.StateLemmas.{survives_then}
-use Rattle.sqlite.proofs.Callers.{survives_begin}
-use Rattle.hub_state.specs.State.{State}
-use Rattle.hub_state.specs.Edits.{with_edits}
-use Rattle.hub_store.specs.Content.{Has, CommitsState}
+use Rattle.{std.proofs.Common.{◌≡◌, OnOk, sym, subst, arith, rules}, sqlite_trees.specs.Tree.Trees, sqlite.proofs.Callers.survives_begin}
+use Rattle.{sqlite.{proofs.StateLemmas.survives_then, specs.{Held.state, State.{HasCleanDisk, Survives}}}, hub_state.specs.{Edits.with_edits, State.State}}
+use Rattle.hub_store.{proofs.{Edits.{Runs.{committed_made, ready}, Steps.{on_ok, survives_on}}, Shelf.Left.trees_hold}, specs.Content.{Has, CommitsState}}
 use Rattle.hub_store.specs.Means.{TreesHold, Holds}
-use Rattle.hub_store.proofs.Shelf.Left.{trees_hold}
-use Rattle.hub_store.proofs.Edits.Runs.{committed_made, ready}
-use Rattle.hub_store.proofs.Edits.Steps.{on_ok, survives_on}
 use Rattle.hub_store.proofs.apply.apply.Goals as goal
 
 pub returns-clause-made : goal.returns-clause-made

@@ -1,12 +1,5 @@
-use Rattle.std.proofs.Common.{◌≡◌, take, arith, rules, sym, subst, Ok}
-use Rattle.std.proofs.lemmas.Grind.{common_steps}
-use Rattle.sqlite.specs.Held.{state}
-use Rattle.hub_state.specs.State.{empty}
-use Rattle.hub_state.specs.Edits.{with_edits}
-use Rattle.hub_store.specs.Means.{Holds}
-use Rattle.hub_store.specs.inner.Makes.{Makes}
-use Rattle.hub_store.proofs.Edits.Runs.{after_more}
-use Rattle.hub_store.proofs.Edits.Steps.{makes_then}
+use Rattle.{std.proofs.{Common.{◌≡◌, take, arith, rules, sym, subst, Ok}, lemmas.Grind.common_steps}, sqlite.specs.Held.state, hub_state.specs.Edits.with_edits}
+use Rattle.{hub_state.specs.State.empty, hub_store.{proofs.Edits.{Runs.after_more, Steps.makes_then}, specs.{Means.Holds, inner.Makes.Makes}}}
 use Rattle.hub_store.proofs.apply.make_all.Goals as goal
 
 pub loop-edit-preserved : goal.loop-edit-preserved

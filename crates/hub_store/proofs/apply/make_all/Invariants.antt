@@ -1,8 +1,4 @@
-use Rattle.std.proofs.Common.{◌≡◌, take, Ok}
-use Rattle.sqlite.specs.Held.{state}
-use Rattle.hub_state.specs.State.{State}
-use Rattle.hub_state.specs.Edits.{with_edits}
-use Rattle.hub_store.specs.Means.{Holds}
+use Rattle.{std.proofs.Common.{◌≡◌, take, Ok}, sqlite.specs.Held.state, hub_state.specs.{Edits.with_edits, State.State}, hub_store.specs.Means.Holds}
 use Rattle.hub_store.specs.inner.Makes.{Makes}
 use Rattle.hub_store.proofs.apply.make_all.Given as goal
 

@@ -1,10 +1,5 @@
-use Rattle.std.proofs.Common.{pos, ◌∷◌, [], Ok}
-use Rattle.sqlite_value.specs.declared.value.Value.TheVariants.{Int, Text}
-use Rattle.sqlite.specs.Held.{state}
-use Rattle.hub_store.specs.inner.PairKinds.{kind_name}
-use Rattle.hub_store.proofs.LookUps.Answering.{read_shown}
-use Rattle.hub_store.proofs.LookUps.AskedPairs.{to_shown}
-use Rattle.hub_store.proofs.Rows.Texts.{pairs_with_second_is}
+use Rattle.{std.proofs.Common.{pos, ◌∷◌, [], Ok}, sqlite_value.specs.declared.value.Value.TheVariants.{Int, Text}, sqlite.specs.Held.state}
+use Rattle.hub_store.{proofs.{LookUps.{Answering.read_shown, AskedPairs.to_shown}, Rows.Texts.pairs_with_second_is}, specs.inner.PairKinds.kind_name}
 use Rattle.hub_store.proofs.ask_pairs.ask_to.Goals as goal
 
 pub returns-clause-read : goal.returns-clause-read

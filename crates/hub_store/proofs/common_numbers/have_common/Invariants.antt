@@ -1,6 +1,4 @@
-use Rattle.std.proofs.Common.{◌≡◌, drop}
-use Rattle.std.specs.List.{list_any}
-use Rattle.hub_store.specs.inner.ShownPairs.{AreRising, is_one_of}
+use Rattle.{std.{proofs.Common.{◌≡◌, drop}, specs.List.list_any}, hub_store.specs.inner.ShownPairs.{AreRising, is_one_of}}
 use Rattle.hub_store.proofs.common_numbers.have_common.Given as goal
 
 abbrev pub invariant-loop-number : goal.invariant-loop-number

@@ -1,5 +1,4 @@
-use Rattle.std.proofs.Common.{◌∙◌}
-use Rattle.hub_store.proofs.LookUps.Halving.{found_by_halving}
+use Rattle.{std.proofs.Common.◌∙◌, hub_store.proofs.LookUps.Halving.found_by_halving}
 use Rattle.hub_store.proofs.common_numbers.is_among.Goals as goal
 
 pub returns : goal.returns

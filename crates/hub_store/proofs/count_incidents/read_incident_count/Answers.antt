@@ -1,12 +1,7 @@
-use Rattle.std.proofs.Common.{[], length, refl}
-use Rattle.sqlite.specs.Held.{state}
-use Rattle.hub_state.specs.State.{incident_number}
-use Rattle.hub_store.specs.Rows.{named_row}
-use Rattle.hub_store.proofs.LookUps.Answering.{read_shown}
-use Rattle.hub_store.proofs.LookUps.Highest.{highest_listed, reads_count}
-use Rattle.hub_store.proofs.Rows.TextsHighest.{highest_incident_is}
+use Rattle.{std.proofs.Common.{[], length, refl}, sqlite.specs.Held.state, hub_state.specs.State.incident_number, hub_store.proofs.LookUps.Answering.read_shown}
+use Rattle.hub_store.proofs.{LookUps.Highest.{highest_listed, reads_count}, Rows.Places.{incident_place, incident_tree, held_of}}
+use Rattle.hub_store.{proofs.Rows.TextsHighest.highest_incident_is, specs.Rows.named_row}
 use Rattle.hub_store.proofs.count_incidents.read_incident_count.Goals as goal
-use Rattle.hub_store.proofs.Rows.Places.{incident_place, incident_tree, held_of}
 
 pub returns-clause-read : goal.returns-clause-read
 returns-clause-read g c =

@@ -1,12 +1,7 @@
-use Rattle.std.proofs.Common.{[], length, refl}
-use Rattle.sqlite.specs.Held.{state}
-use Rattle.circle.specs.Directory.{community_number}
-use Rattle.hub_store.specs.Rows.{community_row}
-use Rattle.hub_store.proofs.LookUps.Answering.{read_shown}
-use Rattle.hub_store.proofs.LookUps.Highest.{highest_listed, reads_count}
-use Rattle.hub_store.proofs.Rows.TextsHighest.{highest_community_is}
+use Rattle.{std.proofs.Common.{[], length, refl}, sqlite.specs.Held.state, circle.specs.Directory.community_number}
+use Rattle.hub_store.proofs.{LookUps.{Answering.read_shown, Highest.{highest_listed, reads_count}}, Rows.Places.{community_place, community_tree, held_of}}
+use Rattle.hub_store.{proofs.Rows.TextsHighest.highest_community_is, specs.Rows.community_row}
 use Rattle.hub_store.proofs.counts.count_communities.Goals as goal
-use Rattle.hub_store.proofs.Rows.Places.{community_place, community_tree, held_of}
 
 pub returns-clause-read : goal.returns-clause-read
 returns-clause-read g c =

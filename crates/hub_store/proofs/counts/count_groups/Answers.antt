@@ -1,12 +1,7 @@
-use Rattle.std.proofs.Common.{[], length, refl}
-use Rattle.sqlite.specs.Held.{state}
-use Rattle.circle.specs.Directory.{group_number}
+use Rattle.{std.proofs.Common.{[], length, refl}, sqlite.specs.Held.state, circle.specs.Directory.group_number, hub_store.proofs.LookUps.Answering.read_shown}
+use Rattle.hub_store.proofs.{LookUps.Highest.{highest_listed, reads_count}, Rows.{Places.{grp_place, grp_tree, held_of}, TextsHighest.highest_group_is}}
 use Rattle.hub_store.specs.Rows.{group_row}
-use Rattle.hub_store.proofs.LookUps.Answering.{read_shown}
-use Rattle.hub_store.proofs.LookUps.Highest.{highest_listed, reads_count}
-use Rattle.hub_store.proofs.Rows.TextsHighest.{highest_group_is}
 use Rattle.hub_store.proofs.counts.count_groups.Goals as goal
-use Rattle.hub_store.proofs.Rows.Places.{grp_place, grp_tree, held_of}
 
 pub returns-clause-read : goal.returns-clause-read
 returns-clause-read g c =

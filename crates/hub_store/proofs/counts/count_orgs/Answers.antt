@@ -1,12 +1,7 @@
-use Rattle.std.proofs.Common.{[], length, refl}
-use Rattle.sqlite.specs.Held.{state}
-use Rattle.circle.specs.Directory.{org_number}
+use Rattle.{std.proofs.Common.{[], length, refl}, sqlite.specs.Held.state, circle.specs.Directory.org_number, hub_store.proofs.LookUps.Answering.read_shown}
+use Rattle.hub_store.proofs.{LookUps.Highest.{highest_listed, reads_count}, Rows.{Places.{org_place, org_tree, held_of}, TextsHighest.highest_org_is}}
 use Rattle.hub_store.specs.Rows.{org_row}
-use Rattle.hub_store.proofs.LookUps.Answering.{read_shown}
-use Rattle.hub_store.proofs.LookUps.Highest.{highest_listed, reads_count}
-use Rattle.hub_store.proofs.Rows.TextsHighest.{highest_org_is}
 use Rattle.hub_store.proofs.counts.count_orgs.Goals as goal
-use Rattle.hub_store.proofs.Rows.Places.{org_place, org_tree, held_of}
 
 pub returns-clause-read : goal.returns-clause-read
 returns-clause-read g c =

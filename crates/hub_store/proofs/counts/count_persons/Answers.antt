@@ -1,12 +1,7 @@
-use Rattle.std.proofs.Common.{[], length, refl}
-use Rattle.sqlite.specs.Held.{state}
-use Rattle.circle.specs.Directory.{account_number}
+use Rattle.{std.proofs.Common.{[], length, refl}, sqlite.specs.Held.state, circle.specs.Directory.account_number, hub_store.proofs.LookUps.Answering.read_shown}
+use Rattle.hub_store.proofs.{LookUps.Highest.{highest_listed, reads_count}, Rows.{Places.{person_place, person_tree, held_of}, TextsHighest.highest_person_is}}
 use Rattle.hub_store.specs.Rows.{account_row}
-use Rattle.hub_store.proofs.LookUps.Answering.{read_shown}
-use Rattle.hub_store.proofs.LookUps.Highest.{highest_listed, reads_count}
-use Rattle.hub_store.proofs.Rows.TextsHighest.{highest_person_is}
 use Rattle.hub_store.proofs.counts.count_persons.Goals as goal
-use Rattle.hub_store.proofs.Rows.Places.{person_place, person_tree, held_of}
 
 pub returns-clause-read : goal.returns-clause-read
 returns-clause-read g c =

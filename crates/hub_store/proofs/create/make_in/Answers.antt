@@ -1,12 +1,6 @@
-use Rattle.std.proofs.Common.{drop, refl}
-use Rattle.sqlite.specs.Held.{state}
-use Rattle.hub_state.specs.State.{empty}
-use Rattle.hub_store.specs.Layout.{newest, parts_by, bare_by}
-use Rattle.hub_store.specs.Means.{Holds}
-use Rattle.hub_store.specs.Parts.{HoldsParts}
+use Rattle.{std.proofs.Common.{drop, refl}, sqlite.specs.Held.state, hub_state.specs.State.empty, hub_store.proofs.Edits.Steps.{on_ok, creates_then}}
+use Rattle.hub_store.{proofs.{Edits.Steps.creates_not, Rows.Empty.newest_empty}, specs.{Layout.{newest, parts_by, bare_by}, Means.Holds, Parts.HoldsParts}}
 use Rattle.hub_store.specs.inner.Makes.{Creates}
-use Rattle.hub_store.proofs.Rows.Empty.{newest_empty}
-use Rattle.hub_store.proofs.Edits.Steps.{on_ok, creates_then, creates_not}
 use Rattle.hub_store.proofs.create.make_in.Goals as goal
 
 pub returns-in_err-make_tables-clause-made : goal.returns-in_err-make_tables-clause-made

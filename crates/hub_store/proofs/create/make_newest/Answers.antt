@@ -1,10 +1,5 @@
-use Rattle.std.proofs.Common.{◌≡◌, arith, rules}
-use Rattle.sqlite.specs.Held.{state}
-use Rattle.hub_store.specs.Layout.{newest}
-use Rattle.hub_store.specs.Tables.{schema_by}
-use Rattle.hub_store.specs.inner.Makes.{HasEmpty}
-use Rattle.hub_store.proofs.Rows.Empty.{bare_2}
-use Rattle.hub_store.proofs.Edits.Steps.{makes_start, creates_then, creates_not}
+use Rattle.{std.proofs.Common.{◌≡◌, arith, rules}, sqlite.specs.Held.state, hub_store.proofs.Edits.Steps.{makes_start, creates_then, creates_not}}
+use Rattle.hub_store.{proofs.Rows.Empty.bare_2, specs.{Layout.newest, Tables.schema_by, inner.Makes.HasEmpty}}
 use Rattle.hub_store.proofs.create.make_newest.Goals as goal
 
 pub loop-from-init : goal.loop-from-init

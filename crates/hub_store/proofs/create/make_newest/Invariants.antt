@@ -1,9 +1,5 @@
-use Rattle.std.proofs.Common.{◌≡◌, Ok}
-use Rattle.sqlite.specs.Held.{state}
-use Rattle.hub_store.specs.Layout.{bare_by}
-use Rattle.hub_store.specs.Parts.{HoldsParts}
-use Rattle.hub_store.specs.Tables.{schema_by}
-use Rattle.hub_store.specs.inner.Makes.{Creates, HasEmpty}
+use Rattle.{std.proofs.Common.{◌≡◌, Ok}, sqlite.specs.Held.state, hub_store.specs.{Layout.bare_by, Parts.HoldsParts, Tables.schema_by, inner.Makes.Creates}}
+use Rattle.hub_store.specs.inner.Makes.{HasEmpty}
 use Rattle.hub_store.proofs.create.make_newest.Given as goal
 
 abbrev pub invariant-loop-from : goal.invariant-loop-from

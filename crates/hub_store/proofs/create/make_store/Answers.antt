@@ -1,16 +1,7 @@
-use Rattle.std.proofs.Common.{◌≡◌, OnOk, sym, subst, arith, rules, refl}
-use Rattle.sqlite_trees.specs.Tree.{Trees}
-use Rattle.sqlite.specs.State.{HasCleanDisk, Survives}
-use Rattle.sqlite.specs.Held.{state}
-use Rattle.sqlite.proofs.StateLemmas.{survives_then}
-use Rattle.sqlite.proofs.Callers.{survives_begin}
-use Rattle.hub_state.specs.State.{empty}
-use Rattle.hub_store.specs.Content.{CommitsState}
+use Rattle.{std.proofs.Common.{◌≡◌, OnOk, sym, subst, arith, rules, refl}, sqlite_trees.specs.Tree.Trees, sqlite.proofs.Callers.survives_begin}
+use Rattle.{sqlite.{proofs.StateLemmas.survives_then, specs.{Held.state, State.{HasCleanDisk, Survives}}}, hub_state.specs.State.empty}
+use Rattle.hub_store.{proofs.{Edits.{Runs.committed_made, Steps.on_ok}, Rows.Empty.no_tables, Shelf.Left.trees_hold}, specs.Content.CommitsState}
 use Rattle.hub_store.specs.Means.{TreesHold, Holds}
-use Rattle.hub_store.proofs.Shelf.Left.{trees_hold}
-use Rattle.hub_store.proofs.Rows.Empty.{no_tables}
-use Rattle.hub_store.proofs.Edits.Runs.{committed_made}
-use Rattle.hub_store.proofs.Edits.Steps.{on_ok}
 use Rattle.hub_store.proofs.create.make_store.Goals as goal
 
 pub returns-clause-made : goal.returns-clause-made

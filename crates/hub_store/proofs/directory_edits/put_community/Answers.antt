@@ -1,7 +1,4 @@
-use Rattle.std.proofs.Common.{refl}
-use Rattle.hub_store.proofs.Rows.SetKinds.{put_into}
-use Rattle.hub_store.proofs.Rows.Sets.{communities}
-use Rattle.hub_store.proofs.Rows.Texts.{put_community_is}
+use Rattle.{std.proofs.Common.refl, hub_store.proofs.Rows.{SetKinds.put_into, Sets.communities, Texts.put_community_is}}
 use Rattle.hub_store.proofs.directory_edits.put_community.Goals as goal
 
 pub returns-clause-made : goal.returns-clause-made

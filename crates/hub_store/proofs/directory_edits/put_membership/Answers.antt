@@ -1,7 +1,4 @@
-use Rattle.std.proofs.Common.{refl}
-use Rattle.hub_store.proofs.Rows.SetKinds.{put_into}
-use Rattle.hub_store.proofs.Rows.Sets.{in_pairs, memberships}
-use Rattle.hub_store.proofs.Rows.Texts.{put_pair_is}
+use Rattle.{std.proofs.Common.refl, hub_store.proofs.Rows.{SetKinds.put_into, Sets.{in_pairs, memberships}, Texts.put_pair_is}}
 use Rattle.hub_store.proofs.directory_edits.put_membership.Goals as goal
 
 pub returns-clause-made : goal.returns-clause-made

@@ -1,7 +1,4 @@
-use Rattle.std.proofs.Common.{refl}
-use Rattle.hub_store.proofs.Rows.SetKinds.{put_into}
-use Rattle.hub_store.proofs.Rows.Sets.{orgs}
-use Rattle.hub_store.proofs.Rows.Texts.{put_org_is}
+use Rattle.{std.proofs.Common.refl, hub_store.proofs.Rows.{SetKinds.put_into, Sets.orgs, Texts.put_org_is}}
 use Rattle.hub_store.proofs.directory_edits.put_org.Goals as goal
 
 pub returns-clause-made : goal.returns-clause-made

@@ -1,10 +1,5 @@
-use Rattle.std.proofs.Common.{◌==◌, refl, ◌∙◌}
-use Rattle.circle.specs.declared.directory.Account.{Account}
-use Rattle.hub_store.specs.Rows.{role_number}
-use Rattle.hub_store.proofs.Rows.Compare.{and-true, equal_numbers, cast_int, cast_null, cast_flag}
-use Rattle.hub_store.proofs.Rows.SetKinds.{exchanged_in}
-use Rattle.hub_store.proofs.Rows.Sets.{persons}
-use Rattle.hub_store.proofs.Rows.Texts.{set_key_is}
+use Rattle.{std.proofs.Common.{◌==◌, refl, ◌∙◌}, circle.specs.declared.directory.Account.Account, hub_store.proofs.Rows.Compare.{and-true, equal_numbers}}
+use Rattle.hub_store.{proofs.Rows.{Compare.{cast_int, cast_null, cast_flag}, SetKinds.exchanged_in, Sets.persons, Texts.set_key_is}, specs.Rows.role_number}
 use Rattle.hub_store.proofs.directory_edits.set_key.Goals as goal
 
 pub returns-clause-made : goal.returns-clause-made

@@ -1,9 +1,5 @@
-use Rattle.std.proofs.Common.{◌==◌, refl, ◌∙◌}
-use Rattle.circle.specs.declared.directory.Group.{Group}
-use Rattle.hub_store.proofs.Rows.Compare.{and-true, equal_numbers, cast_int, cast_null, cast_flag}
-use Rattle.hub_store.proofs.Rows.SetKinds.{exchanged_in}
-use Rattle.hub_store.proofs.Rows.Sets.{groups}
-use Rattle.hub_store.proofs.Rows.Texts.{set_group_active_is}
+use Rattle.{std.proofs.Common.{◌==◌, refl, ◌∙◌}, circle.specs.declared.directory.Group.Group, hub_store.proofs.Rows.Compare.{and-true, equal_numbers, cast_int}}
+use Rattle.hub_store.proofs.Rows.{Compare.{cast_null, cast_flag}, SetKinds.exchanged_in, Sets.groups, Texts.set_group_active_is}
 use Rattle.hub_store.proofs.directory_edits.switch.Goals as goal
 
 pub returns-clause-made : goal.returns-clause-made

@@ -1,9 +1,6 @@
-use Rattle.std.proofs.Common.{◌≡◌, subst, rules}
-use Rattle.sqlite.specs.Held.{state}
-use Rattle.circle.specs.Facts.{facts_of}
-use Rattle.hub_state.specs.State as core
+use Rattle.{std.proofs.Common.{◌≡◌, subst, rules}, sqlite.specs.Held.state, circle.specs.Facts.facts_of, hub_store.proofs.LookUps.Answering.rolled}
 use Rattle.hub_store.specs.inner.Queries.{IsReadOutside}
-use Rattle.hub_store.proofs.LookUps.Answering.{rolled}
+use Rattle.hub_state.specs.State as core
 use Rattle.hub_store.proofs.directory_facts.find_circle_facts.Goals as goal
 
 pub returns-clause-answers : goal.returns-clause-answers

@@ -1,10 +1,6 @@
-use Rattle.std.proofs.Common.{◌≡◌, suc, length, Ok, refl, sym, ap, subst, ◌∙◌, rules}
-use Rattle.sqlite.specs.Held.{state}
-use Rattle.redact.specs.Feeding.{Progress}
-use Rattle.hub_store.specs.inner.FeedsRows.{lines_of}
+use Rattle.{std.proofs.Common.{◌≡◌, suc, length, Ok, refl, sym, ap, subst, ◌∙◌, rules}, sqlite.specs.Held.state, redact.specs.Feeding.Progress}
+use Rattle.hub_store.{proofs.LookUps.{AtPlaces.next_place, Streaming.{starts, goes_on, ends, not_begun}}, specs.inner.FeedsRows.lines_of}
 use Rattle.hub_store.specs.inner.Queries.{IsReadOutside}
-use Rattle.hub_store.proofs.LookUps.AtPlaces.{next_place}
-use Rattle.hub_store.proofs.LookUps.Streaming.{starts, goes_on, ends, not_begun}
 use Rattle.hub_store.proofs.feed_rows.feed_rows.Goals as goal
 
 pub returns-in_err-rows-clause-answers : goal.returns-in_err-rows-clause-answers

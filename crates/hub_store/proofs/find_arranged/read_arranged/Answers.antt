@@ -1,12 +1,6 @@
-use Rattle.std.proofs.Common.{◌≡◌, map, ◌∙◌}
-use Rattle.std.specs.Option.{option_to_list}
-use Rattle.circle.specs.Reads.{arranged}
-use Rattle.hub_store.specs.inner.PairKinds.{pair_between, value_shown}
-use Rattle.hub_store.specs.inner.ShownPairs.{handling_shown}
+use Rattle.{std.{proofs.Common.{◌≡◌, map, ◌∙◌}, specs.Option.option_to_list}, circle.specs.Reads.arranged, hub_store.proofs.LookUps.DirectorySets.arranged_rows}
+use Rattle.hub_store.{proofs.LookUps.{PairRows.reads_alone, Reading.read_made}, specs.inner.{PairKinds.{pair_between, value_shown}, ShownPairs.handling_shown}}
 use Rattle.hub_store.specs.declared.pair_kind.PairKind.TheVariants as kind
-use Rattle.hub_store.proofs.LookUps.DirectorySets.{arranged_rows}
-use Rattle.hub_store.proofs.LookUps.Reading.{read_made}
-use Rattle.hub_store.proofs.LookUps.PairRows.{reads_alone}
 use Rattle.hub_store.proofs.find_arranged.read_arranged.Goals as goal
 
 pub returns-clause-read : goal.returns-clause-read

@@ -1,11 +1,6 @@
-use Rattle.std.proofs.Common.{◌≡◌, ◌==◌, map, ◌∙◌}
-use Rattle.circle.specs.Reads.{orgs_whose_client}
-use Rattle.hub_store.specs.Pairs.{Pair}
-use Rattle.hub_store.specs.inner.PairKinds.{pairs_to}
-use Rattle.hub_store.specs.Rows.{client_pair}
+use Rattle.{std.proofs.Common.{◌≡◌, ◌==◌, map, ◌∙◌}, circle.specs.Reads.orgs_whose_client, hub_store.proofs.LookUps.PairRows.viewed_pairs}
+use Rattle.hub_store.{proofs.LookUps.Reading.read_turned, specs.{Pairs.Pair, Rows.client_pair, inner.PairKinds.pairs_to}}
 use Rattle.hub_store.specs.declared.pair_kind.PairKind.TheVariants as kind
-use Rattle.hub_store.proofs.LookUps.Reading.{read_turned}
-use Rattle.hub_store.proofs.LookUps.PairRows.{viewed_pairs}
 use Rattle.hub_store.proofs.find_arranged.read_orgs_whose_client.Goals as goal
 
 pub returns-clause-read : goal.returns-clause-read

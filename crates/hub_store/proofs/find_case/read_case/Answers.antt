@@ -1,10 +1,5 @@
-use Rattle.std.proofs.Common.{◌≡◌, Some, Ok}
-use Rattle.sqlite.specs.Held.{state}
-use Rattle.hub_state.specs.Reads.{case_of, naming_of}
-use Rattle.hub_store.specs.inner.Queries.{IsReadInside}
-use Rattle.hub_store.specs.inner.Shown.{IsCase}
-use Rattle.hub_store.proofs.LookUps.Incidents.{case_is}
-use Rattle.hub_store.proofs.LookUps.Reading.{read_then, read_gives}
+use Rattle.{std.proofs.Common.{◌≡◌, Some, Ok}, sqlite.specs.Held.state, hub_state.specs.Reads.{case_of, naming_of}, hub_store.proofs.LookUps.Incidents.case_is}
+use Rattle.hub_store.{proofs.LookUps.Reading.{read_then, read_gives}, specs.inner.{Queries.IsReadInside, Shown.IsCase}}
 use Rattle.hub_store.proofs.find_case.read_case.Goals as goal
 
 pub returns-in_ok-case-in-Some-clause-read : goal.returns-in_ok-case-in-Some-clause-read

@@ -1,10 +1,6 @@
-use Rattle.std.proofs.Common.{◌≡◌, map, ◌∙◌}
-use Rattle.circle.specs.Reads.{communities_of}
-use Rattle.hub_store.specs.Pairs.{Pair}
-use Rattle.hub_store.specs.inner.PairKinds.{pairs_to}
+use Rattle.{std.proofs.Common.{◌≡◌, map, ◌∙◌}, circle.specs.Reads.communities_of, hub_store.proofs.LookUps.{DirectorySets.communities_are, Reading.read_turned}}
+use Rattle.hub_store.specs.{Pairs.Pair, inner.PairKinds.pairs_to}
 use Rattle.hub_store.specs.declared.pair_kind.PairKind.TheVariants as kind
-use Rattle.hub_store.proofs.LookUps.DirectorySets.{communities_are}
-use Rattle.hub_store.proofs.LookUps.Reading.{read_turned}
 use Rattle.hub_store.proofs.find_communities.read_communities.Goals as goal
 
 pub returns-clause-read : goal.returns-clause-read

@@ -1,9 +1,5 @@
-use Rattle.std.proofs.Common.{pos, ◌∷◌, []}
-use Rattle.sqlite_value.specs.declared.value.Value.TheVariants.{Int}
-use Rattle.sqlite.specs.Held.{state}
-use Rattle.hub_store.proofs.LookUps.Answering.{read_shown}
-use Rattle.hub_store.proofs.LookUps.Incidents.{reads_document}
-use Rattle.hub_store.proofs.Rows.Texts.{lines_of_incident_is}
+use Rattle.{std.proofs.Common.{pos, ◌∷◌, []}, sqlite_value.specs.declared.value.Value.TheVariants.Int, sqlite.specs.Held.state}
+use Rattle.hub_store.proofs.{LookUps.{Answering.read_shown, Incidents.reads_document}, Rows.Texts.lines_of_incident_is}
 use Rattle.hub_store.proofs.find_document.read_document.Goals as goal
 
 pub returns-clause-read : goal.returns-clause-read

@@ -1,12 +1,6 @@
-use Rattle.std.proofs.Common.{pos, ◌∷◌, []}
-use Rattle.sqlite_value.specs.declared.value.Value.TheVariants.{Int}
-use Rattle.sqlite.specs.Held.{state}
-use Rattle.circle.specs.Reads.{group_of}
+use Rattle.{std.proofs.Common.{pos, ◌∷◌, []}, sqlite_value.specs.declared.value.Value.TheVariants.Int, sqlite.specs.Held.state, circle.specs.Reads.group_of}
+use Rattle.hub_store.proofs.{LookUps.{Answering.read_shown, Finding.reads_first, GroupSets.group_found}, Rows.Texts.group_with_number_is}
 use Rattle.hub_store.specs.inner.ShownPairs.{group_shown}
-use Rattle.hub_store.proofs.LookUps.Answering.{read_shown}
-use Rattle.hub_store.proofs.LookUps.Finding.{reads_first}
-use Rattle.hub_store.proofs.LookUps.GroupSets.{group_found}
-use Rattle.hub_store.proofs.Rows.Texts.{group_with_number_is}
 use Rattle.hub_store.proofs.find_groups.read_group.Goals as goal
 
 pub returns-clause-read : goal.returns-clause-read

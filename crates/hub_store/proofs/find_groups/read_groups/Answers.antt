@@ -1,9 +1,5 @@
-use Rattle.std.proofs.Common.{◌++◌, Ok, rules, refl, ap, ◌∙◌}
-use Rattle.std.specs.List.{filter_map}
-use Rattle.hub_store.specs.inner.ShownPairs.{group_if_any, groups_in}
-use Rattle.hub_store.proofs.LookUps.GroupSets.{groups_are}
-use Rattle.hub_store.proofs.LookUps.Reading.{read_then, read_gives}
-use Rattle.hub_store.proofs.LookUps.Stepping.{more_groups, all_found}
+use Rattle.{std.{proofs.Common.{◌++◌, Ok, rules, refl, ap, ◌∙◌}, specs.List.filter_map}, hub_store.proofs.LookUps.{GroupSets.groups_are, Reading.read_then}}
+use Rattle.hub_store.{proofs.LookUps.{Reading.read_gives, Stepping.{more_groups, all_found}}, specs.inner.ShownPairs.{group_if_any, groups_in}}
 use Rattle.hub_store.proofs.find_groups.read_groups.Goals as goal
 
 pub loop-member-init : goal.loop-member-init

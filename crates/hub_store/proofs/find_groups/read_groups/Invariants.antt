@@ -1,7 +1,4 @@
-use Rattle.std.proofs.Common.{◌≡◌, ◌++◌, drop, Ok}
-use Rattle.std.specs.List.{filter_map}
-use Rattle.sqlite.specs.Held.{state}
-use Rattle.hub_store.specs.inner.Queries.{IsReadInside}
+use Rattle.{std.{proofs.Common.{◌≡◌, ◌++◌, drop, Ok}, specs.List.filter_map}, sqlite.specs.Held.state, hub_store.specs.inner.Queries.IsReadInside}
 use Rattle.hub_store.specs.inner.ShownPairs.{group_if_any, groups_in}
 use Rattle.hub_store.proofs.find_groups.read_groups.Given as goal
 

@@ -1,9 +1,6 @@
-use Rattle.std.proofs.Common.{◌≡◌, ◌∙◌, map, filter, ap}
-use Rattle.circle.specs.Reads.{groups_joined, active_groups_joined}
-use Rattle.hub_state.specs.declared.reply.JoinedGroup.{JoinedGroup}
+use Rattle.{std.proofs.Common.{◌≡◌, ◌∙◌, map, filter, ap}, circle.specs.Reads.{groups_joined, active_groups_joined}}
+use Rattle.{hub_state.specs.declared.reply.JoinedGroup.JoinedGroup, hub_store.proofs.LookUps.{GroupSets.{all_are, active_are}, Reading.read_gives}}
 use Rattle.hub_store.specs.inner.ShownPairs.{groups_in}
-use Rattle.hub_store.proofs.LookUps.GroupSets.{all_are, active_are}
-use Rattle.hub_store.proofs.LookUps.Reading.{read_gives}
 use Rattle.hub_store.proofs.find_groups.read_groups_joined.Goals as goal
 
 pub returns-clause-read : goal.returns-clause-read

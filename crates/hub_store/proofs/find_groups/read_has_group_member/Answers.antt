@@ -1,9 +1,6 @@
-use Rattle.std.proofs.Common.{◌≡◌, is_some, ◌∙◌}
-use Rattle.circle.specs.Directory.{has_group_member}
-use Rattle.hub_store.specs.inner.PairKinds.{pair_between}
+use Rattle.{std.proofs.Common.{◌≡◌, is_some, ◌∙◌}, circle.specs.Directory.has_group_member, hub_store.proofs.LookUps.DirectorySets.member_found}
+use Rattle.hub_store.{proofs.LookUps.Reading.read_turned, specs.inner.PairKinds.pair_between}
 use Rattle.hub_store.specs.declared.pair_kind.PairKind.TheVariants as kind
-use Rattle.hub_store.proofs.LookUps.DirectorySets.{member_found}
-use Rattle.hub_store.proofs.LookUps.Reading.{read_turned}
 use Rattle.hub_store.proofs.find_groups.read_has_group_member.Goals as goal
 
 pub returns-clause-read : goal.returns-clause-read

@@ -1,11 +1,7 @@
-use Rattle.std.proofs.Common.{◌≡◌, map, ◌∙◌}
-use Rattle.circle.specs.Reads.{memberships_in_groups}
-use Rattle.hub_store.specs.inner.PairKinds.{pairs_to, first_shown}
-use Rattle.hub_store.specs.inner.ShownPairs.{joined_of, joined_shown}
+use Rattle.{std.proofs.Common.{◌≡◌, map, ◌∙◌}, circle.specs.Reads.memberships_in_groups, hub_store.proofs.LookUps.DirectorySets.membership_rows}
+use Rattle.hub_store.{proofs.LookUps.{Listed.reads_all, Reading.read_made}, specs.inner.{PairKinds.{pairs_to, first_shown}, ShownPairs.joined_of}}
+use Rattle.hub_store.specs.inner.ShownPairs.{joined_shown}
 use Rattle.hub_store.specs.declared.pair_kind.PairKind.TheVariants as kind
-use Rattle.hub_store.proofs.LookUps.DirectorySets.{membership_rows}
-use Rattle.hub_store.proofs.LookUps.Listed.{reads_all}
-use Rattle.hub_store.proofs.LookUps.Reading.{read_made}
 use Rattle.hub_store.proofs.find_groups.read_memberships.Goals as goal
 
 pub returns-clause-read : goal.returns-clause-read

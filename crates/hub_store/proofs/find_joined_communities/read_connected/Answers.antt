@@ -1,10 +1,6 @@
-use Rattle.std.proofs.Common.{◌≡◌, ◌++◌, map, Ok, ap, ◌∙◌}
-use Rattle.circle.specs.Reads.{connected_to}
-use Rattle.hub_store.specs.Pairs.{Pair}
-use Rattle.hub_store.specs.inner.PairKinds.{pairs_from, pairs_to}
+use Rattle.{std.proofs.Common.{◌≡◌, ◌++◌, map, Ok, ap, ◌∙◌}, circle.specs.Reads.connected_to, hub_store.proofs.LookUps.DirectorySets.connected_are}
+use Rattle.hub_store.{proofs.LookUps.Reading.{read_then, read_gives}, specs.{Pairs.Pair, inner.PairKinds.{pairs_from, pairs_to}}}
 use Rattle.hub_store.specs.declared.pair_kind.PairKind.TheVariants as kind
-use Rattle.hub_store.proofs.LookUps.DirectorySets.{connected_are}
-use Rattle.hub_store.proofs.LookUps.Reading.{read_then, read_gives}
 use Rattle.hub_store.proofs.find_joined_communities.read_connected.Goals as goal
 
 pub returns-clause-read : goal.returns-clause-read

@@ -1,6 +1,4 @@
-use Rattle.std.proofs.Common.{◌≡◌, Ok, ◌∙◌}
-use Rattle.circle.specs.Reads.{members_of, connected_to}
-use Rattle.hub_state.specs.Reads.{joined_community}
+use Rattle.{std.proofs.Common.{◌≡◌, Ok, ◌∙◌}, circle.specs.Reads.{members_of, connected_to}, hub_state.specs.Reads.joined_community}
 use Rattle.hub_store.proofs.LookUps.Reading.{read_then, read_gives}
 use Rattle.hub_store.proofs.find_joined_communities.read_joined.Goals as goal
 

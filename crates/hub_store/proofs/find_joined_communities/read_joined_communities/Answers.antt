@@ -1,8 +1,5 @@
-use Rattle.std.proofs.Common.{◌++◌, Ok, rules, ap, ◌∙◌, refl}
-use Rattle.std.specs.List.{filter_map}
-use Rattle.hub_store.specs.inner.ShownPairs.{community_if_any, communities_in}
-use Rattle.hub_store.proofs.LookUps.Reading.{read_then, read_gives}
-use Rattle.hub_store.proofs.LookUps.Stepping.{more_found, all_found}
+use Rattle.{std.{proofs.Common.{◌++◌, Ok, rules, ap, ◌∙◌, refl}, specs.List.filter_map}, hub_store.proofs.LookUps.Reading.{read_then, read_gives}}
+use Rattle.hub_store.{proofs.LookUps.Stepping.{more_found, all_found}, specs.inner.ShownPairs.{community_if_any, communities_in}}
 use Rattle.hub_store.proofs.find_joined_communities.read_joined_communities.Goals as goal
 
 pub loop-number-init : goal.loop-number-init

@@ -1,10 +1,6 @@
-use Rattle.std.proofs.Common.{◌≡◌, map, ◌∙◌}
-use Rattle.circle.specs.Reads.{members_of}
-use Rattle.hub_store.specs.Pairs.{Pair}
-use Rattle.hub_store.specs.inner.PairKinds.{pairs_from}
+use Rattle.{std.proofs.Common.{◌≡◌, map, ◌∙◌}, circle.specs.Reads.members_of, hub_store.proofs.LookUps.{DirectorySets.members_are, Reading.read_turned}}
+use Rattle.hub_store.specs.{Pairs.Pair, inner.PairKinds.pairs_from}
 use Rattle.hub_store.specs.declared.pair_kind.PairKind.TheVariants as kind
-use Rattle.hub_store.proofs.LookUps.DirectorySets.{members_are}
-use Rattle.hub_store.proofs.LookUps.Reading.{read_turned}
 use Rattle.hub_store.proofs.find_joined_communities.read_members.Goals as goal
 
 pub returns-clause-read : goal.returns-clause-read

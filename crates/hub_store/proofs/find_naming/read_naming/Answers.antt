@@ -1,12 +1,6 @@
-use Rattle.std.proofs.Common.{pos, ◌∷◌, []}
-use Rattle.sqlite_value.specs.declared.value.Value.TheVariants.{Int}
-use Rattle.sqlite.specs.Held.{state}
-use Rattle.hub_state.specs.Reads.{naming_of}
+use Rattle.{std.proofs.Common.{pos, ◌∷◌, []}, sqlite_value.specs.declared.value.Value.TheVariants.Int, sqlite.specs.Held.state, hub_state.specs.Reads.naming_of}
+use Rattle.hub_store.proofs.{LookUps.{Answering.read_shown, Finding.reads_first, Incidents.naming_found}, Rows.Texts.incident_with_number_is}
 use Rattle.hub_store.specs.inner.Shown.{naming_shown}
-use Rattle.hub_store.proofs.LookUps.Answering.{read_shown}
-use Rattle.hub_store.proofs.LookUps.Finding.{reads_first}
-use Rattle.hub_store.proofs.LookUps.Incidents.{naming_found}
-use Rattle.hub_store.proofs.Rows.Texts.{incident_with_number_is}
 use Rattle.hub_store.proofs.find_naming.read_naming.Goals as goal
 
 pub returns-clause-read : goal.returns-clause-read

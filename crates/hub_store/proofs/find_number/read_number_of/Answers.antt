@@ -1,9 +1,5 @@
-use Rattle.std.proofs.Common.{pos, ◌∷◌, [], option_map}
-use Rattle.sqlite_value.specs.declared.value.Value.TheVariants.{Int, Text}
-use Rattle.sqlite.specs.Held.{state}
-use Rattle.hub_state.specs.State.{incident_named, incident_number}
-use Rattle.hub_store.proofs.LookUps.Answering.{read_shown}
-use Rattle.hub_store.proofs.LookUps.Named.{number_found, reads_number}
+use Rattle.{std.proofs.Common.{pos, ◌∷◌, [], option_map}, sqlite_value.specs.declared.value.Value.TheVariants.{Int, Text}, sqlite.specs.Held.state}
+use Rattle.{hub_state.specs.State.{incident_named, incident_number}, hub_store.proofs.LookUps.{Answering.read_shown, Named.{number_found, reads_number}}}
 use Rattle.hub_store.proofs.Rows.Texts.{incident_with_ident_is}
 use Rattle.hub_store.proofs.find_number.read_number_of.Goals as goal
 

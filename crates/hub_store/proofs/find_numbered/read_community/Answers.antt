@@ -1,12 +1,6 @@
-use Rattle.std.proofs.Common.{pos, ◌∷◌, []}
-use Rattle.sqlite_value.specs.declared.value.Value.TheVariants.{Int}
-use Rattle.sqlite.specs.Held.{state}
-use Rattle.circle.specs.Reads.{community_of}
+use Rattle.{std.proofs.Common.{pos, ◌∷◌, []}, sqlite_value.specs.declared.value.Value.TheVariants.Int, sqlite.specs.Held.state, circle.specs.Reads.community_of}
+use Rattle.hub_store.proofs.{LookUps.{Answering.read_shown, ByNumber.community_and_name_found, Finding.reads_first}, Rows.Texts.community_and_name_is}
 use Rattle.hub_store.specs.inner.Adds.{community_shown}
-use Rattle.hub_store.proofs.LookUps.Answering.{read_shown}
-use Rattle.hub_store.proofs.LookUps.Finding.{reads_first}
-use Rattle.hub_store.proofs.LookUps.ByNumber.{community_and_name_found}
-use Rattle.hub_store.proofs.Rows.Texts.{community_and_name_is}
 use Rattle.hub_store.proofs.find_numbered.read_community.Goals as goal
 
 pub returns-clause-read : goal.returns-clause-read

@@ -1,9 +1,5 @@
-use Rattle.std.proofs.Common.{pos, ◌∷◌, [], Ok, ◌∙◌}
-use Rattle.sqlite_value.specs.declared.value.Value.TheVariants.{Int}
-use Rattle.sqlite.specs.Held.{state}
-use Rattle.hub_store.proofs.LookUps.Answering.{read_shown}
-use Rattle.hub_store.proofs.LookUps.ByNumber.{community_found}
-use Rattle.hub_store.proofs.Rows.Texts.{community_with_number_is}
+use Rattle.{std.proofs.Common.{pos, ◌∷◌, [], Ok, ◌∙◌}, sqlite_value.specs.declared.value.Value.TheVariants.Int, sqlite.specs.Held.state}
+use Rattle.hub_store.proofs.{LookUps.{Answering.read_shown, ByNumber.community_found}, Rows.Texts.community_with_number_is}
 use Rattle.hub_store.proofs.find_numbered.read_has_community.Goals as goal
 
 pub returns-clause-read : goal.returns-clause-read

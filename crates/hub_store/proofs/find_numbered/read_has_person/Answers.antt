@@ -1,9 +1,5 @@
-use Rattle.std.proofs.Common.{◌≡◌, ◌==◌, is_some, ap, ◌∙◌}
-use Rattle.circle.specs.declared.directory.Account.{Account}
-use Rattle.circle.specs.Directory.{has_person}
-use Rattle.circle.specs.Reads.{person_in, person_of}
-use Rattle.hub_store.proofs.LookUps.ByNumber.{some_passes}
-use Rattle.hub_store.proofs.LookUps.Reading.{read_gives}
+use Rattle.{std.proofs.Common.{◌≡◌, ◌==◌, is_some, ap, ◌∙◌}, circle.specs.{Directory.has_person, Reads.{person_in, person_of}}}
+use Rattle.{circle.specs.declared.directory.Account.Account, hub_store.proofs.LookUps.{ByNumber.some_passes, Reading.read_gives}}
 use Rattle.hub_store.proofs.find_numbered.read_has_person.Goals as goal
 
 pub returns-clause-read : goal.returns-clause-read

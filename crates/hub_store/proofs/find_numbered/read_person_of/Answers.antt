@@ -1,12 +1,6 @@
-use Rattle.std.proofs.Common.{pos, ◌∷◌, []}
-use Rattle.sqlite_value.specs.declared.value.Value.TheVariants.{Int}
-use Rattle.sqlite.specs.Held.{state}
-use Rattle.circle.specs.Reads.{person_of}
+use Rattle.{std.proofs.Common.{pos, ◌∷◌, []}, sqlite_value.specs.declared.value.Value.TheVariants.Int, sqlite.specs.Held.state, circle.specs.Reads.person_of}
+use Rattle.hub_store.proofs.{LookUps.{Answering.read_shown, ByNumber.person_numbered_found, Finding.reads_first}, Rows.Texts.person_with_number_is}
 use Rattle.hub_store.specs.inner.Shown.{person_shown}
-use Rattle.hub_store.proofs.LookUps.Answering.{read_shown}
-use Rattle.hub_store.proofs.LookUps.Finding.{reads_first}
-use Rattle.hub_store.proofs.LookUps.ByNumber.{person_numbered_found}
-use Rattle.hub_store.proofs.Rows.Texts.{person_with_number_is}
 use Rattle.hub_store.proofs.find_numbered.read_person_of.Goals as goal
 
 pub returns-clause-read : goal.returns-clause-read

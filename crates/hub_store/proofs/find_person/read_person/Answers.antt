@@ -1,12 +1,6 @@
-use Rattle.std.proofs.Common.{◌∷◌, []}
-use Rattle.sqlite_value.specs.declared.value.Value.TheVariants.{Blob}
-use Rattle.sqlite.specs.Held.{state}
-use Rattle.hub_state.specs.Reads.{person_by_key}
+use Rattle.{std.proofs.Common.{◌∷◌, []}, sqlite_value.specs.declared.value.Value.TheVariants.Blob, sqlite.specs.Held.state, hub_state.specs.Reads.person_by_key}
+use Rattle.hub_store.proofs.{LookUps.{Answering.read_shown, Finding.reads_first, Persons.person_found}, Rows.Texts.person_with_key_is}
 use Rattle.hub_store.specs.inner.Shown.{person_shown}
-use Rattle.hub_store.proofs.LookUps.Answering.{read_shown}
-use Rattle.hub_store.proofs.LookUps.Finding.{reads_first}
-use Rattle.hub_store.proofs.LookUps.Persons.{person_found}
-use Rattle.hub_store.proofs.Rows.Texts.{person_with_key_is}
 use Rattle.hub_store.proofs.find_person.read_person.Goals as goal
 
 pub returns-clause-read : goal.returns-clause-read

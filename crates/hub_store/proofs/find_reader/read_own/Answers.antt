@@ -1,8 +1,5 @@
-use Rattle.std.proofs.Common.{◌≡◌, Ok, ap, ◌∙◌}
-use Rattle.circle.specs.Reads.{orgs_whose_client, groups_joined, active_groups_joined, communities_of}
-use Rattle.hub_state.specs.Reads.{reader_with}
-use Rattle.hub_store.specs.declared.find_groups.GroupsJoined.{GroupsJoined}
-use Rattle.hub_store.proofs.LookUps.Reading.{read_then, read_gives}
+use Rattle.{std.proofs.Common.{◌≡◌, Ok, ap, ◌∙◌}, circle.specs.Reads.{orgs_whose_client, groups_joined, active_groups_joined, communities_of}}
+use Rattle.{hub_state.specs.Reads.reader_with, hub_store.{proofs.LookUps.Reading.{read_then, read_gives}, specs.declared.find_groups.GroupsJoined.GroupsJoined}}
 use Rattle.hub_store.proofs.find_reader.read_own.Goals as goal
 
 pub returns-clause-read : goal.returns-clause-read

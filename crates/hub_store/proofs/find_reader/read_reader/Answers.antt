@@ -1,10 +1,5 @@
-use Rattle.std.proofs.Common.{◌≡◌, Some, Ok, ap, ◌∙◌}
-use Rattle.std.specs.Prelude.{option_map}
-use Rattle.sqlite.specs.Held.{state}
-use Rattle.circle.specs.Reads.{person_of}
-use Rattle.hub_state.specs.Reads.{reader_of, reader_with}
-use Rattle.hub_store.specs.inner.Queries.{IsReadInside}
-use Rattle.hub_store.proofs.LookUps.Reading.{read_then, read_gives}
+use Rattle.{std.{proofs.Common.{◌≡◌, Some, Ok, ap, ◌∙◌}, specs.Prelude.option_map}, sqlite.specs.Held.state, circle.specs.Reads.person_of}
+use Rattle.{hub_state.specs.Reads.{reader_of, reader_with}, hub_store.{proofs.LookUps.Reading.{read_then, read_gives}, specs.inner.Queries.IsReadInside}}
 use Rattle.hub_store.proofs.find_reader.read_reader.Goals as goal
 
 pub returns-in_ok-reader-in-Some-clause-read : goal.returns-in_ok-reader-in-Some-clause-read

@@ -1,12 +1,6 @@
-use Rattle.std.proofs.Common.{pos, ◌∷◌, [], Ok, ◌∙◌}
-use Rattle.sqlite_value.specs.declared.value.Value.TheVariants.{Int}
-use Rattle.sqlite.specs.Held.{state}
-use Rattle.hub_state.specs.Reads.{its_recipients}
-use Rattle.hub_store.specs.inner.Shown.{target_shown}
-use Rattle.hub_store.proofs.LookUps.Answering.{read_shown, unread}
-use Rattle.hub_store.proofs.LookUps.Listed.{reads_all}
-use Rattle.hub_store.proofs.LookUps.Placed.{recipients_listed}
-use Rattle.hub_store.proofs.Rows.Texts.{recipients_of_incident_is}
+use Rattle.{std.proofs.Common.{pos, ◌∷◌, [], Ok, ◌∙◌}, sqlite_value.specs.declared.value.Value.TheVariants.Int, sqlite.specs.Held.state}
+use Rattle.{hub_state.specs.Reads.its_recipients, hub_store.proofs.LookUps.{Answering.{read_shown, unread}, Listed.reads_all, Placed.recipients_listed}}
+use Rattle.hub_store.{proofs.Rows.Texts.recipients_of_incident_is, specs.inner.Shown.target_shown}
 use Rattle.hub_store.proofs.find_recipients.read_recipients.Goals as goal
 
 pub returns-in_err-recipients-clause-read : goal.returns-in_err-recipients-clause-read

@@ -1,10 +1,6 @@
-use Rattle.std.proofs.Common.{◌≡◌, ◌++◌, ap, ◌∙◌}
-use Rattle.hub_state.specs.Bare.{bare}
-use Rattle.hub_state.specs.Edits.{with_edits}
-use Rattle.hub_store.specs.inner.Adds.{Adds, numbered_edits, pair_edits, incident_edits, all_edits}
-use Rattle.hub_store.proofs.LookUps.Adding.{adds_then}
-use Rattle.hub_store.proofs.LookUps.Reading.{read_turned}
-use Rattle.hub_store.proofs.LookUps.WholeRows.{whole_rows}
+use Rattle.{std.proofs.Common.{◌≡◌, ◌++◌, ap, ◌∙◌}, hub_state.specs.{Bare.bare, Edits.with_edits}, hub_store.proofs.LookUps.Adding.adds_then}
+use Rattle.hub_store.{proofs.LookUps.{Reading.read_turned, WholeRows.whole_rows}, specs.inner.Adds.{Adds, numbered_edits, pair_edits, incident_edits}}
+use Rattle.hub_store.specs.inner.Adds.{all_edits}
 use Rattle.hub_store.proofs.find_rows.read_rows.Goals as goal
 
 pub returns-clause-read : goal.returns-clause-read

@@ -1,11 +1,6 @@
-use Rattle.std.proofs.Common.{◌≡◌, List, Some, Ok, ap, ◌∙◌}
-use Rattle.std.specs.Prelude.{option_map}
-use Rattle.sqlite.specs.Held.{state}
-use Rattle.hub_state.specs.Reads.{naming_of, its_recipients, shared_as, sharing_of}
-use Rattle.hub_state.specs.declared.request.Target.{Target}
-use Rattle.hub_state.specs.declared.look_ups.Shared.{Shared}
-use Rattle.hub_store.specs.inner.Queries.{IsReadInside}
-use Rattle.hub_store.proofs.LookUps.Reading.{read_then, read_gives}
+use Rattle.{std.{proofs.Common.{◌≡◌, List, Some, Ok, ap, ◌∙◌}, specs.Prelude.option_map}, sqlite.specs.Held.state, hub_state.specs.Reads.naming_of}
+use Rattle.hub_state.specs.{Reads.{its_recipients, shared_as, sharing_of}, declared.{look_ups.Shared.Shared, request.Target.Target}}
+use Rattle.hub_store.{proofs.LookUps.Reading.{read_then, read_gives}, specs.inner.Queries.IsReadInside}
 use Rattle.hub_store.proofs.find_sharing.read_sharing.Goals as goal
 
 pub returns-in_ok-recipients-in-Some-clause-read : goal.returns-in_ok-recipients-in-Some-clause-read

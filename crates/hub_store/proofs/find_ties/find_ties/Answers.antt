@@ -1,10 +1,6 @@
-use Rattle.std.proofs.Common.{◌≡◌, subst, rules}
-use Rattle.sqlite.specs.Held.{state}
+use Rattle.{std.proofs.Common.{◌≡◌, subst, rules}, sqlite.specs.Held.state, hub_state.specs.{Reads.ties_of, declared.look_ups.Ties.Ties}}
+use Rattle.hub_store.{proofs.LookUps.Answering.rolled, specs.inner.Queries.IsReadOutside}
 use Rattle.hub_state.specs.State as core
-use Rattle.hub_state.specs.Reads.{ties_of}
-use Rattle.hub_state.specs.declared.look_ups.Ties.{Ties}
-use Rattle.hub_store.specs.inner.Queries.{IsReadOutside}
-use Rattle.hub_store.proofs.LookUps.Answering.{rolled}
 use Rattle.hub_store.proofs.find_ties.find_ties.Goals as goal
 
 pub returns-clause-answers : goal.returns-clause-answers

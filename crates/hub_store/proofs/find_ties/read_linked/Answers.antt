@@ -1,11 +1,7 @@
-use Rattle.std.proofs.Common.{◌≡◌, ◌∙◌, map, true, Ok, sym}
-use Rattle.std.specs.List.{list_any}
-use Rattle.hub_store.specs.Pairs.{Pair}
-use Rattle.hub_store.specs.inner.PairKinds.{pairs_from, pairs_to}
-use Rattle.hub_store.specs.inner.ShownPairs.{AreRising, is_one_of, linked_with}
+use Rattle.{std.{proofs.Common.{◌≡◌, ◌∙◌, map, true, Ok, sym}, specs.List.list_any}, hub_store.proofs.LookUps.Reading.{read_then, read_gives}}
+use Rattle.hub_store.{proofs.LookUps.Stepping.{found_above, found_below}, specs.{Pairs.Pair, inner.{PairKinds.{pairs_from, pairs_to}, ShownPairs.AreRising}}}
+use Rattle.hub_store.specs.inner.ShownPairs.{is_one_of, linked_with}
 use Rattle.hub_store.specs.declared.pair_kind.PairKind.TheVariants as kind
-use Rattle.hub_store.proofs.LookUps.Reading.{read_then, read_gives}
-use Rattle.hub_store.proofs.LookUps.Stepping.{found_above, found_below}
 use Rattle.hub_store.proofs.find_ties.read_linked.Goals as goal
 
 pub returns-then-have_common-clause-read : goal.returns-then-have_common-clause-read

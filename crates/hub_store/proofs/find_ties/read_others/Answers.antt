@@ -1,10 +1,6 @@
-use Rattle.std.proofs.Common.{ℕ, get_or, Ok, true, false, rules, refl, sym, ap, subst, ◌∙◌}
-use Rattle.std.specs.List.{list_any}
-use Rattle.circle.specs.Reads.{communities_of}
+use Rattle.{std.{proofs.Common.{ℕ, get_or, Ok, true, false, rules, refl, sym, ap, subst, ◌∙◌}, specs.List.list_any}, circle.specs.Reads.communities_of}
+use Rattle.hub_store.proofs.LookUps.{DirectorySets.communities_rise, Reading.{read_then, read_gives}, Stepping.{passed_over, settled, none_left}}
 use Rattle.hub_store.specs.inner.ShownPairs.{AreRising, is_one_of, linked_with, are_linked}
-use Rattle.hub_store.proofs.LookUps.DirectorySets.{communities_rise}
-use Rattle.hub_store.proofs.LookUps.Reading.{read_then, read_gives}
-use Rattle.hub_store.proofs.LookUps.Stepping.{passed_over, settled, none_left}
 use Rattle.hub_store.proofs.find_ties.read_others.Goals as goal
 
 pub loop-community-init : goal.loop-community-init

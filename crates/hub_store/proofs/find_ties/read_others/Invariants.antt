@@ -1,9 +1,5 @@
-use Rattle.std.proofs.Common.{◌≡◌, drop, Ok}
-use Rattle.std.specs.List.{list_any}
-use Rattle.sqlite.specs.Held.{state}
-use Rattle.circle.specs.Reads.{communities_of}
-use Rattle.hub_store.specs.inner.Queries.{IsReadInside}
-use Rattle.hub_store.specs.inner.ShownPairs.{is_one_of, linked_with, are_linked}
+use Rattle.{std.{proofs.Common.{◌≡◌, drop, Ok}, specs.List.list_any}, sqlite.specs.Held.state, circle.specs.Reads.communities_of}
+use Rattle.hub_store.specs.inner.{Queries.IsReadInside, ShownPairs.{is_one_of, linked_with, are_linked}}
 use Rattle.hub_store.proofs.find_ties.read_others.Given as goal
 
 abbrev pub invariant-loop-community : goal.invariant-loop-community

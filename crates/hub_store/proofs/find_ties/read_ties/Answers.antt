@@ -1,8 +1,5 @@
-use Rattle.std.proofs.Common.{◌≡◌, Ok}
-use Rattle.circle.specs.Reads.{communities_of, arranged}
-use Rattle.hub_state.specs.Reads.{ties_of}
-use Rattle.hub_store.proofs.LookUps.Reading.{read_then, read_gives}
-use Rattle.hub_store.proofs.LookUps.Ties.{ties_are}
+use Rattle.{std.proofs.Common.{◌≡◌, Ok}, circle.specs.Reads.{communities_of, arranged}, hub_state.specs.Reads.ties_of}
+use Rattle.hub_store.proofs.LookUps.{Reading.{read_then, read_gives}, Ties.ties_are}
 use Rattle.hub_store.proofs.find_ties.read_ties.Goals as goal
 
 pub returns-clause-read : goal.returns-clause-read

@@ -1,7 +1,5 @@
-use Rattle.std.proofs.Common.{◌≡◌, ◌++◌, [], ◌∷◌, ◌∙◌, take, sym, ap, subst₂, rules}
-use Rattle.std.proofs.lemmas.List.{take_more}
+use Rattle.{std.proofs.{Common.{◌≡◌, ◌++◌, [], ◌∷◌, ◌∙◌, take, sym, ap, subst₂, rules}, lemmas.List.take_more}, hub_store.proofs.LookUps.Finding.shows_more}
 use Rattle.hub_store.specs.inner.Shown.{ShowsAll}
-use Rattle.hub_store.proofs.LookUps.Finding.{shows_more}
 use Rattle.hub_store.proofs.from_row.all.Goals as goal
 
 pub loop-row-preserved : goal.loop-row-preserved

@@ -1,5 +1,4 @@
-use Rattle.std.proofs.Common.{take}
-use Rattle.hub_store.specs.inner.Shown.{ShowsAll}
+use Rattle.{std.proofs.Common.take, hub_store.specs.inner.Shown.ShowsAll}
 use Rattle.hub_store.proofs.from_row.all.Given as goal
 
 abbrev pub invariant-loop-row : goal.invariant-loop-row

@@ -1,9 +1,6 @@
-use Rattle.std.proofs.Common.{◌≡◌, is_some, ◌∙◌}
+use Rattle.{std.proofs.Common.{◌≡◌, is_some, ◌∙◌}, hub_store.{proofs.LookUps.{Extending.pair_there, Reading.read_turned}, specs.Rows.connection_pair}}
 use Rattle.hub_store.specs.inner.PairKinds.{pair_between}
-use Rattle.hub_store.specs.Rows.{connection_pair}
 use Rattle.hub_store.specs.declared.pair_kind.PairKind.TheVariants as kind
-use Rattle.hub_store.proofs.LookUps.Extending.{pair_there}
-use Rattle.hub_store.proofs.LookUps.Reading.{read_turned}
 use Rattle.hub_store.proofs.has_pair.read_has_connection.Goals as goal
 
 pub returns-clause-read : goal.returns-clause-read

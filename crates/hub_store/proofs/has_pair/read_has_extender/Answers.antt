@@ -1,5 +1,4 @@
-use Rattle.hub_store.proofs.LookUps.Extending.{reads_extends}
-use Rattle.hub_store.proofs.LookUps.Reading.{read_made}
+use Rattle.hub_store.proofs.LookUps.{Extending.reads_extends, Reading.read_made}
 use Rattle.hub_store.proofs.has_pair.read_has_extender.Goals as goal
 
 pub returns-clause-read : goal.returns-clause-read

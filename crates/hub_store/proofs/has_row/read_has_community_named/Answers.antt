@@ -1,18 +1,8 @@
-use Rattle.std.proofs.Common.{◌∷◌, [], Ok, refl, ◌∙◌}
-use Rattle.std.specs.Str.{bytes_eq}
-use Rattle.sqlite_value.specs.declared.value.Value.TheVariants.{Text}
-use Rattle.sqlite.specs.Held.{state}
-use Rattle.sqlite_sql.specs.Term.{col}
-use Rattle.circle.specs.declared.directory.Community.{Community}
-use Rattle.hub_store.specs.Rows.{community_row}
-use Rattle.hub_store.proofs.LookUps.Answering.{read_shown}
-use Rattle.hub_store.proofs.Rows.Compare.{and-true, equal_texts}
-use Rattle.hub_store.proofs.Rows.Forms.{is_param}
-use Rattle.hub_store.proofs.Rows.Statements.{keeps}
-use Rattle.hub_store.proofs.Rows.Texts.{community_with_name_is}
-use Rattle.hub_store.proofs.LookUps.Whether.{set_shows}
+use Rattle.{std.{proofs.Common.{◌∷◌, [], Ok, refl, ◌∙◌}, specs.Str.bytes_eq}, sqlite_value.specs.declared.value.Value.TheVariants.Text, sqlite.specs.Held.state}
+use Rattle.{sqlite_sql.specs.Term.col, circle.specs.declared.directory.Community.Community, hub_store.proofs.LookUps.{Answering.read_shown, Whether.set_shows}}
+use Rattle.hub_store.proofs.Rows.{Compare.{and-true, equal_texts}, Forms.is_param, Places.{community_place, community_tree, held_of}, Statements.keeps}
+use Rattle.hub_store.{proofs.Rows.Texts.community_with_name_is, specs.Rows.community_row}
 use Rattle.hub_store.proofs.has_row.read_has_community_named.Goals as goal
-use Rattle.hub_store.proofs.Rows.Places.{community_place, community_tree, held_of}
 
 pub returns-clause-read : goal.returns-clause-read
 returns-clause-read g c =

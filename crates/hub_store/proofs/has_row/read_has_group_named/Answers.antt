@@ -1,18 +1,8 @@
-use Rattle.std.proofs.Common.{pos, ◌==◌, ◌&&◌, ◌∷◌, [], Ok, refl, ◌∙◌}
-use Rattle.std.specs.Str.{bytes_eq}
-use Rattle.sqlite_value.specs.declared.value.Value.TheVariants.{Int, Text}
-use Rattle.sqlite.specs.Held.{state}
-use Rattle.sqlite_sql.specs.Term.{col}
-use Rattle.circle.specs.declared.directory.Group.{Group}
-use Rattle.hub_store.specs.Rows.{group_row}
-use Rattle.hub_store.proofs.LookUps.Answering.{read_shown}
-use Rattle.hub_store.proofs.Rows.Compare.{and-true, equal_numbers, equal_texts}
-use Rattle.hub_store.proofs.Rows.Forms.{is_param}
-use Rattle.hub_store.proofs.Rows.Statements.{keeps}
-use Rattle.hub_store.proofs.Rows.Texts.{group_with_name_is}
-use Rattle.hub_store.proofs.LookUps.Whether.{set_shows}
+use Rattle.{std.{proofs.Common.{pos, ◌==◌, ◌&&◌, ◌∷◌, [], Ok, refl, ◌∙◌}, specs.Str.bytes_eq}, sqlite_value.specs.declared.value.Value.TheVariants.{Int, Text}}
+use Rattle.{sqlite.specs.Held.state, sqlite_sql.specs.Term.col, circle.specs.declared.directory.Group.Group, hub_store.proofs.LookUps.Answering.read_shown}
+use Rattle.hub_store.proofs.{LookUps.Whether.set_shows, Rows.{Compare.{and-true, equal_numbers, equal_texts}, Forms.is_param, Places.{grp_place, grp_tree}}}
+use Rattle.hub_store.{proofs.Rows.{Places.held_of, Statements.keeps, Texts.group_with_name_is}, specs.Rows.group_row}
 use Rattle.hub_store.proofs.has_row.read_has_group_named.Goals as goal
-use Rattle.hub_store.proofs.Rows.Places.{grp_place, grp_tree, held_of}
 
 pub returns-clause-read : goal.returns-clause-read
 returns-clause-read g c =

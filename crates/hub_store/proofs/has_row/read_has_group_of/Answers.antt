@@ -1,10 +1,5 @@
-use Rattle.std.proofs.Common.{◌≡◌, ◌==◌, sym, ◌∙◌}
-use Rattle.circle.specs.declared.directory.Group.{Group}
-use Rattle.circle.specs.Directory.{group_number, has_group_of}
-use Rattle.circle.specs.Reads.{group_of}
-use Rattle.std.proofs.lemmas.Iterator.Adapters.{option_map_id}
-use Rattle.hub_store.proofs.LookUps.Finding.{once_numbered}
-use Rattle.hub_store.proofs.LookUps.Reading.{read_gives}
+use Rattle.{std.proofs.{Common.{◌≡◌, ◌==◌, sym, ◌∙◌}, lemmas.Iterator.Adapters.option_map_id}, circle.specs.Directory.{group_number, has_group_of}}
+use Rattle.{circle.specs.{Reads.group_of, declared.directory.Group.Group}, hub_store.proofs.LookUps.{Finding.once_numbered, Reading.read_gives}}
 use Rattle.hub_store.proofs.LookUps.Whether.{one_passes}
 use Rattle.hub_store.proofs.has_row.read_has_group_of.Goals as goal
 

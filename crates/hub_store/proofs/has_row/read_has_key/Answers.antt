@@ -1,10 +1,5 @@
-use Rattle.std.proofs.Common.{◌≡◌, is_some, ap, ◌∙◌}
-use Rattle.std.specs.Str.{bytes_eq}
-use Rattle.circle.specs.declared.directory.Account.{Account}
-use Rattle.circle.specs.Directory.{has_key}
-use Rattle.circle.specs.Reads.{person_in}
-use Rattle.hub_state.specs.Reads.{person_by_key}
-use Rattle.hub_store.proofs.LookUps.ByNumber.{some_passes}
+use Rattle.{std.{proofs.Common.{◌≡◌, is_some, ap, ◌∙◌}, specs.Str.bytes_eq}, circle.specs.{Directory.has_key, Reads.person_in}}
+use Rattle.{circle.specs.declared.directory.Account.Account, hub_state.specs.Reads.person_by_key, hub_store.proofs.LookUps.ByNumber.some_passes}
 use Rattle.hub_store.proofs.LookUps.Reading.{read_gives}
 use Rattle.hub_store.proofs.has_row.read_has_key.Goals as goal
 

@@ -1,10 +1,5 @@
-use Rattle.std.proofs.Common.{◌≡◌, ◌==◌}
-use Rattle.circle.specs.declared.directory.Account.{Account}
-use Rattle.circle.specs.declared.directory.Person.{Person}
-use Rattle.circle.specs.Directory.{account_number, has_nominated}
-use Rattle.circle.specs.Reads.{person_in, person_of}
-use Rattle.hub_store.proofs.LookUps.Finding.{once_numbered}
-use Rattle.hub_store.proofs.LookUps.Reading.{read_gives}
+use Rattle.{std.proofs.Common.{◌≡◌, ◌==◌}, circle.specs.{Directory.{account_number, has_nominated}, Reads.{person_in, person_of}}}
+use Rattle.{circle.specs.declared.directory.{Account.Account, Person.Person}, hub_store.proofs.LookUps.{Finding.once_numbered, Reading.read_gives}}
 use Rattle.hub_store.proofs.LookUps.Whether.{one_passes}
 use Rattle.hub_store.proofs.has_row.read_has_nominated.Goals as goal
 

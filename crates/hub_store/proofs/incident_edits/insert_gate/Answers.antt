@@ -1,8 +1,4 @@
-use Rattle.std.proofs.Common.{refl, rules}
-use Rattle.hub_store.proofs.Rows.Compare.{bound_option}
-use Rattle.hub_store.proofs.Rows.SetKinds.{put_into}
-use Rattle.hub_store.proofs.Rows.Sets.{gates}
-use Rattle.hub_store.proofs.Rows.Texts.{put_gate_is}
+use Rattle.{std.proofs.Common.{refl, rules}, hub_store.proofs.Rows.{Compare.bound_option, SetKinds.put_into, Sets.gates, Texts.put_gate_is}}
 use Rattle.hub_store.proofs.incident_edits.insert_gate.Goals as goal
 
 pub returns-clause-made : goal.returns-clause-made

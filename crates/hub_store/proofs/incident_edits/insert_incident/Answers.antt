@@ -1,13 +1,6 @@
-use Rattle.std.proofs.Common.{map, ◌∷◌}
-use Rattle.std.proofs.lemmas.List.Sorted.{IsPermutation-map}
-use Rattle.circle.specs.Ordered.{by_number}
-use Rattle.hub_state.specs.State.{incident_number}
-use Rattle.hub_state.specs.Edits.{edited}
-use Rattle.hub_state.specs.declared.edit.Edit.TheVariants.{PutIncident}
-use Rattle.hub_store.specs.Rows.{named_row}
-use Rattle.hub_store.specs.Items.{item_row, items_of}
-use Rattle.hub_store.proofs.Rows.SetKinds.{put_by-same}
-use Rattle.hub_store.proofs.Edits.Between.{as_between, makes_from}
+use Rattle.{std.proofs.{Common.{map, ◌∷◌}, lemmas.List.Sorted.IsPermutation-map}, circle.specs.Ordered.by_number, hub_state.specs.Edits.edited}
+use Rattle.{hub_state.specs.{State.incident_number, declared.edit.Edit.TheVariants.PutIncident}, hub_store.proofs.Edits.Between.{as_between, makes_from}}
+use Rattle.hub_store.{proofs.Rows.SetKinds.put_by-same, specs.{Items.{item_row, items_of}, Rows.named_row}}
 use Rattle.hub_store.proofs.incident_edits.insert_incident.Goals as goal
 
 pub returns-clause-made : goal.returns-clause-made

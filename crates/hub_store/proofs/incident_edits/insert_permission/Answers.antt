@@ -1,8 +1,4 @@
-use Rattle.std.proofs.Common.{refl}
-use Rattle.hub_store.proofs.Rows.Compare.{bound_moment}
-use Rattle.hub_store.proofs.Rows.SetKinds.{put_into}
-use Rattle.hub_store.proofs.Rows.Sets.{permissions}
-use Rattle.hub_store.proofs.Rows.Texts.{put_permission_is}
+use Rattle.{std.proofs.Common.refl, hub_store.proofs.Rows.{Compare.bound_moment, SetKinds.put_into, Sets.permissions, Texts.put_permission_is}}
 use Rattle.hub_store.proofs.incident_edits.insert_permission.Goals as goal
 
 pub returns-clause-made : goal.returns-clause-made

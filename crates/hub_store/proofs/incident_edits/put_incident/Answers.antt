@@ -1,17 +1,7 @@
-use Rattle.std.proofs.Common.{◌≡◌, ◌++◌, map, rules, sym, subst}
-use Rattle.std.specs.List.Sorted.{IsPermutation}
-use Rattle.circle.specs.Ordered.{by_number}
-use Rattle.hub_state.specs.State.{incident_number}
-use Rattle.hub_state.specs.Edits.{edited}
-use Rattle.hub_state.specs.declared.edit.Edit.TheVariants.{PutIncident}
-use Rattle.hub_store.specs.Items.{items_from, items_in, items_of, item_row}
-use Rattle.hub_store.specs.Rows.{named_row}
-use Rattle.hub_store.specs.Means.{HoldsBetween}
-use Rattle.hub_store.proofs.Edits.Between.{makes_to}
-use Rattle.hub_store.proofs.Edits.Changes.{with_incident}
-use Rattle.hub_store.proofs.Rows.SetKinds.{put_by-same}
-use Rattle.hub_store.proofs.Rows.Items.{items_put}
-use Rattle.hub_store.proofs.Edits.Steps.{kept_itself, survives_itself, makes_then}
+use Rattle.{std.{proofs.Common.{◌≡◌, ◌++◌, map, rules, sym, subst}, specs.List.Sorted.IsPermutation}, circle.specs.Ordered.by_number}
+use Rattle.{hub_state.specs.{Edits.edited, State.incident_number, declared.edit.Edit.TheVariants.PutIncident}, hub_store.proofs.Edits.Between.makes_to}
+use Rattle.hub_store.proofs.{Edits.{Changes.with_incident, Steps.{kept_itself, survives_itself, makes_then}}, Rows.{Items.items_put, SetKinds.put_by-same}}
+use Rattle.hub_store.specs.{Items.{items_from, items_in, items_of, item_row}, Means.HoldsBetween, Rows.named_row}
 use Rattle.hub_store.proofs.incident_edits.put_incident.Goals as goal
 
 pub returns-in_err-lines-clause-made : goal.returns-in_err-lines-clause-made

@@ -1,7 +1,4 @@
-use Rattle.std.proofs.Common.{refl}
-use Rattle.hub_store.proofs.Rows.SetKinds.{put_into}
-use Rattle.hub_store.proofs.Rows.Sets.{recipients}
-use Rattle.hub_store.proofs.Rows.Texts.{put_recipient_is}
+use Rattle.{std.proofs.Common.refl, hub_store.proofs.Rows.{SetKinds.put_into, Sets.recipients, Texts.put_recipient_is}}
 use Rattle.hub_store.proofs.incident_edits.put_recipient.Goals as goal
 
 pub returns-clause-made : goal.returns-clause-made

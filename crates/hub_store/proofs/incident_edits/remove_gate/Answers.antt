@@ -1,14 +1,6 @@
-use Rattle.std.proofs.Common.{pos, [], ◌∷◌, not, ap}
-use Rattle.sqlite_value.specs.declared.value.Value.TheVariants.{Int, Text}
-use Rattle.iodef_tree.specs.Pointer.{pointer_text}
-use Rattle.hub_state.specs.State.{is_gate_at}
-use Rattle.hub_store.specs.Rows.{gate_row}
-use Rattle.hub_store.proofs.Edits.Changes.{gate_test}
-use Rattle.hub_store.proofs.Rows.Compare.{begins, past}
-use Rattle.hub_store.proofs.Rows.Found.{filter_rows}
-use Rattle.hub_store.proofs.Rows.SetKinds.{taken_from}
-use Rattle.hub_store.proofs.Rows.Sets.{gates}
-use Rattle.hub_store.proofs.Rows.Texts.{take_gate_is}
+use Rattle.{std.proofs.Common.{pos, [], ◌∷◌, not, ap}, sqlite_value.specs.declared.value.Value.TheVariants.{Int, Text}, iodef_tree.specs.Pointer.pointer_text}
+use Rattle.{hub_state.specs.State.is_gate_at, hub_store.proofs.{Edits.Changes.gate_test, Rows.{Compare.{begins, past}, Found.filter_rows, SetKinds.taken_from}}}
+use Rattle.hub_store.{proofs.Rows.{Sets.gates, Texts.take_gate_is}, specs.Rows.gate_row}
 use Rattle.hub_store.proofs.incident_edits.remove_gate.Goals as goal
 
 pub returns-clause-made : goal.returns-clause-made

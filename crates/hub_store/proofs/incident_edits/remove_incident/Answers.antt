@@ -1,12 +1,6 @@
-use Rattle.std.proofs.Common.{map, filter, not, ◌==◌}
-use Rattle.hub_state.specs.Edits.{edited}
-use Rattle.hub_state.specs.declared.edit.Edit.TheVariants.{TakeIncident}
-use Rattle.hub_store.specs.Items.{Item, items_of, item_row}
-use Rattle.hub_store.specs.Rows.{named_row}
-use Rattle.hub_store.specs.Means.{Holds, HoldsBetween}
-use Rattle.hub_store.proofs.Edits.Changes.{takes_incident}
-use Rattle.hub_store.proofs.Edits.Steps.{made_by}
-use Rattle.hub_store.proofs.Rows.Texts.{take_incident}
+use Rattle.{std.proofs.Common.{map, filter, not, ◌==◌}, hub_state.specs.{Edits.edited, declared.edit.Edit.TheVariants.TakeIncident}}
+use Rattle.hub_store.{proofs.{Edits.{Changes.takes_incident, Steps.made_by}, Rows.Texts.take_incident}, specs.{Items.{Item, items_of, item_row}, Means.Holds}}
+use Rattle.hub_store.specs.{Means.HoldsBetween, Rows.named_row}
 use Rattle.hub_store.proofs.incident_edits.remove_incident.Goals as goal
 
 pub returns-clause-made : goal.returns-clause-made

@@ -1,14 +1,6 @@
-use Rattle.std.proofs.Common.{pos, [], ◌∷◌, not, ap}
-use Rattle.sqlite_value.specs.declared.value.Value.TheVariants.{Int, Text}
-use Rattle.iodef_tree.specs.Pointer.{pointer_text}
-use Rattle.hub_state.specs.State.{is_permission_being, grantee_key}
-use Rattle.hub_store.specs.Rows.{permission_row}
-use Rattle.hub_store.proofs.Edits.Changes.{permission_test}
-use Rattle.hub_store.proofs.Rows.Compare.{begins, past}
-use Rattle.hub_store.proofs.Rows.Found.{filter_rows}
-use Rattle.hub_store.proofs.Rows.SetKinds.{taken_from}
-use Rattle.hub_store.proofs.Rows.Sets.{permissions}
-use Rattle.hub_store.proofs.Rows.Texts.{take_permission_is}
+use Rattle.{std.proofs.Common.{pos, [], ◌∷◌, not, ap}, sqlite_value.specs.declared.value.Value.TheVariants.{Int, Text}, iodef_tree.specs.Pointer.pointer_text}
+use Rattle.{hub_state.specs.State.{is_permission_being, grantee_key}, hub_store.proofs.{Edits.Changes.permission_test, Rows.Compare.{begins, past}}}
+use Rattle.hub_store.{proofs.Rows.{Found.filter_rows, SetKinds.taken_from, Sets.permissions, Texts.take_permission_is}, specs.Rows.permission_row}
 use Rattle.hub_store.proofs.incident_edits.remove_permission.Goals as goal
 
 pub returns-clause-made : goal.returns-clause-made

@@ -1,5 +1,4 @@
-use Rattle.std.proofs.Common.{rules}
-use Rattle.hub_store.proofs.Edits.Steps.{kept_itself, survives_itself}
+use Rattle.{std.proofs.Common.rules, hub_store.proofs.Edits.Steps.{kept_itself, survives_itself}}
 use Rattle.hub_store.proofs.incident_edits.take_gate.Goals as goal
 
 pub returns-in_err-path-clause-made : goal.returns-in_err-path-clause-made

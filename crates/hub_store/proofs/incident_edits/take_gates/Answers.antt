@@ -1,11 +1,6 @@
-use Rattle.std.proofs.Common.{pos, [], ◌∷◌, ◌==◌, not, ap, ◌∙◌}
-use Rattle.sqlite_value.specs.declared.value.Value.TheVariants.{Int}
+use Rattle.{std.proofs.Common.{pos, [], ◌∷◌, ◌==◌, not, ap, ◌∙◌}, sqlite_value.specs.declared.value.Value.TheVariants.Int, hub_store.proofs.Rows.Compare.begins}
+use Rattle.hub_store.proofs.Rows.{Compare.{and-true, equal_numbers, past}, Found.filter_rows, SetKinds.taken_from, Sets.gates, Texts.take_gates_is}
 use Rattle.hub_store.specs.Rows.{gate_row}
-use Rattle.hub_store.proofs.Rows.Compare.{begins, and-true, equal_numbers, past}
-use Rattle.hub_store.proofs.Rows.Found.{filter_rows}
-use Rattle.hub_store.proofs.Rows.SetKinds.{taken_from}
-use Rattle.hub_store.proofs.Rows.Sets.{gates}
-use Rattle.hub_store.proofs.Rows.Texts.{take_gates_is}
 use Rattle.hub_store.proofs.incident_edits.take_gates.Goals as goal
 
 pub returns-clause-made : goal.returns-clause-made

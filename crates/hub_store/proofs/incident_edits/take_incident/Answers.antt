@@ -1,8 +1,5 @@
-use Rattle.std.proofs.Common.{map, filter, not, ◌==◌, rules}
-use Rattle.hub_store.specs.Items.{Item, items_of, item_row}
-use Rattle.hub_store.specs.Rows.{named_row}
-use Rattle.hub_store.specs.Means.{HoldsBetween}
-use Rattle.hub_store.proofs.Edits.Steps.{makes_then}
+use Rattle.{std.proofs.Common.{map, filter, not, ◌==◌, rules}, hub_store.{proofs.Edits.Steps.makes_then, specs.Items.{Item, items_of, item_row}}}
+use Rattle.hub_store.specs.{Means.HoldsBetween, Rows.named_row}
 use Rattle.hub_store.proofs.incident_edits.take_incident.Goals as goal
 
 pub returns-in_err-take_lines-clause-made : goal.returns-in_err-take_lines-clause-made

@@ -1,10 +1,5 @@
-use Rattle.std.proofs.Common.{map, filter, not, ◌==◌}
-use Rattle.hub_store.specs.Items.{Item, items_of, item_row}
-use Rattle.hub_store.specs.Rows.{named_row}
-use Rattle.hub_store.specs.Means.{Holds, HoldsBetween}
-use Rattle.hub_store.proofs.Edits.Changes.{takes_lines}
-use Rattle.hub_store.proofs.Edits.Steps.{made_by}
-use Rattle.hub_store.proofs.Rows.Texts.{take_lines}
+use Rattle.{std.proofs.Common.{map, filter, not, ◌==◌}, hub_store.proofs.{Edits.{Changes.takes_lines, Steps.made_by}, Rows.Texts.take_lines}}
+use Rattle.hub_store.specs.{Items.{Item, items_of, item_row}, Means.{Holds, HoldsBetween}, Rows.named_row}
 use Rattle.hub_store.proofs.incident_edits.take_lines.Goals as goal
 
 pub returns-clause-made : goal.returns-clause-made

@@ -1,12 +1,6 @@
-use Rattle.std.proofs.Common.{pos, [], ◌∷◌, ◌==◌, not, ap, ◌∙◌}
-use Rattle.sqlite_value.specs.declared.value.Value.TheVariants.{Int}
-use Rattle.hub_store.specs.Rows.{permission_row}
-use Rattle.hub_store.specs.inner.Partly.{without_gates}
-use Rattle.hub_store.proofs.Rows.Compare.{begins, and-true, equal_numbers, past}
-use Rattle.hub_store.proofs.Rows.Found.{filter_rows}
-use Rattle.hub_store.proofs.Rows.SetKinds.{taken_from}
-use Rattle.hub_store.proofs.Rows.Sets.{permissions}
-use Rattle.hub_store.proofs.Rows.Texts.{take_permissions_is}
+use Rattle.{std.proofs.Common.{pos, [], ◌∷◌, ◌==◌, not, ap, ◌∙◌}, sqlite_value.specs.declared.value.Value.TheVariants.Int, hub_store.proofs.Rows.Compare.begins}
+use Rattle.hub_store.proofs.Rows.{Compare.{and-true, equal_numbers, past}, Found.filter_rows, SetKinds.taken_from, Sets.permissions, Texts.take_permissions_is}
+use Rattle.hub_store.specs.{Rows.permission_row, inner.Partly.without_gates}
 use Rattle.hub_store.proofs.incident_edits.take_permissions.Goals as goal
 
 pub returns-clause-made : goal.returns-clause-made

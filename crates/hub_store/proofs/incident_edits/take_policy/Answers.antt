@@ -1,7 +1,4 @@
-use Rattle.std.proofs.Common.{rules}
-use Rattle.hub_store.specs.Means.{Holds}
-use Rattle.hub_store.specs.inner.Partly.{without_gates}
-use Rattle.hub_store.proofs.Edits.Steps.{makes_then}
+use Rattle.{std.proofs.Common.rules, hub_store.{proofs.Edits.Steps.makes_then, specs.{Means.Holds, inner.Partly.without_gates}}}
 use Rattle.hub_store.proofs.incident_edits.take_policy.Goals as goal
 
 pub returns-in_err-take_gates-clause-made : goal.returns-in_err-take_gates-clause-made

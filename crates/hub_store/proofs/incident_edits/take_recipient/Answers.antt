@@ -1,12 +1,6 @@
-use Rattle.std.proofs.Common.{[], ◌∷◌, not, ap}
-use Rattle.hub_state.specs.State.{is_recipient_being}
+use Rattle.{std.proofs.Common.{[], ◌∷◌, not, ap}, hub_state.specs.State.is_recipient_being, hub_store.proofs.Edits.Changes.recipient_test}
+use Rattle.hub_store.proofs.Rows.{Compare.{begins, past}, Found.filter_rows, SetKinds.taken_from, Sets.recipients, Texts.take_recipient_is}
 use Rattle.hub_store.specs.Rows.{recipient_row}
-use Rattle.hub_store.proofs.Edits.Changes.{recipient_test}
-use Rattle.hub_store.proofs.Rows.Compare.{begins, past}
-use Rattle.hub_store.proofs.Rows.Found.{filter_rows}
-use Rattle.hub_store.proofs.Rows.SetKinds.{taken_from}
-use Rattle.hub_store.proofs.Rows.Sets.{recipients}
-use Rattle.hub_store.proofs.Rows.Texts.{take_recipient_is}
 use Rattle.hub_store.proofs.incident_edits.take_recipient.Goals as goal
 
 pub returns-clause-made : goal.returns-clause-made

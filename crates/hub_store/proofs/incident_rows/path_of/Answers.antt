@@ -1,7 +1,4 @@
-use Rattle.std.proofs.Common.{sym, ap, ◌∙◌}
-use Rattle.std.proofs.lemmas.Option.{same_Some}
-use Rattle.iodef_tree.specs.Pointer.{pointer_tokens}
-use Rattle.iodef_tree.proofs.Inverse.{pointer_tokens-pointer_text}
+use Rattle.{std.proofs.{Common.{sym, ap, ◌∙◌}, lemmas.Option.same_Some}, iodef_tree.{proofs.Inverse.pointer_tokens-pointer_text, specs.Pointer.pointer_tokens}}
 use Rattle.hub_store.proofs.incident_rows.path_of.Goals as goal
 
 pub returns-in-Ok : goal.returns-in-Ok

@@ -1,7 +1,5 @@
-use Rattle.std.proofs.Common.{◌≡◌, take, ap, ◌∙◌, arith}
-use Rattle.std.proofs.lemmas.Grind.{common_steps}
-use Rattle.hub_state.specs.Edits.{edited}
-use Rattle.hub_store.proofs.LookUps.Adding.{put_none, put_more}
+use Rattle.{std.proofs.{Common.{◌≡◌, take, ap, ◌∙◌, arith}, lemmas.Grind.common_steps}, hub_state.specs.Edits.edited, hub_store.proofs.LookUps.Adding.put_none}
+use Rattle.hub_store.proofs.LookUps.Adding.{put_more}
 use Rattle.hub_store.proofs.into_edit.put_shown.Goals as goal
 
 pub loop-row-init : goal.loop-row-init

@@ -1,5 +1,4 @@
-use Rattle.std.proofs.Common.{take}
-use Rattle.hub_store.specs.inner.Adds.{ArePut}
+use Rattle.{std.proofs.Common.take, hub_store.specs.inner.Adds.ArePut}
 use Rattle.hub_store.proofs.into_edit.put_shown.Given as goal
 
 abbrev pub invariant-loop-row : goal.invariant-loop-row

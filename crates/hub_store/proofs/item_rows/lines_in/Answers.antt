@@ -1,8 +1,5 @@
-use Rattle.std.proofs.Common.{◌≡◌, ◌++◌, [], ◌∷◌, ◌∙◌, take, sym, ap, subst₂, rules}
-use Rattle.std.proofs.lemmas.List.{take_more}
-use Rattle.hub_store.specs.Items.{placed_from}
-use Rattle.hub_store.specs.inner.Shown.{ShowsAll, ShowsPlaced}
-use Rattle.hub_store.proofs.LookUps.AtPlaces.{placed_more}
+use Rattle.{std.proofs.{Common.{◌≡◌, ◌++◌, [], ◌∷◌, ◌∙◌, take, sym, ap, subst₂, rules}, lemmas.List.take_more}, hub_store.proofs.LookUps.AtPlaces.placed_more}
+use Rattle.hub_store.specs.{Items.placed_from, inner.Shown.{ShowsAll, ShowsPlaced}}
 use Rattle.hub_store.proofs.item_rows.lines_in.Goals as goal
 
 pub loop-row-preserved : goal.loop-row-preserved

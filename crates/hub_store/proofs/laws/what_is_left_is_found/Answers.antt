@@ -1,5 +1,4 @@
-use Rattle.sqlite.specs.Held.{state}
-use Rattle.hub_store.proofs.Shelf.Left.{found_has}
+use Rattle.{sqlite.specs.Held.state, hub_store.proofs.Shelf.Left.found_has}
 use Rattle.hub_store.proofs.laws.what_is_left_is_found.Goals as goal
 
 pub returns : goal.returns

@@ -1,12 +1,6 @@
-use Rattle.std.proofs.Common.{pos, ◌∷◌, []}
-use Rattle.sqlite_value.specs.declared.value.Value.TheVariants.{Int}
-use Rattle.sqlite.specs.Held.{state}
-use Rattle.hub_state.specs.Reads.{entries_after}
-use Rattle.hub_store.specs.inner.Shown.{entry_shown}
-use Rattle.hub_store.proofs.LookUps.Answering.{read_shown}
-use Rattle.hub_store.proofs.LookUps.Incidents.{entries_listed}
-use Rattle.hub_store.proofs.LookUps.Listed.{reads_all}
-use Rattle.hub_store.proofs.Rows.Texts.{incidents_above_is}
+use Rattle.{std.proofs.Common.{pos, ◌∷◌, []}, sqlite_value.specs.declared.value.Value.TheVariants.Int, sqlite.specs.Held.state}
+use Rattle.{hub_state.specs.Reads.entries_after, hub_store.proofs.LookUps.{Answering.read_shown, Incidents.entries_listed, Listed.reads_all}}
+use Rattle.hub_store.{proofs.Rows.Texts.incidents_above_is, specs.inner.Shown.entry_shown}
 use Rattle.hub_store.proofs.list_entries.read_entries.Goals as goal
 
 pub returns-clause-read : goal.returns-clause-read

@@ -1,8 +1,5 @@
-use Rattle.std.proofs.Common.{◌≡◌, arith, rules}
-use Rattle.hub_store.specs.Layout.{newest}
-use Rattle.hub_store.specs.Means.{HoldsAs}
-use Rattle.hub_store.proofs.Edits.Inside.{goes_then}
-use Rattle.hub_store.proofs.Edits.Steps.{makes_then, fails_then, fails_passed, goes_passed, makes_passed}
+use Rattle.{std.proofs.Common.{◌≡◌, arith, rules}, hub_store.proofs.Edits.{Inside.goes_then, Steps.{makes_then, fails_then, fails_passed, goes_passed}}}
+use Rattle.hub_store.{proofs.Edits.Steps.makes_passed, specs.{Layout.newest, Means.HoldsAs}}
 use Rattle.hub_store.proofs.migrate.go_on.Goals as goal
 
 pub loop-from-preserved : goal.loop-from-preserved

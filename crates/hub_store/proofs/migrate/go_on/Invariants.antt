@@ -1,8 +1,4 @@
-use Rattle.std.proofs.Common.{◌≡◌, ◌≤◌, Ok}
-use Rattle.sqlite.specs.Held.{state}
-use Rattle.hub_state.specs.State.{State}
-use Rattle.hub_store.specs.Keeps.{Goes}
-use Rattle.hub_store.specs.Means.{HoldsAs}
+use Rattle.{std.proofs.Common.{◌≡◌, ◌≤◌, Ok}, sqlite.specs.Held.state, hub_state.specs.State.State, hub_store.specs.{Keeps.Goes, Means.HoldsAs}}
 use Rattle.hub_store.specs.inner.Makes.{Makes}
 use Rattle.hub_store.proofs.migrate.go_on.Given as goal
 

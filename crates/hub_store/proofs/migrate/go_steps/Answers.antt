@@ -1,6 +1,4 @@
-use Rattle.std.proofs.Common.{arith}
-use Rattle.hub_store.proofs.Versions.MovedOn.{only_1, above_none}
-use Rattle.hub_store.proofs.Edits.Steps.{fails_then}
+use Rattle.{std.proofs.Common.arith, hub_store.proofs.{Edits.Steps.fails_then, Versions.MovedOn.{only_1, above_none}}}
 use Rattle.hub_store.proofs.migrate.go_steps.Goals as goal
 
 pub returns-in_ok-to_version_2-clause-cause : goal.returns-in_ok-to_version_2-clause-cause

@@ -1,11 +1,6 @@
-use Rattle.std.proofs.Common.{[], Ok, refl, rules, sym, subst, arith}
-use Rattle.sqlite.specs.Held.{state}
-use Rattle.hub_store.specs.inner.Beside.{HoldsBeside}
-use Rattle.hub_store.specs.inner.Makes.{Makes}
-use Rattle.hub_store.specs.inner.Moving.{HoldsMoved, HoldsNext}
-use Rattle.hub_store.proofs.Edits.Inside.{goes_then}
-use Rattle.hub_store.proofs.Versions.MovedOn.{moved_none, moved_all}
-use Rattle.hub_store.proofs.Edits.Steps.{clean_before, makes_start, fails_then, fails_passed}
+use Rattle.{std.proofs.Common.{[], Ok, refl, rules, sym, subst, arith}, sqlite.specs.Held.state, hub_store.proofs.Edits.{Inside.goes_then, Steps.clean_before}}
+use Rattle.hub_store.{proofs.{Edits.Steps.{makes_start, fails_then, fails_passed}, Versions.MovedOn.{moved_none, moved_all}}, specs.inner.Beside.HoldsBeside}
+use Rattle.hub_store.specs.inner.{Makes.Makes, Moving.{HoldsMoved, HoldsNext}}
 use Rattle.hub_store.proofs.migrate.move_documents.Goals as goal
 
 pub loop-init : goal.loop-init

@@ -1,11 +1,5 @@
-use Rattle.std.proofs.Common.{◌≡◌, ◌≤◌, [], Ok, IsTrue}
-use Rattle.sqlite.specs.Held.{state}
-use Rattle.sqlite.specs.State.{HasCleanDisk}
-use Rattle.hub_state.specs.State.{State}
-use Rattle.hub_state.specs.declared.TheConstants.{INCIDENT_LIMIT}
-use Rattle.hub_store.specs.Keeps.{Goes}
-use Rattle.hub_store.specs.inner.Moving.{HasTexts, HoldsMoved}
-use Rattle.hub_store.specs.inner.Beside.{HoldsBeside}
+use Rattle.{std.proofs.Common.{◌≡◌, ◌≤◌, [], Ok, IsTrue}, sqlite.specs.{Held.state, State.HasCleanDisk}, hub_state.specs.State.State}
+use Rattle.{hub_state.specs.declared.TheConstants.INCIDENT_LIMIT, hub_store.specs.{Keeps.Goes, inner.{Beside.HoldsBeside, Moving.{HasTexts, HoldsMoved}}}}
 use Rattle.hub_store.proofs.migrate.move_documents.Given as goal
 
 abbrev pub invariant-loop : goal.invariant-loop

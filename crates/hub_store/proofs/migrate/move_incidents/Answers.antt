@@ -1,8 +1,5 @@
-use Rattle.std.proofs.Common.{[]}
-use Rattle.hub_state.specs.State.{empty}
-use Rattle.hub_store.specs.Parts.{HoldsParts}
-use Rattle.hub_store.specs.Layout.{tables_2}
-use Rattle.hub_store.proofs.Edits.Steps.{makes_then, fails_then, fails_passed, goes_passed, makes_passed}
+use Rattle.{std.proofs.Common.[], hub_state.specs.State.empty, hub_store.proofs.Edits.Steps.{makes_then, fails_then, fails_passed, goes_passed, makes_passed}}
+use Rattle.hub_store.specs.{Layout.tables_2, Parts.HoldsParts}
 use Rattle.hub_store.proofs.migrate.move_incidents.Goals as goal
 
 pub returns-in_err-create_incident-clause-goes : goal.returns-in_err-create_incident-clause-goes

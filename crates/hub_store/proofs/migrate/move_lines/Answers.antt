@@ -1,13 +1,6 @@
-use Rattle.std.proofs.Common.{[], map, Ok}
-use Rattle.sqlite.specs.Held.{state}
-use Rattle.hub_state.specs.State.{empty}
-use Rattle.hub_store.specs.Items.{items_of, item_row}
-use Rattle.hub_store.specs.inner.Beside.{HoldsBeside}
-use Rattle.hub_store.specs.Layout.{parts_1}
-use Rattle.hub_store.specs.inner.Makes.{Makes}
-use Rattle.hub_store.specs.Parts.{HoldsParts}
-use Rattle.hub_store.proofs.Edits.Inside.{goes_then}
-use Rattle.hub_store.proofs.Edits.Steps.{clean_before, fails_then, fails_passed, goes_passed}
+use Rattle.{std.proofs.Common.{[], map, Ok}, sqlite.specs.Held.state, hub_state.specs.State.empty, hub_store.proofs.Edits.Inside.goes_then}
+use Rattle.hub_store.{proofs.Edits.Steps.{clean_before, fails_then, fails_passed, goes_passed}, specs.{Items.{items_of, item_row}, Layout.parts_1}}
+use Rattle.hub_store.specs.{Parts.HoldsParts, inner.{Beside.HoldsBeside, Makes.Makes}}
 use Rattle.hub_store.proofs.migrate.move_lines.Goals as goal
 
 pub returns-in_err-create_item-clause-goes : goal.returns-in_err-create_item-clause-goes

@@ -1,14 +1,7 @@
-use Rattle.std.proofs.Common.{◌≡◌, ◌++◌, ◌∷◌, [], None, Some, Ok, map, rules, sym, subst, ◌∙◌}
-use Rattle.sqlite.specs.Held.{state}
-use Rattle.hub_state.specs.Documents.{Lines}
-use Rattle.hub_store.specs.Items.{items_in, item_row}
-use Rattle.hub_store.specs.inner.Moving.{HoldsMoved, HoldsNext, incidents_up_to}
-use Rattle.hub_store.specs.inner.PutsLines.{PutsLines, HasMore}
-use Rattle.hub_store.proofs.Edits.Inside.{goes_then}
-use Rattle.hub_store.proofs.Versions.Movable.{lines_stand}
-use Rattle.hub_store.proofs.Versions.Moved.{next_more}
-use Rattle.hub_store.proofs.Versions.MovedOn.{one_moved, none_left}
-use Rattle.hub_store.proofs.Edits.Steps.{clean_before, fails_then, fails_passed, goes_passed}
+use Rattle.{std.proofs.Common.{◌≡◌, ◌++◌, ◌∷◌, [], None, Some, Ok, map, rules, sym, subst, ◌∙◌}, sqlite.specs.Held.state, hub_state.specs.Documents.Lines}
+use Rattle.hub_store.proofs.{Edits.{Inside.goes_then, Steps.{clean_before, fails_then, fails_passed, goes_passed}}, Versions.Movable.lines_stand}
+use Rattle.hub_store.{proofs.Versions.{Moved.next_more, MovedOn.{one_moved, none_left}}, specs.{Items.{items_in, item_row}, inner.Moving.HoldsMoved}}
+use Rattle.hub_store.specs.inner.{Moving.{HoldsNext, incidents_up_to}, PutsLines.{PutsLines, HasMore}}
 use Rattle.hub_store.proofs.migrate.move_next.Goals as goal
 
 pub returns-in_default-clause-moved : goal.returns-in_default-clause-moved

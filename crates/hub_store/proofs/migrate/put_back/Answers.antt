@@ -1,15 +1,7 @@
-use Rattle.std.proofs.Common.{◌≡◌, ◌+◌, ◌++◌, [], map, take, drop, take-append-drop, sym, ap, subst, ◌∙◌, arith, rules}
-use Rattle.hub_store.proofs.Edits.Inside.{goes_then}
-use Rattle.std.proofs.lemmas.List.{map-append}
-use Rattle.std.proofs.lemmas.Grind.{common_steps}
-use Rattle.hub_state.specs.State.{empty}
-use Rattle.hub_store.specs.inner.Beside.{CanName}
-use Rattle.hub_store.specs.Parts.{HoldsParts}
-use Rattle.hub_store.specs.Rows.{naming_row_2}
-use Rattle.hub_store.specs.Layout.{tables_2}
-use Rattle.hub_store.proofs.Versions.Standing.{first_names}
-use Rattle.hub_store.proofs.Edits.Steps.{makes_then, fails_then, fails_passed, goes_passed, makes_passed}
-use Rattle.hub_store.proofs.Versions.Migrating.{one_more}
+use Rattle.std.proofs.{Common.{◌≡◌, ◌+◌, ◌++◌, [], map, take, drop, take-append-drop, sym, ap, subst, ◌∙◌, arith, rules}, lemmas.Grind.common_steps}
+use Rattle.{std.proofs.lemmas.List.map-append, hub_state.specs.State.empty, hub_store.proofs.Edits.{Inside.goes_then, Steps.{makes_then, fails_then}}}
+use Rattle.hub_store.proofs.{Edits.Steps.{fails_passed, goes_passed, makes_passed}, Versions.{Migrating.one_more, Standing.first_names}}
+use Rattle.hub_store.specs.{Layout.tables_2, Parts.HoldsParts, Rows.naming_row_2, inner.Beside.CanName}
 use Rattle.hub_store.proofs.migrate.put_back.Goals as goal
 
 pub loop-naming-preserved : goal.loop-naming-preserved

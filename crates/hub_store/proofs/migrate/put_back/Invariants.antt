@@ -1,11 +1,5 @@
-use Rattle.std.proofs.Common.{◌≡◌, [], List, map, take, Ok}
-use Rattle.sqlite_value.specs.Order.{Row}
-use Rattle.sqlite.specs.Held.{state}
-use Rattle.hub_state.specs.State.{State}
-use Rattle.hub_store.specs.inner.Makes.{Makes}
-use Rattle.hub_store.specs.Parts.{HoldsParts}
-use Rattle.hub_store.specs.Rows.{naming_row_2}
-use Rattle.hub_store.specs.Layout.{tables_2}
+use Rattle.{std.proofs.Common.{◌≡◌, [], List, map, take, Ok}, sqlite_value.specs.Order.Row, sqlite.specs.Held.state, hub_state.specs.State.State}
+use Rattle.hub_store.specs.{Layout.tables_2, Parts.HoldsParts, Rows.naming_row_2, inner.Makes.Makes}
 use Rattle.hub_store.proofs.migrate.put_back.Given as goal
 
 abbrev pub invariant-loop-naming : goal.invariant-loop-naming

@@ -1,6 +1,5 @@
-use Rattle.hub_store.proofs.Edits.Inside.{goes_asked}
+use Rattle.hub_store.proofs.Edits.{Inside.goes_asked, Steps.{err_passed, unheld_only, failed_goes, goes_passed, makes_passed}}
 use Rattle.hub_store.proofs.Versions.NextIncident.{next_incident, next_keeps, next_found, next_fails, next_reads}
-use Rattle.hub_store.proofs.Edits.Steps.{err_passed, unheld_only, failed_goes, goes_passed, makes_passed}
 use Rattle.hub_store.proofs.migrate.read_next.Goals as goal
 
 pub returns-in_err-rows-clause-goes : goal.returns-in_err-rows-clause-goes

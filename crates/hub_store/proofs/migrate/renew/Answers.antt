@@ -1,22 +1,9 @@
-use Rattle.std.proofs.Common.{◌≡◌, ◌≢◌, OnOk, IfErr, sym, subst, arith, rules}
-use Rattle.std.proofs.lemmas.Result.{IfErr-weaker}
-use Rattle.sqlite_trees.specs.Tree.{Trees}
-use Rattle.sqlite.specs.State.{HasCleanDisk, Survives}
-use Rattle.sqlite.specs.declared.error.Error.TheVariants.{SqliteFailure}
+use Rattle.{std.proofs.{Common.{◌≡◌, ◌≢◌, OnOk, IfErr, sym, subst, arith, rules}, lemmas.Result.IfErr-weaker}, sqlite_trees.specs.Tree.Trees}
+use Rattle.sqlite.{proofs.{Callers.survives_begin, StateLemmas.survives_then}, specs.{Held.state, State.{HasCleanDisk, Survives}, Steps.FailsToCommit}}
+use Rattle.{sqlite.specs.declared.error.Error.TheVariants.SqliteFailure, hub_state.specs.State.State, hub_store.proofs.Edits.Runs.{committed_made, ready}}
+use Rattle.hub_store.proofs.{Edits.Steps.{on_ok, on_any, survives_on, err_passed}, Shelf.Left.trees_hold, Versions.Causes.{reason_after, commit_reason}}
+use Rattle.hub_store.{proofs.Versions.Renewing.probe_fails, specs.{Content.{HasAs, CommitsState}, Failing.HasReason, Means.{TreesHold, Holds}}}
 use Rattle.sqlite.specs.declared.error.ErrorCode.TheVariants as code
-use Rattle.sqlite.specs.Steps.{FailsToCommit}
-use Rattle.sqlite.specs.Held.{state}
-use Rattle.sqlite.proofs.StateLemmas.{survives_then}
-use Rattle.sqlite.proofs.Callers.{survives_begin}
-use Rattle.hub_state.specs.State.{State}
-use Rattle.hub_store.specs.Content.{HasAs, CommitsState}
-use Rattle.hub_store.specs.Means.{TreesHold, Holds}
-use Rattle.hub_store.specs.Failing.{HasReason}
-use Rattle.hub_store.proofs.Versions.Causes.{reason_after, commit_reason}
-use Rattle.hub_store.proofs.Versions.Renewing.{probe_fails}
-use Rattle.hub_store.proofs.Shelf.Left.{trees_hold}
-use Rattle.hub_store.proofs.Edits.Runs.{committed_made, ready}
-use Rattle.hub_store.proofs.Edits.Steps.{on_ok, on_any, survives_on, err_passed}
 use Rattle.hub_store.proofs.migrate.renew.Goals as goal
 
 pub returns-clause-made : goal.returns-clause-made

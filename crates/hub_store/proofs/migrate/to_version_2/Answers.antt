@@ -1,18 +1,8 @@
-use Rattle.std.proofs.Common.{List, [], map, drop, Ok, refl, sym, subst, ◌∙◌}
-use Rattle.sqlite_value.specs.Order.{Row}
-use Rattle.sqlite.specs.Held.{state}
-use Rattle.hub_state.specs.State.{State}
-use Rattle.hub_store.specs.Items.{items_of, item_row}
-use Rattle.hub_store.specs.inner.Beside.{CanName}
-use Rattle.hub_store.specs.Layout.{tables_2, without_incidents}
-use Rattle.hub_store.specs.inner.Makes.{Makes}
-use Rattle.hub_store.specs.Means.{HoldsAs}
-use Rattle.hub_store.specs.Rows.{named_row_2, naming_row_2}
-use Rattle.hub_store.specs.Parts.{Part, HoldsParts}
-use Rattle.hub_store.proofs.Edits.Inside.{goes_then}
-use Rattle.hub_store.proofs.Versions.Movable.{names_stand}
-use Rattle.hub_store.proofs.Versions.MovedOn.{tables_of_1, texts_of_1, held_as_2, rows_of_namings}
-use Rattle.hub_store.proofs.Edits.Steps.{on_ok, clean_before, fails_then, fails_passed, goes_passed, makes_passed}
+use Rattle.{std.proofs.Common.{List, [], map, drop, Ok, refl, sym, subst, ◌∙◌}, sqlite_value.specs.Order.Row, sqlite.specs.Held.state}
+use Rattle.{hub_state.specs.State.State, hub_store.proofs.Edits.{Inside.goes_then, Steps.{on_ok, clean_before, fails_then, fails_passed, goes_passed}}}
+use Rattle.hub_store.proofs.{Edits.Steps.makes_passed, Versions.{Movable.names_stand, MovedOn.{tables_of_1, texts_of_1, held_as_2, rows_of_namings}}}
+use Rattle.hub_store.specs.{Items.{items_of, item_row}, Layout.{tables_2, without_incidents}, Means.HoldsAs, Parts.{Part, HoldsParts}, Rows.named_row_2}
+use Rattle.hub_store.specs.{Rows.naming_row_2, inner.{Beside.CanName, Makes.Makes}}
 use Rattle.hub_store.proofs.migrate.to_version_2.Goals as goal
 
 -- the tables of version 2 after that of the version

@@ -1,7 +1,5 @@
-use Rattle.std.proofs.Common.{◌≡◌, drop, arith}
-use Rattle.std.proofs.lemmas.Bool.Decides.{nat_tests}
-use Rattle.hub_store.specs.Layout.{permission_step, incident_step, parts_2, parts_3}
-use Rattle.hub_store.proofs.Edits.Steps.{on_ok}
+use Rattle.{std.proofs.{Common.{◌≡◌, drop, arith}, lemmas.Bool.Decides.nat_tests}, hub_store.{proofs.Edits.Steps.on_ok, specs.Layout.permission_step}}
+use Rattle.hub_store.specs.Layout.{incident_step, parts_2, parts_3}
 use Rattle.hub_store.proofs.Versions.ToVersion3 as three
 use Rattle.hub_store.proofs.Versions.ToVersion4 as four
 use Rattle.hub_store.proofs.next_version.go_next.Goals as goal

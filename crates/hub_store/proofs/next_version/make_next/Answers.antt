@@ -1,8 +1,5 @@
-use Rattle.std.proofs.Common.{◌≡◌, [], arith}
-use Rattle.std.proofs.lemmas.Bool.Decides.{nat_tests}
-use Rattle.hub_state.specs.State.{empty}
+use Rattle.{std.proofs.{Common.{◌≡◌, [], arith}, lemmas.Bool.Decides.nat_tests}, hub_state.specs.State.empty, hub_store.proofs.Versions.Remaking.made_bare}
 use Rattle.hub_store.specs.Layout.{permission_step, incident_step, bare_by}
-use Rattle.hub_store.proofs.Versions.Remaking.{made_bare}
 use Rattle.hub_store.proofs.Versions.ToVersion3 as three
 use Rattle.hub_store.proofs.Versions.ToVersion4 as four
 use Rattle.hub_store.proofs.next_version.make_next.Goals as goal

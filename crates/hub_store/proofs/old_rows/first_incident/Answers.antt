@@ -1,5 +1,4 @@
-use Rattle.std.proofs.Common.{sym}
-use Rattle.hub_store.proofs.Versions.OldTexts.{shows_first}
+use Rattle.{std.proofs.Common.sym, hub_store.proofs.Versions.OldTexts.shows_first}
 use Rattle.hub_store.proofs.old_rows.first_incident.Goals as goal
 
 pub returns-in_ok-incident_of-in-Some-clause-value : goal.returns-in_ok-incident_of-in-Some-clause-value

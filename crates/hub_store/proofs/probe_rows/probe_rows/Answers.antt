@@ -1,12 +1,6 @@
-use Rattle.std.proofs.Common.{◌≡◌, suc, length, Ok, refl, sym, ap, subst, ◌∙◌, rules}
-use Rattle.std.proofs.lemmas.Bool.{true≢false}
-use Rattle.sqlite.specs.Held.{state}
-use Rattle.redact.specs.Feeding.{Progress}
-use Rattle.hub_store.specs.inner.ProbesRows.{AreFirst}
-use Rattle.hub_store.specs.inner.Queries.{IsReadOutside}
-use Rattle.hub_store.proofs.LookUps.AtPlaces.{next_place}
-use Rattle.hub_store.proofs.LookUps.Streaming.{starts, goes_on, ends, stops, not_begun}
-use Rattle.hub_store.proofs.LookUps.Probing.{probed_on, all_came, first_came}
+use Rattle.{std.proofs.{Common.{◌≡◌, suc, length, Ok, refl, sym, ap, subst, ◌∙◌, rules}, lemmas.Bool.true≢false}, sqlite.specs.Held.state}
+use Rattle.{redact.specs.Feeding.Progress, hub_store.proofs.LookUps.{AtPlaces.next_place, Probing.{probed_on, all_came, first_came}, Streaming.starts}}
+use Rattle.hub_store.{proofs.LookUps.Streaming.{goes_on, ends, stops, not_begun}, specs.inner.{ProbesRows.AreFirst, Queries.IsReadOutside}}
 use Rattle.hub_store.proofs.probe_rows.probe_rows.Goals as goal
 
 pub returns-in_err-rows-clause-answers : goal.returns-in_err-rows-clause-answers

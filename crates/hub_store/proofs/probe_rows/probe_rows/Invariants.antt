@@ -1,6 +1,4 @@
-use Rattle.std.proofs.Common.{◌≡◌, suc, length, false}
-use Rattle.hub_store.specs.inner.ProbesRows.{HasProbed}
-use Rattle.hub_store.proofs.LookUps.Streaming.{IsFeeding}
+use Rattle.{std.proofs.Common.{◌≡◌, suc, length, false}, hub_store.{proofs.LookUps.Streaming.IsFeeding, specs.inner.ProbesRows.HasProbed}}
 use Rattle.hub_store.proofs.probe_rows.probe_rows.Given as goal
 
 abbrev pub invariant-rows : goal.invariant-rows

@@ -1,9 +1,5 @@
-use Rattle.std.proofs.Common.{◌≡◌, [], ◌∷◌, ◌++◌, pos, take, sym, ap, ◌∙◌, arith, rules}
-use Rattle.std.proofs.lemmas.Grind.{common_steps}
-use Rattle.sqlite_value.specs.declared.value.Value.TheVariants.{Int}
-use Rattle.sqlite_value.specs.Order.{Row}
-use Rattle.hub_store.specs.Items.{placed_lines}
-use Rattle.hub_store.proofs.Rows.LineParams.{placed_more}
+use Rattle.{std.proofs.{Common.{◌≡◌, [], ◌∷◌, ◌++◌, pos, take, sym, ap, ◌∙◌, arith, rules}, lemmas.Grind.common_steps}, sqlite_value.specs.Order.Row}
+use Rattle.{sqlite_value.specs.declared.value.Value.TheVariants.Int, hub_store.{proofs.Rows.LineParams.placed_more, specs.Items.placed_lines}}
 use Rattle.hub_store.proofs.put_lines.params_of.Goals as goal
 
 pub loop-line-preserved : goal.loop-line-preserved

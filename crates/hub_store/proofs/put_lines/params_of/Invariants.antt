@@ -1,6 +1,4 @@
-use Rattle.std.proofs.Common.{◌≡◌, ◌+◌, ◌∷◌, pos, take}
-use Rattle.sqlite_value.specs.declared.value.Value.TheVariants.{Int}
-use Rattle.sqlite.specs.Values.{bound}
+use Rattle.{std.proofs.Common.{◌≡◌, ◌+◌, ◌∷◌, pos, take}, sqlite_value.specs.declared.value.Value.TheVariants.Int, sqlite.specs.Values.bound}
 use Rattle.hub_store.specs.Items.{placed_lines}
 use Rattle.hub_store.proofs.put_lines.params_of.Given as goal
 

@@ -1,7 +1,4 @@
-use Rattle.std.proofs.Common.{[], ◌∷◌, w64, refl}
-use Rattle.std.proofs.lemmas.Int.{to_z_pos}
-use Rattle.hub_store.specs.Items.{placed_lines}
-use Rattle.hub_store.proofs.Rows.LineParams.{appended}
+use Rattle.{std.proofs.{Common.{[], ◌∷◌, w64, refl}, lemmas.Int.to_z_pos}, hub_store.{proofs.Rows.LineParams.appended, specs.Items.placed_lines}}
 use Rattle.hub_store.proofs.put_lines.push_line.Goals as goal
 
 pub returns : goal.returns

@@ -1,8 +1,5 @@
-use Rattle.std.proofs.Common.{◌≡◌, ◌+◌, take, drop, take-append-drop, subst, arith, rules}
-use Rattle.std.proofs.lemmas.Grind.{common_steps}
-use Rattle.sqlite.specs.Held.{state}
-use Rattle.hub_store.specs.inner.PutsLines.{PutsLines}
-use Rattle.hub_store.proofs.Edits.PutsThen.{puts_none, puts_more, puts_not}
+use Rattle.{std.proofs.{Common.{◌≡◌, ◌+◌, take, drop, take-append-drop, subst, arith, rules}, lemmas.Grind.common_steps}, sqlite.specs.Held.state}
+use Rattle.hub_store.{proofs.Edits.PutsThen.{puts_none, puts_more, puts_not}, specs.inner.PutsLines.PutsLines}
 use Rattle.hub_store.proofs.put_lines.put_each.Goals as goal
 
 pub loop-line-init : goal.loop-line-init

@@ -1,6 +1,4 @@
-use Rattle.std.proofs.Common.{◌≡◌, ◌+◌, take, Ok}
-use Rattle.sqlite.specs.Held.{state}
-use Rattle.hub_store.specs.inner.PutsLines.{PutsLines}
+use Rattle.{std.proofs.Common.{◌≡◌, ◌+◌, take, Ok}, sqlite.specs.Held.state, hub_store.specs.inner.PutsLines.PutsLines}
 use Rattle.hub_store.proofs.put_lines.put_each.Given as goal
 
 abbrev pub invariant-loop-line : goal.invariant-loop-line

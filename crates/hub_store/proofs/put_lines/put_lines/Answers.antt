@@ -1,9 +1,6 @@
-use Rattle.std.proofs.Common.{◌≡◌, ◌++◌, [], refl, sym, ap, subst, ◌∙◌, arith, rules, append_assoc, append-nil}
-use Rattle.std.proofs.lemmas.List.{nil_from_length, length-append}
-use Rattle.hub_state.specs.Documents.{Lines}
-use Rattle.sqlite.specs.Held.{state}
+use Rattle.std.proofs.{Common.{◌≡◌, ◌++◌, [], refl, sym, ap, subst, ◌∙◌, arith, rules, append_assoc, append-nil}, lemmas.List.{nil_from_length, length-append}}
+use Rattle.{hub_state.specs.Documents.Lines, sqlite.specs.Held.state, hub_store.proofs.Edits.PutsThen.{puts_none, puts_then_at, puts_not}}
 use Rattle.hub_store.specs.inner.PutsLines.{PutsLines}
-use Rattle.hub_store.proofs.Edits.PutsThen.{puts_none, puts_then_at, puts_not}
 use Rattle.hub_store.proofs.put_lines.put_lines.Goals as goal
 
 pub loop-some-init : goal.loop-some-init

@@ -1,8 +1,5 @@
-use Rattle.std.proofs.Common.{◌≡◌, ◌+◌, ◌++◌, length, Ok}
-use Rattle.std.specs.Slice.Iter.{chunks_rest, chunks_size}
-use Rattle.sqlite.specs.Held.{state}
-use Rattle.hub_state.specs.Documents.{Lines}
-use Rattle.hub_store.specs.inner.PutsLines.{PutsLines}
+use Rattle.{std.{proofs.Common.{◌≡◌, ◌+◌, ◌++◌, length, Ok}, specs.Slice.Iter.{chunks_rest, chunks_size}}, sqlite.specs.Held.state}
+use Rattle.{hub_state.specs.Documents.Lines, hub_store.specs.inner.PutsLines.PutsLines}
 use Rattle.hub_store.proofs.put_lines.put_lines.Given as goal
 
 abbrev pub invariant-loop-some : goal.invariant-loop-some

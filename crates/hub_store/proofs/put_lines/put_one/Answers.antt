@@ -1,11 +1,5 @@
-use Rattle.std.proofs.Common.{w64}
-use Rattle.std.proofs.lemmas.Int.{to_z_pos}
-use Rattle.hub_store.specs.Means.{HoldsBetween}
-use Rattle.hub_store.specs.inner.Beside.{HoldsBeside}
-use Rattle.hub_store.proofs.Edits.Changes.{puts_line}
-use Rattle.hub_store.proofs.Versions.Migrating.{moves_line, line_fails}
-use Rattle.hub_store.proofs.Edits.Steps.{made_by, fails_by}
-use Rattle.hub_store.proofs.Rows.Texts.{put_line}
+use Rattle.{std.proofs.{Common.w64, lemmas.Int.to_z_pos}, hub_store.proofs.{Edits.{Changes.puts_line, Steps.{made_by, fails_by}}, Rows.Texts.put_line}}
+use Rattle.hub_store.{proofs.Versions.Migrating.{moves_line, line_fails}, specs.{Means.HoldsBetween, inner.Beside.HoldsBeside}}
 use Rattle.hub_store.proofs.put_lines.put_one.Goals as goal
 
 pub returns-clause-puts : goal.returns-clause-puts

@@ -1,15 +1,7 @@
-use Rattle.std.proofs.Common.{◌≡◌, pos, ◌∷◌, OnOk, IfErr, IsTrue, ap, subst, ◌∙◌, rules}
-use Rattle.sqlite_value.specs.declared.value.Value.TheVariants.{Int}
-use Rattle.sqlite_value.specs.Order.{Row}
-use Rattle.sqlite.specs.Held.{state}
-use Rattle.sqlite.specs.State.{HasCleanDisk}
-use Rattle.sqlite.specs.Values.{bound}
-use Rattle.hub_store.specs.Items.{placed_lines}
-use Rattle.hub_store.specs.Keeps.{HasRun, HasFailed}
-use Rattle.hub_store.specs.Means.{HoldsBetween}
-use Rattle.hub_store.specs.inner.Beside.{HoldsBeside}
-use Rattle.hub_store.proofs.Edits.Steps.{made_by, fails_by}
-use Rattle.hub_store.proofs.Versions.TwentyLines.{put_twenty, puts_twenty, moves_twenty, twenty_fail}
+use Rattle.{std.proofs.Common.{◌≡◌, pos, ◌∷◌, OnOk, IfErr, IsTrue, ap, subst, ◌∙◌, rules}, sqlite_value.specs.{Order.Row, declared.value.Value.TheVariants.Int}}
+use Rattle.{sqlite.specs.{Held.state, State.HasCleanDisk, Values.bound}, hub_store.proofs.{Edits.Steps.{made_by, fails_by}, Versions.TwentyLines.put_twenty}}
+use Rattle.hub_store.{proofs.Versions.TwentyLines.{puts_twenty, moves_twenty, twenty_fail}, specs.{Items.placed_lines, Keeps.{HasRun, HasFailed}}}
+use Rattle.hub_store.specs.{Means.HoldsBetween, inner.Beside.HoldsBeside}
 use Rattle.hub_store.proofs.put_lines.put_twenty.Goals as goal
 
 pub returns-clause-puts : goal.returns-clause-puts

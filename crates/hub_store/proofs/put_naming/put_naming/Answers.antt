@@ -1,8 +1,4 @@
-use Rattle.hub_store.specs.Means.{HoldsBetween}
-use Rattle.hub_store.proofs.Edits.Changes.{puts_naming}
-use Rattle.hub_store.proofs.Rows.Compare.{bound_option}
-use Rattle.hub_store.proofs.Edits.Steps.{made_by}
-use Rattle.hub_store.proofs.Rows.Texts.{put_naming}
+use Rattle.hub_store.{proofs.{Edits.{Changes.puts_naming, Steps.made_by}, Rows.{Compare.bound_option, Texts.put_naming}}, specs.Means.HoldsBetween}
 use Rattle.hub_store.proofs.put_naming.put_naming.Goals as goal
 
 pub returns-clause-edited : goal.returns-clause-edited

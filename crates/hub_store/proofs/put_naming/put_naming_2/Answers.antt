@@ -1,8 +1,5 @@
+use Rattle.hub_store.{proofs.{Edits.Steps.{made_by, fails_by}, Rows.Texts.put_naming_2, Versions.Migrating.{moves_naming, naming_fails}}, specs.Layout.tables_2}
 use Rattle.hub_store.specs.Parts.{HoldsParts}
-use Rattle.hub_store.specs.Layout.{tables_2}
-use Rattle.hub_store.proofs.Versions.Migrating.{moves_naming, naming_fails}
-use Rattle.hub_store.proofs.Edits.Steps.{made_by, fails_by}
-use Rattle.hub_store.proofs.Rows.Texts.{put_naming_2}
 use Rattle.hub_store.proofs.put_naming.put_naming_2.Goals as goal
 
 pub returns-clause-moved : goal.returns-clause-moved

@@ -1,11 +1,6 @@
-use Rattle.std.proofs.Common.{[], inl, refl, arith}
-use Rattle.sqlite.specs.State.{HasCleanDisk}
-use Rattle.sqlite.specs.Held.{state}
-use Rattle.hub_store.proofs.Rows.Outcomes.{unchanged_keeps, not_run_keeps, failed_query}
-use Rattle.sqlite.specs.Values.{bound}
-use Rattle.hub_store.specs.inner.Queries.{HasRefused}
-use Rattle.hub_store.proofs.Versions.QueryCauses.{not_run_asked}
-use Rattle.hub_store.proofs.Edits.Steps.{kept_then, on_err_any, survives_itself, err_passed}
+use Rattle.{std.proofs.Common.{[], inl, refl, arith}, sqlite.specs.{Held.state, State.HasCleanDisk, Values.bound}, hub_store.proofs.Edits.Steps.kept_then}
+use Rattle.hub_store.proofs.{Edits.Steps.{on_err_any, survives_itself, err_passed}, Rows.Outcomes.{unchanged_keeps, not_run_keeps, failed_query}}
+use Rattle.hub_store.{proofs.Versions.QueryCauses.not_run_asked, specs.inner.Queries.HasRefused}
 use Rattle.hub_store.proofs.query.ask.Goals as goal
 
 pub returns-in_err-statement-clause-failed : goal.returns-in_err-statement-clause-failed

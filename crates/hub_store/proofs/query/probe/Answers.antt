@@ -1,8 +1,5 @@
-use Rattle.std.proofs.Common.{inl, true, refl, sym}
-use Rattle.hub_store.specs.Versions.{version_text}
-use Rattle.hub_store.proofs.Versions.AnyVersion.{versions_same, unread_reason}
-use Rattle.hub_store.proofs.Rows.Outcomes.{unchanged_keeps, failed_query, shown_up}
-use Rattle.hub_store.proofs.Edits.Steps.{err_passed}
+use Rattle.{std.proofs.Common.{inl, true, refl, sym}, hub_store.proofs.{Edits.Steps.err_passed, Rows.Outcomes.{unchanged_keeps, failed_query, shown_up}}}
+use Rattle.hub_store.{proofs.Versions.AnyVersion.{versions_same, unread_reason}, specs.Versions.version_text}
 use Rattle.hub_store.proofs.query.probe.Goals as goal
 
 pub returns-in_err-query_all-clause-kept : goal.returns-in_err-query_all-clause-kept

@@ -1,8 +1,5 @@
-use Rattle.std.proofs.Common.{◌≡◌, map, refl}
-use Rattle.hub_store.specs.Pairs.{Pair}
+use Rattle.{std.proofs.Common.{◌≡◌, map, refl}, hub_store.{proofs.LookUps.{PairRows.reads_numbers, Reading.read_made}, specs.Pairs.Pair}}
 use Rattle.hub_store.specs.inner.PairKinds.{pairs_to, first_shown}
-use Rattle.hub_store.proofs.LookUps.Reading.{read_made}
-use Rattle.hub_store.proofs.LookUps.PairRows.{reads_numbers}
 use Rattle.hub_store.proofs.read_pairs.read_firsts.Goals as goal
 
 pub returns-clause-read : goal.returns-clause-read

@@ -1,8 +1,5 @@
-use Rattle.std.proofs.Common.{◌≡◌, map, is_some, ◌∙◌}
-use Rattle.std.specs.Option.{option_to_list}
+use Rattle.{std.{proofs.Common.{◌≡◌, map, is_some, ◌∙◌}, specs.Option.option_to_list}, hub_store.proofs.LookUps.{PairRows.any_alone, Reading.read_gives}}
 use Rattle.hub_store.specs.inner.PairKinds.{pair_between, value_shown}
-use Rattle.hub_store.proofs.LookUps.PairRows.{any_alone}
-use Rattle.hub_store.proofs.LookUps.Reading.{read_gives}
 use Rattle.hub_store.proofs.read_pairs.read_has_pair.Goals as goal
 
 pub returns-clause-read : goal.returns-clause-read

@@ -1,11 +1,5 @@
-use Rattle.std.proofs.Common.{[], Ok}
-use Rattle.sqlite.specs.Held.{state}
-use Rattle.hub_store.specs.Layout.{apart_from}
-use Rattle.hub_store.specs.Parts.{HoldsParts}
-use Rattle.hub_store.specs.inner.Makes.{Makes}
-use Rattle.hub_store.specs.inner.Remakes.{HoldsAnew}
-use Rattle.hub_store.proofs.Versions.Remaking.{leaves_by, fails_with}
-use Rattle.hub_store.proofs.Edits.Steps.{makes_then, fails_then, fails_passed}
+use Rattle.{std.proofs.Common.{[], Ok}, sqlite.specs.Held.state, hub_store.proofs.Edits.Steps.{makes_then, fails_then, fails_passed}}
+use Rattle.hub_store.{proofs.Versions.Remaking.{leaves_by, fails_with}, specs.{Layout.apart_from, Parts.HoldsParts, inner.{Makes.Makes, Remakes.HoldsAnew}}}
 use Rattle.hub_store.proofs.remake.make_anew.Goals as goal
 
 pub returns-in_err-run-clause-cause : goal.returns-in_err-run-clause-cause

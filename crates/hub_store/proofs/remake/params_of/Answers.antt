@@ -1,6 +1,4 @@
-use Rattle.std.proofs.Common.{◌≡◌, ◌++◌, [], ◌∷◌, take, arith, rules}
-use Rattle.std.proofs.lemmas.Grind.{common_steps}
-use Rattle.hub_store.proofs.Versions.Remaking.{bound_more}
+use Rattle.{std.proofs.{Common.{◌≡◌, ◌++◌, [], ◌∷◌, take, arith, rules}, lemmas.Grind.common_steps}, hub_store.proofs.Versions.Remaking.bound_more}
 use Rattle.hub_store.proofs.remake.params_of.Goals as goal
 
 pub loop-at-preserved : goal.loop-at-preserved

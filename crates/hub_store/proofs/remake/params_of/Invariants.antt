@@ -1,5 +1,4 @@
-use Rattle.std.proofs.Common.{◌≡◌, map, take}
-use Rattle.sqlite.specs.Values.{bound, bound_value}
+use Rattle.{std.proofs.Common.{◌≡◌, map, take}, sqlite.specs.Values.{bound, bound_value}}
 use Rattle.hub_store.proofs.remake.params_of.Given as goal
 
 abbrev pub invariant-loop-at : goal.invariant-loop-at

@@ -1,12 +1,6 @@
-use Rattle.std.proofs.Common.{◌≡◌, ◌+◌, map, take, drop, rules, arith}
-use Rattle.sqlite_rules.proofs.ListLemmas.{has_at}
-use Rattle.std.proofs.lemmas.Grind.{common_steps}
-use Rattle.sqlite.specs.Values.{bound_value}
-use Rattle.hub_store.specs.inner.Remakes.{HoldsAnew}
-use Rattle.hub_store.proofs.Edits.Inside.{goes_then}
-use Rattle.hub_store.proofs.Versions.Migrating.{one_more}
-use Rattle.hub_store.proofs.Versions.Remaking.{rest_at, keeps_row, fails_unless}
-use Rattle.hub_store.proofs.Edits.Steps.{makes_then, fails_then, fails_passed, goes_passed, makes_passed}
+use Rattle.{std.proofs.{Common.{◌≡◌, ◌+◌, map, take, drop, rules, arith}, lemmas.Grind.common_steps}, sqlite_rules.proofs.ListLemmas.has_at}
+use Rattle.{sqlite.specs.Values.bound_value, hub_store.proofs.Edits.{Inside.goes_then, Steps.{makes_then, fails_then, fails_passed, goes_passed, makes_passed}}}
+use Rattle.hub_store.{proofs.Versions.{Migrating.one_more, Remaking.{rest_at, keeps_row, fails_unless}}, specs.inner.Remakes.HoldsAnew}
 use Rattle.hub_store.proofs.remake.put_rows.Goals as goal
 
 pub loop-row-preserved : goal.loop-row-preserved

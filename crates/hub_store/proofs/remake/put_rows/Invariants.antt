@@ -1,9 +1,4 @@
-use Rattle.std.proofs.Common.{◌≡◌, List, [], map, take, Ok}
-use Rattle.sqlite.specs.Held.{state}
-use Rattle.hub_store.specs.Keeps.{Goes}
-use Rattle.hub_store.specs.Layout.{Step}
-use Rattle.hub_store.specs.Parts.{Part}
-use Rattle.hub_store.specs.inner.Makes.{Makes}
+use Rattle.{std.proofs.Common.{◌≡◌, List, [], map, take, Ok}, sqlite.specs.Held.state, hub_store.specs.{Keeps.Goes, Layout.Step, Parts.Part, inner.Makes.Makes}}
 use Rattle.hub_store.specs.inner.Remakes.{HoldsAnew, PutsEach}
 use Rattle.hub_store.proofs.remake.put_rows.Given as goal
 

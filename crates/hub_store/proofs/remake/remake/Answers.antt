@@ -1,14 +1,8 @@
-use Rattle.std.proofs.Common.{List, [], ◌∷◌, ◌++◌, refl}
-use Rattle.std.specs.List.Sorted.{IsPermutation}
-use Rattle.std.proofs.lemmas.List.Sorted.{IsPermutation-sym, IsPermutation-trans, IsPermutation-map}
-use Rattle.sqlite_value.specs.Order.{Row}
-use Rattle.sqlite_rules.specs.Lists.{Has}
-use Rattle.hub_store.specs.Layout.{under}
-use Rattle.hub_store.specs.Parts.{HoldsParts}
-use Rattle.hub_store.proofs.Edits.Inside.{goes_then}
-use Rattle.hub_store.proofs.Rows.Lists.{has_permuted}
-use Rattle.hub_store.proofs.Versions.Remaking.{asked_goes, asked_makes, asked_fails, anew_permuted}
+use Rattle.std.proofs.{Common.{List, [], ◌∷◌, ◌++◌, refl}, lemmas.List.Sorted.{IsPermutation-sym, IsPermutation-trans, IsPermutation-map}}
+use Rattle.{std.specs.List.Sorted.IsPermutation, sqlite_value.specs.Order.Row, sqlite_rules.specs.Lists.Has, hub_store.proofs.Edits.Inside.goes_then}
 use Rattle.hub_store.proofs.Edits.Steps.{on_ok, clean_before, makes_then, fails_then, fails_passed, failed_goes, goes_passed, makes_passed}
+use Rattle.hub_store.{proofs.{Rows.Lists.has_permuted, Versions.Remaking.{asked_goes, asked_makes, asked_fails, anew_permuted}}, specs.Layout.under}
+use Rattle.hub_store.specs.Parts.{HoldsParts}
 use Rattle.hub_store.proofs.remake.remake.Goals as goal
 
 pub returns-in_err-rows-clause-goes : goal.returns-in_err-rows-clause-goes

@@ -1,9 +1,5 @@
-use Rattle.std.proofs.Common.{[], ◌∷◌}
-use Rattle.hub_store.specs.Parts.{HoldsParts}
-use Rattle.hub_store.specs.Layout.{hub_part, under}
-use Rattle.hub_store.proofs.Edits.Steps.{made_by, fails_by}
-use Rattle.hub_store.proofs.Rows.Texts.{put_version}
-use Rattle.hub_store.proofs.Versions.VersionCauses.{put_fails, puts_version}
+use Rattle.{std.proofs.Common.{[], ◌∷◌}, hub_store.proofs.{Edits.Steps.{made_by, fails_by}, Rows.Texts.put_version, Versions.VersionCauses.put_fails}}
+use Rattle.hub_store.{proofs.Versions.VersionCauses.puts_version, specs.{Layout.{hub_part, under}, Parts.HoldsParts}}
 use Rattle.hub_store.proofs.set_version.put_version.Goals as goal
 
 pub returns-clause-made : goal.returns-clause-made

@@ -1,7 +1,5 @@
-use Rattle.std.proofs.Common.{[], ◌∷◌, refl}
+use Rattle.{std.proofs.Common.{[], ◌∷◌, refl}, hub_store.{proofs.Edits.Steps.{makes_then, fails_then, fails_passed, makes_passed}, specs.Layout.hub_part}}
 use Rattle.hub_store.specs.Parts.{HoldsParts}
-use Rattle.hub_store.specs.Layout.{hub_part}
-use Rattle.hub_store.proofs.Edits.Steps.{makes_then, fails_then, fails_passed, makes_passed}
 use Rattle.hub_store.proofs.set_version.set_version.Goals as goal
 
 pub returns-in_err-take_version-clause-made : goal.returns-in_err-take_version-clause-made

@@ -1,8 +1,5 @@
-use Rattle.std.proofs.Common.{[], ◌∷◌}
-use Rattle.hub_store.specs.Parts.{HoldsParts}
-use Rattle.hub_store.specs.Layout.{hub_part, under}
-use Rattle.hub_store.proofs.Edits.Steps.{made_by, fails_by}
-use Rattle.hub_store.proofs.Versions.VersionCauses.{take_version, take_fails, takes_version}
+use Rattle.{std.proofs.Common.{[], ◌∷◌}, hub_store.proofs.{Edits.Steps.{made_by, fails_by}, Versions.VersionCauses.{take_version, take_fails, takes_version}}}
+use Rattle.hub_store.specs.{Layout.{hub_part, under}, Parts.HoldsParts}
 use Rattle.hub_store.proofs.set_version.take_version.Goals as goal
 
 pub returns-clause-made : goal.returns-clause-made

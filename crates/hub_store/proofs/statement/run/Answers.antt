@@ -1,11 +1,6 @@
-use Rattle.std.proofs.Common.{◌∙◌, [], false, refl, arith, rules}
-use Rattle.sqlite.specs.State.{HasCleanDisk}
-use Rattle.sqlite.specs.Held.{state}
-use Rattle.sqlite.specs.Values.{bound}
-use Rattle.sqlite.proofs.InsideLemmas.{not_run_inside}
+use Rattle.{std.proofs.Common.{◌∙◌, [], false, refl, arith, rules}, sqlite.{proofs.InsideLemmas.not_run_inside, specs.{Held.state, State.HasCleanDisk}}}
+use Rattle.{sqlite.specs.Values.bound, hub_store.proofs.{Edits.Steps.{survives_itself, err_passed}, Rows.Outcomes.{unchanged_keeps, not_run_keeps}}}
 use Rattle.hub_store.specs.Keeps.{HasFailed}
-use Rattle.hub_store.proofs.Rows.Outcomes.{unchanged_keeps, not_run_keeps}
-use Rattle.hub_store.proofs.Edits.Steps.{survives_itself, err_passed}
 use Rattle.hub_store.proofs.statement.run.Goals as goal
 
 pub returns-clause-ran : goal.returns-clause-ran

@@ -1,5 +1,4 @@
-use Rattle.hub_store.specs.Tables.{up_to_person, community_table}
-use Rattle.hub_store.proofs.Versions.Creates.{create_community, community_creation, creates}
+use Rattle.hub_store.{proofs.Versions.Creates.{create_community, community_creation, creates}, specs.Tables.{up_to_person, community_table}}
 use Rattle.hub_store.proofs.tables.make_community.Goals as goal
 
 pub returns-clause-made : goal.returns-clause-made

@@ -1,5 +1,4 @@
-use Rattle.hub_store.specs.Tables.{up_to_pair, gate_table}
-use Rattle.hub_store.proofs.Versions.Creates.{create_gate, gate_creation, creates}
+use Rattle.hub_store.{proofs.Versions.Creates.{create_gate, gate_creation, creates}, specs.Tables.{up_to_pair, gate_table}}
 use Rattle.hub_store.proofs.tables.make_gate.Goals as goal
 
 pub returns-clause-made : goal.returns-clause-made

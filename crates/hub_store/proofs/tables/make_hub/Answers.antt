@@ -1,5 +1,4 @@
-use Rattle.hub_store.specs.Tables.{no_schema, hub_table}
-use Rattle.hub_store.proofs.Versions.Creates.{create_hub, hub_creation, creates}
+use Rattle.hub_store.{proofs.Versions.Creates.{create_hub, hub_creation, creates}, specs.Tables.{no_schema, hub_table}}
 use Rattle.hub_store.proofs.tables.make_hub.Goals as goal
 
 pub returns-clause-made : goal.returns-clause-made

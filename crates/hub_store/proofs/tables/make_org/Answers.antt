@@ -1,5 +1,4 @@
-use Rattle.hub_store.specs.Tables.{up_to_hub, org_table}
-use Rattle.hub_store.proofs.Versions.Creates.{create_org, org_creation, creates}
+use Rattle.hub_store.{proofs.Versions.Creates.{create_org, org_creation, creates}, specs.Tables.{up_to_hub, org_table}}
 use Rattle.hub_store.proofs.tables.make_org.Goals as goal
 
 pub returns-clause-made : goal.returns-clause-made

@@ -1,11 +1,6 @@
-use Rattle.std.proofs.Common.{[]}
-use Rattle.hub_store.specs.Tables.{without_incident, incident_table_2}
-use Rattle.hub_store.specs.Parts.{HoldsParts}
-use Rattle.hub_store.specs.Layout.{without_incidents, tables_2}
-use Rattle.hub_store.proofs.Versions.Causes.{fails_for_reason}
-use Rattle.hub_store.proofs.Versions.Creates.{creates}
-use Rattle.hub_store.proofs.Edits.Steps.{made_by, fails_by}
-use Rattle.hub_store.proofs.Versions.Migrating.{create_incident_2, incident_creation_2, makes_incident}
+use Rattle.{std.proofs.Common.[], hub_store.proofs.{Edits.Steps.{made_by, fails_by}, Versions.{Causes.fails_for_reason, Creates.creates}}}
+use Rattle.hub_store.{proofs.Versions.Migrating.{create_incident_2, incident_creation_2, makes_incident}, specs.Layout.{without_incidents, tables_2}}
+use Rattle.hub_store.specs.{Parts.HoldsParts, Tables.{without_incident, incident_table_2}}
 use Rattle.hub_store.proofs.to_version_2.create_incident.Goals as goal
 
 pub returns-clause-empty : goal.returns-clause-empty

@@ -1,12 +1,6 @@
-use Rattle.std.proofs.Common.{[]}
-use Rattle.hub_store.specs.Tables.{schema_by, item_table}
-use Rattle.hub_store.specs.Parts.{HoldsParts}
-use Rattle.hub_store.specs.Layout.{parts_1}
-use Rattle.hub_store.specs.inner.Beside.{HoldsBeside}
-use Rattle.hub_store.proofs.Versions.Causes.{fails_for_reason}
-use Rattle.hub_store.proofs.Versions.Creates.{creates}
-use Rattle.hub_store.proofs.Edits.Steps.{made_by, fails_by}
-use Rattle.hub_store.proofs.Versions.Migrating.{create_item, item_creation, makes_item}
+use Rattle.{std.proofs.Common.[], hub_store.proofs.{Edits.Steps.{made_by, fails_by}, Versions.{Causes.fails_for_reason, Creates.creates}}}
+use Rattle.hub_store.{proofs.Versions.Migrating.{create_item, item_creation, makes_item}, specs.{Layout.parts_1, Parts.HoldsParts, Tables.schema_by}}
+use Rattle.hub_store.specs.{Tables.item_table, inner.Beside.HoldsBeside}
 use Rattle.hub_store.proofs.to_version_2.create_item.Goals as goal
 
 pub returns-clause-empty : goal.returns-clause-empty

@@ -1,11 +1,6 @@
-use Rattle.std.proofs.Common.{[]}
-use Rattle.hub_store.specs.Tables.{beside_item, incident_table}
-use Rattle.hub_store.specs.Parts.{HoldsParts}
-use Rattle.hub_store.specs.Layout.{without_incidents}
-use Rattle.hub_store.specs.inner.Beside.{HoldsBeside}
-use Rattle.hub_store.proofs.Versions.DropCauses.{drop_fails, drops_empty}
-use Rattle.hub_store.proofs.Edits.Steps.{made_by, fails_by}
-use Rattle.hub_store.proofs.Versions.Migrating.{drop_incident, drops_incident, incident_dropping}
+use Rattle.{std.proofs.Common.[], hub_store.proofs.{Edits.Steps.{made_by, fails_by}, Versions.{DropCauses.{drop_fails, drops_empty}, Migrating.drop_incident}}}
+use Rattle.hub_store.{proofs.Versions.Migrating.{drops_incident, incident_dropping}, specs.{Layout.without_incidents, Parts.HoldsParts, Tables.beside_item}}
+use Rattle.hub_store.specs.{Tables.incident_table, inner.Beside.HoldsBeside}
 use Rattle.hub_store.proofs.to_version_2.drop_incident.Goals as goal
 
 pub returns-clause-empty : goal.returns-clause-empty

@@ -1,11 +1,7 @@
-use Rattle.std.proofs.Common.{◌≡◌, ◌≢◌, ◌∙◌, IfErr, is_some, ap, sym, subst, arith, rules}
-use Rattle.sqlite.specs.declared.error.Error.TheVariants.{SqliteFailure}
-use Rattle.sqlite.specs.declared.error.ErrorCode.TheVariants as code
-use Rattle.sqlite.specs.State.{HasCleanDisk}
-use Rattle.sqlite.specs.Held.{state}
+use Rattle.{std.proofs.Common.{◌≡◌, ◌≢◌, ◌∙◌, IfErr, is_some, ap, sym, subst, arith, rules}, sqlite.specs.{Held.state, State.HasCleanDisk}}
+use Rattle.{sqlite.specs.declared.error.Error.TheVariants.SqliteFailure, hub_store.{proofs.Versions.AnyVersion.later_reason, specs.Failing.HasReason}}
 use Rattle.hub_store.specs.Versions.{version_column}
-use Rattle.hub_store.specs.Failing.{HasReason}
-use Rattle.hub_store.proofs.Versions.AnyVersion.{later_reason}
+use Rattle.sqlite.specs.declared.error.ErrorCode.TheVariants as code
 use Rattle.hub_store.proofs.version.ask_version.Goals as goal
 
 pub returns-clause-cause : goal.returns-clause-cause

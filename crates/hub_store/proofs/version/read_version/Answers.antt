@@ -1,8 +1,5 @@
-use Rattle.std.proofs.Common.{inl}
-use Rattle.sqlite.specs.Held.{state}
-use Rattle.hub_store.specs.Versions.{version_text}
-use Rattle.hub_store.proofs.Versions.AnyVersion.{versions_same, once_told, told_by_rows, unread_reason}
-use Rattle.hub_store.proofs.Rows.Outcomes.{unchanged_keeps, failed_query, shown_up}
+use Rattle.{std.proofs.Common.inl, sqlite.specs.Held.state, hub_store.proofs.Rows.Outcomes.{unchanged_keeps, failed_query, shown_up}}
+use Rattle.hub_store.{proofs.Versions.AnyVersion.{versions_same, once_told, told_by_rows, unread_reason}, specs.Versions.version_text}
 use Rattle.hub_store.proofs.version.read_version.Goals as goal
 
 pub returns-in-Ok-clause-kept : goal.returns-in-Ok-clause-kept

@@ -1,9 +1,5 @@
-use Rattle.std.proofs.Common.{List, Bool, false, sym, subst}
-use Rattle.iodef_tree.specs.View.{body}
-use Rattle.iodef_tree.specs.Built.{Grows}
-use Rattle.json_pointer.specs.declared.text.Text.{Text}
-use Rattle.iodef_tree.specs.declared.object.Member.{Member}
-use Rattle.iodef_tree.proofs.Growing.{grows-one}
+use Rattle.{std.proofs.Common.{List, Bool, false, sym, subst}, json_pointer.specs.declared.text.Text.Text, iodef_tree.proofs.Growing.grows-one}
+use Rattle.iodef_tree.specs.{Built.Grows, View.body, declared.object.Member.Member}
 use Rattle.iodef_tree.proofs.builder.attach.Goals as goal
 
 pub returns : goal.returns

@@ -1,12 +1,6 @@
-use Rattle.std.proofs.Common.{◌≡◌, List, [], ◌∷◌, ◌++◌, true, sym, ◌∙◌, ap, subst, arith}
-use Rattle.std.proofs.lemmas.Slice.Eq.{bytes_eq-Decides}
-use Rattle.json_pointer.specs.Text.{Bytes}
-use Rattle.iodef_tree.specs.View.{body}
-use Rattle.iodef_tree.specs.Built.{IsGrown, Grows}
-use Rattle.json_pointer.specs.declared.text.Text.{Text}
-use Rattle.iodef_tree.specs.declared.object.Member.{Member}
-use Rattle.iodef_tree.specs.declared.object.Member.TheVariants.{Many}
-use Rattle.iodef_tree.proofs.Growing.{grows-element, first-behind_one, first-behind_many}
+use Rattle.{std.proofs.{Common.{◌≡◌, List, [], ◌∷◌, ◌++◌, true, sym, ◌∙◌, ap, subst, arith}, lemmas.Slice.Eq.bytes_eq-Decides}, json_pointer.specs.Text.Bytes}
+use Rattle.{json_pointer.specs.declared.text.Text.Text, iodef_tree.{proofs.Growing.{grows-element, first-behind_one, first-behind_many}, specs.Built.IsGrown}}
+use Rattle.iodef_tree.specs.{Built.Grows, View.body, declared.object.Member.{Member, TheVariants.Many}}
 use Rattle.iodef_tree.proofs.builder.attach_element.Goals as goal
 
 pub attach_array-requires-in-One-clause-first : goal.attach_array-requires-in-One-clause-first

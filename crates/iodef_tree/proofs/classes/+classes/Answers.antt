@@ -1,10 +1,5 @@
-use Rattle.std.proofs.lemmas.Grind.{common_steps}
-use Rattle.std.proofs.Common.{arith, ◌++◌, ◌∙◌, ap}
-use Rattle.iodef_tree.specs.Tree.{end, member_front}
-use Rattle.iodef_tree.specs.View.{bodies}
-use Rattle.iodef_tree.specs.Walk.{classes_below}
-use Rattle.iodef_tree.proofs.ClassesBelow.{classes-append}
-use Rattle.iodef_tree.proofs.Fronts.{list-next}
+use Rattle.{std.proofs.{Common.{arith, ◌++◌, ◌∙◌, ap}, lemmas.Grind.common_steps}, iodef_tree.proofs.{ClassesBelow.classes-append, Fronts.list-next}}
+use Rattle.iodef_tree.specs.{Tree.{end, member_front}, View.bodies, Walk.classes_below}
 use Rattle.iodef_tree.proofs.classes.+classes.Goals as goal
 
 pub push_object-loop-name-preserved : goal.push_object-loop-name-preserved

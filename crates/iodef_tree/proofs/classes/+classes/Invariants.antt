@@ -1,6 +1,4 @@
-use Rattle.std.proofs.Common.{◌≡◌, ◌++◌, drop, map}
-use Rattle.iodef_tree.specs.Tree.{end, elements, member_front}
-use Rattle.iodef_tree.specs.View.{forest, bodies, body, members_forest}
+use Rattle.{std.proofs.Common.{◌≡◌, ◌++◌, drop, map}, iodef_tree.specs.{Tree.{end, elements, member_front}, View.{forest, bodies, body, members_forest}}}
 use Rattle.iodef_tree.specs.Walk.{classes_below}
 use Rattle.iodef_tree.proofs.classes.+classes.Given as goal
 

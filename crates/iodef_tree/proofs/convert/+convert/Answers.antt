@@ -1,6 +1,4 @@
-use Rattle.std.proofs.lemmas.Grind.{common_steps}
-use Rattle.std.proofs.Common.{◌≡◌, ◌==◌, length, false, arith}
-use Rattle.iodef_tree.proofs.Converted.{many_member, object_done}
+use Rattle.{std.proofs.{Common.{◌≡◌, ◌==◌, length, false, arith}, lemmas.Grind.common_steps}, iodef_tree.proofs.Converted.{many_member, object_done}}
 use Rattle.iodef_tree.proofs.convert.+convert.Goals as goal
 
 pub array_from-returns-in_ok-items_from : goal.array_from-returns-in_ok-items_from

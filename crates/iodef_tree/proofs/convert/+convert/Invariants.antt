@@ -1,13 +1,7 @@
-use Rattle.std.proofs.Common.{◌≡◌, ◌++◌, map, true, false}
-use Rattle.std.specs.List.{AllByRecursion}
-use Rattle.std.specs.Vec.Iter.{into_iter_items}
-use Rattle.serde_json.specs.View.{items_view, members_view}
-use Rattle.serde_json.specs.Written.{items_have_float, members_have_float}
-use Rattle.iodef_tree.specs.Filled.{IsItemFilled, IsMemberFilled}
-use Rattle.iodef_tree.specs.inner.FitValues.{IsBodyOrdered, AreBodiesOrdered, HasBodyTexts, HaveTexts, are_flat, are_members_flat}
-use Rattle.iodef_tree.specs.Values.{items_of_data}
-use Rattle.iodef_tree.specs.View.{body, named}
-use Rattle.iodef_tree.proofs.FromValues.{given_members}
+use Rattle.{std.{proofs.Common.{◌≡◌, ◌++◌, map, true, false}, specs.{List.AllByRecursion, Vec.Iter.into_iter_items}}, serde_json.specs.View.items_view}
+use Rattle.{serde_json.specs.{View.members_view, Written.{items_have_float, members_have_float}}, iodef_tree.proofs.FromValues.given_members}
+use Rattle.iodef_tree.specs.{Filled.{IsItemFilled, IsMemberFilled}, Values.items_of_data, View.{body, named}, inner.FitValues.{IsBodyOrdered, AreBodiesOrdered}}
+use Rattle.iodef_tree.specs.inner.FitValues.{HasBodyTexts, HaveTexts, are_flat, are_members_flat}
 use Rattle.iodef_tree.proofs.convert.+convert.Given as goal
 
 abbrev pub invariant-items_from-loop-item : goal.invariant-items_from-loop-item

@@ -1,10 +1,5 @@
-use Rattle.std.proofs.Common.{true, sym, ap, ◌∙◌, subst}
-use Rattle.serde_json.specs.View.{view}
-use Rattle.iodef_tree.specs.inner.FitValues.{IsBodyOrdered, HasBodyTexts}
-use Rattle.iodef_tree.specs.Tree.{says, value}
-use Rattle.iodef_tree.proofs.Filled.{filled-Value}
-use Rattle.iodef_tree.proofs.ValueTexts.{value-body, written-text}
-use Rattle.iodef_tree.proofs.Views.{body-Value}
+use Rattle.{std.proofs.Common.{true, sym, ap, ◌∙◌, subst}, serde_json.specs.View.view, iodef_tree.proofs.{Filled.filled-Value, ValueTexts.value-body}}
+use Rattle.iodef_tree.{proofs.{ValueTexts.written-text, Views.body-Value}, specs.{Tree.{says, value}, inner.FitValues.{IsBodyOrdered, HasBodyTexts}}}
 use Rattle.iodef_tree.proofs.convert.plain_item.Goals as goal
 
 pub returns : goal.returns

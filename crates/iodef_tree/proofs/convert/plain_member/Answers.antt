@@ -1,11 +1,6 @@
-use Rattle.std.proofs.Common.{false, sym, ap, ◌∙◌, subst}
-use Rattle.serde_json.specs.View.{view}
-use Rattle.iodef_tree.specs.inner.FitValues.{AreBodiesOrdered, HaveTexts}
-use Rattle.iodef_tree.specs.Tree.{one, says, value}
-use Rattle.iodef_tree.specs.declared.object.Item.TheVariants.{Value}
-use Rattle.iodef_tree.proofs.Filled.{filled-One, filled-Value}
-use Rattle.iodef_tree.proofs.ValueTexts.{value-bodies, written-text}
-use Rattle.iodef_tree.proofs.Views.{body-Value, bodies-One}
+use Rattle.{std.proofs.Common.{false, sym, ap, ◌∙◌, subst}, serde_json.specs.View.view, iodef_tree.proofs.Filled.{filled-One, filled-Value}}
+use Rattle.iodef_tree.{proofs.{ValueTexts.{value-bodies, written-text}, Views.{body-Value, bodies-One}}, specs.Tree.{one, says, value}}
+use Rattle.iodef_tree.specs.{declared.object.Item.TheVariants.Value, inner.FitValues.{AreBodiesOrdered, HaveTexts}}
 use Rattle.iodef_tree.proofs.convert.plain_member.Goals as goal
 
 pub returns : goal.returns

@@ -1,10 +1,6 @@
-use Rattle.std.proofs.lemmas.Grind.{common_steps}
-use Rattle.std.proofs.Common.{arith, ◌≡◌, ◌&&◌, List, [], ◌∷◌, map, refl, sym, ◌∙◌, ap}
-use Rattle.std.specs.List.{list_all}
-use Rattle.iodef_tree.specs.Filled.{is_member_filled}
+use Rattle.std.{proofs.{Common.{arith, ◌≡◌, ◌&&◌, List, [], ◌∷◌, map, refl, sym, ◌∙◌, ap}, lemmas.Grind.common_steps}, specs.List.list_all}
+use Rattle.{json_pointer.specs.declared.text.Text.Text as Bytes, iodef_tree.{proofs.Filled.{asked, filled-made, filled-members}, specs.Filled.is_member_filled}}
 use Rattle.iodef_tree.specs.declared.object.Member.{Member}
-use Rattle.json_pointer.specs.declared.text.Text.{Text as Bytes}
-use Rattle.iodef_tree.proofs.Filled.{asked, filled-made, filled-members}
 use Rattle.iodef_tree.proofs.copy.+copy.Goals as goal
 
 all-asked : (xs : List (Bytes × Member)) → list_all (λ m. m.1) (map asked xs) ≡ list_all (λ b. b) (map (λ (m : Bytes × Member). is_member_filled m.1) xs)

@@ -1,6 +1,4 @@
-use Rattle.std.proofs.Common.{◌≡◌, ◌++◌, map, drop}
-use Rattle.iodef_tree.specs.Filled.{is_member_filled, is_item_filled}
-use Rattle.iodef_tree.specs.View.{body, named}
+use Rattle.{std.proofs.Common.{◌≡◌, ◌++◌, map, drop}, iodef_tree.specs.{Filled.{is_member_filled, is_item_filled}, View.{body, named}}}
 use Rattle.iodef_tree.proofs.copy.+copy.Given as goal
 
 abbrev pub invariant-copy_items-loop-item : goal.invariant-copy_items-loop-item

@@ -1,10 +1,6 @@
-use Rattle.std.proofs.Common.{◌≡◌, ℕ, zero, suc, ◌+◌, ◌<◌, ◌≤◌, List, [], ◌∷◌, length, map, get_or, Bor, nat_lt, decimal, Option, Some, None, option_map, refl, sym, ◌∙◌, ap, arith, is_some, IfSome, slice_get}
-use Rattle.std.proofs.lemmas.Bool.Decides.{nat_tests}
-use Rattle.std.proofs.lemmas.List.{length-map}
-use Rattle.std.proofs.lemmas.Option.{slice_get_past}
-use Rattle.iodef_tree.specs.View.{body}
-use Rattle.iodef_tree.specs.declared.object.Item.{Item}
-use Rattle.iodef_tree.proofs.ByPath.{element-spelled, element-none}
+use Rattle.std.proofs.Common.{◌≡◌, ℕ, zero, suc, ◌+◌, ◌<◌, ◌≤◌, List, [], ◌∷◌, length, map, get_or, Bor, nat_lt, decimal, Option, Some, None, option_map, refl}
+use Rattle.std.proofs.{Common.{sym, ◌∙◌, ap, arith, is_some, IfSome, slice_get}, lemmas.{Bool.Decides.nat_tests, List.length-map, Option.slice_get_past}}
+use Rattle.iodef_tree.{proofs.ByPath.{element-spelled, element-none}, specs.{View.body, declared.object.Item.Item}}
 use Rattle.iodef_tree.proofs.lookup.element_at.Goals as goal
 
 within : (items : List Item) (k : ℕ) (d : Item) → k < length items → slice_get (map body items) k ≡ Some (body (get_or items k d))

@@ -1,6 +1,4 @@
-use Rattle.std.proofs.Common.{◌≡◌, true, sym, ◌∙◌, ap, bytes_eq, arith}
-use Rattle.iodef_tree.proofs.Filled.{member-at}
-use Rattle.iodef_tree.proofs.Members.{found-here, not-here, other-here}
+use Rattle.{std.proofs.Common.{◌≡◌, true, sym, ◌∙◌, ap, bytes_eq, arith}, iodef_tree.proofs.{Filled.member-at, Members.{found-here, not-here, other-here}}}
 use Rattle.iodef_tree.proofs.lookup.item_at.Goals.{then-eq+else-is_some, else-eq}
 use Rattle.iodef_tree.proofs.lookup.item_at.Goals as goal
 

@@ -1,6 +1,4 @@
-use Rattle.std.proofs.Common.{◌≡◌, ◌∷◌, drop}
-use Rattle.iodef_tree.specs.inner.Lookup.{class_at}
-use Rattle.iodef_tree.specs.View.{forest, members_forest}
+use Rattle.{std.proofs.Common.{◌≡◌, ◌∷◌, drop}, iodef_tree.specs.{View.{forest, members_forest}, inner.Lookup.class_at}}
 use Rattle.iodef_tree.proofs.lookup.item_at.Given as goal
 
 abbrev pub invariant-loop-own : goal.invariant-loop-own

@@ -1,7 +1,4 @@
-use Rattle.std.proofs.Common.{◌≡◌, length}
-use Rattle.iodef_tree.specs.Filled.{IsFilled}
-use Rattle.iodef_tree.specs.inner.Lookup.{object_at}
-use Rattle.iodef_tree.specs.View.{forest}
+use Rattle.{std.proofs.Common.{◌≡◌, length}, iodef_tree.specs.{Filled.IsFilled, View.forest, inner.Lookup.object_at}}
 use Rattle.iodef_tree.proofs.lookup.object_at.Given as goal
 
 abbrev pub invariant-loop-name : goal.invariant-loop-name

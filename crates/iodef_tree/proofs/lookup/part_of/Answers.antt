@@ -1,8 +1,5 @@
-use Rattle.std.proofs.Common.{List, sym, subst}
-use Rattle.std.specs.List.{AllByRecursion}
-use Rattle.iodef_tree.specs.Filled.{IsMemberFilled, IsItemFilled}
-use Rattle.iodef_tree.specs.declared.object.Item.{Item}
-use Rattle.iodef_tree.proofs.Filled.{many-kept}
+use Rattle.{std.{proofs.Common.{List, sym, subst}, specs.List.AllByRecursion}, iodef_tree.{proofs.Filled.many-kept, specs.Filled.IsMemberFilled}}
+use Rattle.iodef_tree.specs.{Filled.IsItemFilled, declared.object.Item.Item}
 use Rattle.iodef_tree.proofs.lookup.part_of.Goals as goal
 
 pub element_at-requires : goal.element_at-requires

@@ -1,8 +1,5 @@
 use Rattle.std.proofs.Common.{◌≡◌, ℕ, ◌<◌, ◌^◌, false, Option, Some, None, Result, decimal, sym, ◌∙◌, ap, true≢false, bytes_eq, arith}
-use Rattle.std.specs.Result.{result_ok}
-use Rattle.std.specs.Str.Parse.{ParsesUnsigned}
-use Rattle.std.proofs.lemmas.Fmt.{parse-decimal}
-use Rattle.json_pointer.specs.Text.{Bytes}
+use Rattle.{std.{proofs.lemmas.Fmt.parse-decimal, specs.{Result.result_ok, Str.Parse.ParsesUnsigned}}, json_pointer.specs.Text.Bytes}
 use Rattle.iodef_tree.proofs.Order.{bytes_eq-refl}
 use Rattle.iodef_tree.proofs.lookup.place_of_token.Goals as goal
 

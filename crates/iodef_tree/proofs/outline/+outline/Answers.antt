@@ -1,9 +1,6 @@
-use Rattle.std.proofs.lemmas.Grind.{common_steps}
-use Rattle.std.proofs.Common.{◌∙◌, arith, rules}
-use Rattle.iodef_tree.specs.declared.object.Object.{the_lemmas}
-use Rattle.iodef_tree.proofs.Fronts.{lines-append, list-next, height-next}
+use Rattle.{std.proofs.{Common.{◌∙◌, arith, rules}, lemmas.Grind.common_steps}, iodef_tree.proofs.Fronts.{lines-append, list-next, height-next}}
+use Rattle.iodef_tree.specs.{Tree.lines, declared.object.Object.the_lemmas}
 use Rattle.iodef_tree.proofs.outline.+outline.Goals as goal
-use Rattle.iodef_tree.specs.Tree.{lines}
 
 pub push_object-push_member-requires : goal.push_object-push_member-requires
 push_object-push_member-requires t c =

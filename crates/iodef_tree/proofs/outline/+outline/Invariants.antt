@@ -1,6 +1,5 @@
-use Rattle.std.proofs.Common.{◌≡◌, ◌+◌, ◌^◌, ◌<◌, ◌++◌, drop, map}
-use Rattle.iodef_tree.specs.Tree.{end, member_front, elements, lines, height}
-use Rattle.iodef_tree.specs.View.{forest, bodies, body, members_forest}
+use Rattle.{std.proofs.Common.{◌≡◌, ◌+◌, ◌^◌, ◌<◌, ◌++◌, drop, map}, iodef_tree.specs.{Tree.{end, member_front, elements, lines, height}, View.forest}}
+use Rattle.iodef_tree.specs.View.{bodies, body, members_forest}
 use Rattle.iodef_tree.proofs.outline.+outline.Given as goal
 
 abbrev pub invariant-push_member-loop-item : goal.invariant-push_member-loop-item

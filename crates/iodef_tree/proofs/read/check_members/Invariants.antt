@@ -1,6 +1,4 @@
-use Rattle.std.proofs.Common.{◌≡◌, drop}
-use Rattle.serde_json.specs.View.{items_view}
-use Rattle.iodef_tree.specs.Reading.{all_complete}
+use Rattle.{std.proofs.Common.{◌≡◌, drop}, serde_json.specs.View.items_view, iodef_tree.specs.Reading.all_complete}
 use Rattle.iodef_tree.proofs.read.check_members.Given as goal
 
 abbrev pub invariant-loop-index : goal.invariant-loop-index

@@ -1,5 +1,4 @@
-use Rattle.iodef_tree.proofs.Steps.{document_from_steps}
-use Rattle.std.proofs.Common.{arith}
+use Rattle.{std.proofs.Common.arith, iodef_tree.proofs.Steps.document_from_steps}
 use Rattle.iodef_tree.proofs.read.document_from.Goals as goal
 
 pub returns-then-is_none : goal.returns-then-is_none

@@ -1,12 +1,6 @@
-use Rattle.std.proofs.Common.{◌≡◌, sym, ◌∙◌, subst, Ok, arith}
-use Rattle.serde_json.specs.View.{view, items_view, members_view}
-use Rattle.iodef_tree.specs.inner.FitValues.{IsFit, AreFit}
-use Rattle.iodef_tree.specs.Reading.{documents, document_of, if_short}
-use Rattle.iodef_tree.specs.Tree.{lines}
-use Rattle.std.specs.Vec.Iter.{into_iter_items}
-use Rattle.std.proofs.lemmas.Grind.{common_steps}
-use Rattle.iodef_tree.proofs.Exchanged.{cloned}
-use Rattle.iodef_tree.proofs.DocumentLists.{with_front, failed, next}
+use Rattle.{std.{proofs.{Common.{◌≡◌, sym, ◌∙◌, subst, Ok, arith}, lemmas.Grind.common_steps}, specs.Vec.Iter.into_iter_items}, serde_json.specs.View.view}
+use Rattle.{serde_json.specs.View.{items_view, members_view}, iodef_tree.proofs.{DocumentLists.{with_front, failed, next}, Exchanged.cloned}}
+use Rattle.iodef_tree.specs.{Reading.{documents, document_of, if_short}, Tree.lines, inner.FitValues.{IsFit, AreFit}}
 use Rattle.iodef_tree.proofs.read.documents_beside.Goals as goal
 
 pub document_from-requires : goal.document_from-requires

@@ -1,9 +1,5 @@
-use Rattle.std.proofs.Common.{◌≡◌}
-use Rattle.std.specs.Vec.Iter.{into_iter_items}
-use Rattle.serde_json.specs.View.{items_view, members_view}
-use Rattle.iodef_tree.specs.inner.FitValues.{AreFit}
-use Rattle.iodef_tree.specs.Reading.{documents}
-use Rattle.iodef_tree.proofs.DocumentLists.{with_front}
+use Rattle.{std.{proofs.Common.◌≡◌, specs.Vec.Iter.into_iter_items}, serde_json.specs.View.{items_view, members_view}}
+use Rattle.iodef_tree.{proofs.DocumentLists.with_front, specs.{Reading.documents, inner.FitValues.AreFit}}
 use Rattle.iodef_tree.proofs.read.documents_beside.Given as goal
 
 abbrev pub invariant-loop-incident : goal.invariant-loop-incident

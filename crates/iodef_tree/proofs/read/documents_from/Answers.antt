@@ -1,5 +1,4 @@
-use Rattle.iodef_tree.proofs.Steps.{documents_from_steps}
-use Rattle.std.proofs.Common.{arith}
+use Rattle.{std.proofs.Common.arith, iodef_tree.proofs.Steps.documents_from_steps}
 use Rattle.iodef_tree.proofs.read.documents_from.Goals as goal
 
 pub documents_beside-requires : goal.documents_beside-requires

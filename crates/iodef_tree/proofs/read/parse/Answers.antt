@@ -1,10 +1,5 @@
-use Rattle.std.proofs.Common.{◌≡◌, List, ℕ, None, Err, refl, ap, rules, IsUtf8}
-use Rattle.std.specs.Str.{is_utf8}
-use Rattle.std.proofs.lemmas.Bool.{cond_both}
-use Rattle.std.proofs.lemmas.Str.{is_utf8-from_IsUtf8, IsUtf8-from_is_utf8}
-use Rattle.serde_json.specs.Read.{read}
-use Rattle.iodef_tree.specs.Reading.{parsed, or_fault}
-use Rattle.iodef_tree.specs.declared.fault.ReadFault.TheVariants.{NotJson}
+use Rattle.std.proofs.{Common.{◌≡◌, List, ℕ, None, Err, refl, ap, rules, IsUtf8}, lemmas.{Bool.cond_both, Str.{is_utf8-from_IsUtf8, IsUtf8-from_is_utf8}}}
+use Rattle.{std.specs.Str.is_utf8, serde_json.specs.Read.read, iodef_tree.specs.{Reading.{parsed, or_fault}, declared.fault.ReadFault.TheVariants.NotJson}}
 use Rattle.iodef_tree.proofs.read.parse.Goals as goal
 
 refused : (bytes : List ℕ) → (IsUtf8 bytes → read bytes ≡ None) → parsed bytes ≡ Err NotJson

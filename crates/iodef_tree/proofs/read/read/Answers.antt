@@ -1,7 +1,5 @@
-use Rattle.std.proofs.Common.{ap, sym, subst, Ok, option_map}
-use Rattle.serde_json.specs.View.{view, items_view, members_view}
-use Rattle.iodef_tree.specs.Reading.{Returns}
-use Rattle.iodef_tree.proofs.Bodies.{found, fit_taken, reading_taken}
+use Rattle.{std.proofs.Common.{ap, sym, subst, Ok, option_map}, serde_json.specs.View.{view, items_view, members_view}, iodef_tree.proofs.Bodies.found}
+use Rattle.iodef_tree.{proofs.Bodies.{fit_taken, reading_taken}, specs.Reading.Returns}
 use Rattle.iodef_tree.proofs.read.read.Goals as goal
 
 pub documents_from-requires : goal.documents_from-requires

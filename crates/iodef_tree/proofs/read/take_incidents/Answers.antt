@@ -1,5 +1,4 @@
-use Rattle.std.proofs.Common.{arith}
-use Rattle.iodef_tree.proofs.Steps.{take_incidents_steps}
+use Rattle.{std.proofs.Common.arith, iodef_tree.proofs.Steps.take_incidents_steps}
 use Rattle.iodef_tree.proofs.read.take_incidents.Goals as goal
 
 pub returns-in_default-2 : goal.returns-in_default-2

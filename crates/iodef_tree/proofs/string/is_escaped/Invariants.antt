@@ -1,6 +1,4 @@
-use Rattle.std.proofs.Common.{◌≡◌, ◌||◌, drop}
-use Rattle.std.specs.List.{list_any}
-use Rattle.iodef_tree.specs.inner.Written.{needs_escape}
+use Rattle.{std.{proofs.Common.{◌≡◌, ◌||◌, drop}, specs.List.list_any}, iodef_tree.specs.inner.Written.needs_escape}
 use Rattle.iodef_tree.proofs.string.is_escaped.Given as goal
 
 abbrev pub invariant-loop-byte : goal.invariant-loop-byte

@@ -1,10 +1,6 @@
-use Rattle.std.proofs.Common.{◌≡◌, [], ◌∷◌, ◌++◌, ◌∙◌, ap, sym, string_bytes, ℕ, false, List, refl, ap₂, append_assoc, ◌==◌}
-use Rattle.json_pointer.specs.Text.{Bytes}
-use Rattle.std.proofs.lemmas.Bool.{or_parts, eqb-false, ltb-false}
-use Rattle.std.specs.List.{list_any}
-use Rattle.json.specs.Print.{escape, quoted}
-use Rattle.json.proofs.Printed.Strings.{escape_byte_plain}
-use Rattle.iodef_tree.specs.inner.Written.{needs_escape}
+use Rattle.std.proofs.{Common.{◌≡◌, [], ◌∷◌, ◌++◌, ◌∙◌, ap, sym, string_bytes, ℕ, false, List, refl, ap₂, append_assoc, ◌==◌}, lemmas.Bool.or_parts}
+use Rattle.{std.{proofs.lemmas.Bool.{eqb-false, ltb-false}, specs.List.list_any}, json_pointer.specs.Text.Bytes, json.proofs.Printed.Strings.escape_byte_plain}
+use Rattle.{json.specs.Print.{escape, quoted}, iodef_tree.specs.inner.Written.needs_escape}
 use Rattle.iodef_tree.proofs.string.push_quoted.Goals as goal
 
 -- a text without a byte that needs an escape is its own escape

@@ -1,5 +1,4 @@
-use Rattle.iodef_tree.proofs.Seeking.{seeking}
-use Rattle.std.proofs.Common.{arith}
+use Rattle.{std.proofs.Common.arith, iodef_tree.proofs.Seeking.seeking}
 use Rattle.iodef_tree.proofs.unfit_values.+plain.Goals as goal
 
 pub are_items_plain-returns-then-not-is_plain : goal.are_items_plain-returns-then-not-is_plain

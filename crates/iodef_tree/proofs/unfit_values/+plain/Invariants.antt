@@ -1,8 +1,5 @@
-use Rattle.std.proofs.Common.{◌≡◌, ◌+◌, ◌<◌, ◌^◌, drop}
-use Rattle.serde_json.specs.Data.{items_depth, members_depth}
-use Rattle.serde_json.specs.View.{items_view, members_view}
-use Rattle.iodef_tree.specs.inner.FitValues.{any_at, is_refused}
-use Rattle.iodef_tree.specs.Values.{item_nodes, member_nodes}
+use Rattle.{std.proofs.Common.{◌≡◌, ◌+◌, ◌<◌, ◌^◌, drop}, serde_json.specs.{Data.{items_depth, members_depth}, View.{items_view, members_view}}}
+use Rattle.iodef_tree.specs.{Values.{item_nodes, member_nodes}, inner.FitValues.{any_at, is_refused}}
 use Rattle.iodef_tree.proofs.unfit_values.+plain.Given as goal
 
 abbrev pub invariant-are_items_plain-loop-item : goal.invariant-are_items_plain-loop-item

@@ -1,7 +1,4 @@
-use Rattle.iodef_tree.proofs.Seeking.{seeking}
-use Rattle.std.proofs.Common.{arith}
-use Rattle.std.proofs.lemmas.Grind.{common_steps}
-use Rattle.iodef_tree.proofs.Seeking.{first_at-none, first_at-some}
+use Rattle.{std.proofs.{Common.arith, lemmas.Grind.common_steps}, iodef_tree.proofs.Seeking.{seeking, first_at-none, first_at-some}}
 use Rattle.iodef_tree.proofs.unfit_values.+seek.Goals as goal
 
 pub first_in_items-returns-in-Some : goal.first_in_items-returns-in-Some

@@ -1,8 +1,5 @@
-use Rattle.std.proofs.Common.{◌≡◌, ◌+◌, ◌<◌, ◌^◌, drop}
-use Rattle.serde_json.specs.Data.{items_depth, members_depth}
-use Rattle.serde_json.specs.View.{items_view, members_view}
-use Rattle.iodef_tree.specs.inner.FitValues.{is_sought}
-use Rattle.iodef_tree.specs.Values.{item_nodes, member_nodes, first_at}
+use Rattle.{std.proofs.Common.{◌≡◌, ◌+◌, ◌<◌, ◌^◌, drop}, serde_json.specs.{Data.{items_depth, members_depth}, View.{items_view, members_view}}}
+use Rattle.iodef_tree.specs.{Values.{item_nodes, member_nodes, first_at}, inner.FitValues.is_sought}
 use Rattle.iodef_tree.proofs.unfit_values.+seek.Given as goal
 
 abbrev pub invariant-first_in_items-loop-index : goal.invariant-first_in_items-loop-index

@@ -1,13 +1,6 @@
-use Rattle.std.proofs.lemmas.Grind.{common_steps}
-use Rattle.std.proofs.Common.{arith, ◌∙◌, ap, subst, rules}
-use Rattle.iodef_tree.specs.inner.FitValues.{AreBodiesOrdered}
-use Rattle.iodef_tree.specs.Filled.{IsMemberFilled}
-use Rattle.iodef_tree.specs.View.{forest, bodies}
-use Rattle.iodef_tree.specs.inner.Written.{members_of}
-use Rattle.iodef_tree.specs.declared.object.Object.{the_lemmas}
-use Rattle.iodef_tree.proofs.Data.{put-started, object-ordered, put-member, all-left}
-use Rattle.iodef_tree.proofs.Filled.{many-kept, member-at, member-elements}
-use Rattle.iodef_tree.proofs.Views.{bodies-Many}
+use Rattle.{std.proofs.{Common.{arith, ◌∙◌, ap, subst, rules}, lemmas.Grind.common_steps}, iodef_tree.proofs.Data.{put-started, object-ordered, put-member}}
+use Rattle.iodef_tree.{proofs.{Data.all-left, Filled.{many-kept, member-at, member-elements}, Views.bodies-Many}, specs.{Filled.IsMemberFilled, View.forest}}
+use Rattle.iodef_tree.specs.{View.bodies, declared.object.Object.the_lemmas, inner.{FitValues.AreBodiesOrdered, Written.members_of}}
 use Rattle.iodef_tree.proofs.value.+value.Goals as goal
 
 pub object_value-loop-name-init : goal.object_value-loop-name-init

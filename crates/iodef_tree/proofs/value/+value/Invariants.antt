@@ -1,9 +1,5 @@
-use Rattle.std.proofs.Common.{◌≡◌, ◌++◌, map, drop}
-use Rattle.std.specs.List.{AllByRecursion}
-use Rattle.serde_json.specs.View.{view, members_view}
-use Rattle.iodef_tree.specs.inner.FitValues.{IsBodyOrdered, AreBodiesOrdered}
-use Rattle.iodef_tree.specs.View.{forest, body, named, members_forest}
-use Rattle.iodef_tree.specs.inner.Written.{members_of, body_data, put_all}
+use Rattle.{std.{proofs.Common.{◌≡◌, ◌++◌, map, drop}, specs.List.AllByRecursion}, serde_json.specs.View.{view, members_view}, iodef_tree.specs.View.forest}
+use Rattle.iodef_tree.specs.{View.{body, named, members_forest}, inner.{FitValues.{IsBodyOrdered, AreBodiesOrdered}, Written.{members_of, body_data, put_all}}}
 use Rattle.iodef_tree.proofs.value.+value.Given as goal
 
 abbrev pub invariant-object_value-loop-name : goal.invariant-object_value-loop-name

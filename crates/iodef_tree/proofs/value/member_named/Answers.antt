@@ -1,9 +1,5 @@
-use Rattle.std.proofs.Common.{◌≡◌, true, false, sym, ◌∙◌, ap, bytes_eq, arith}
-use Rattle.std.proofs.lemmas.Grind.{common_steps}
-use Rattle.iodef_tree.specs.inner.SoundParts.{AreKept}
-use Rattle.iodef_tree.proofs.Data.{all-left}
-use Rattle.iodef_tree.proofs.Filled.{member-at, member-elements}
-use Rattle.iodef_tree.proofs.MembersByName.{object-members, kept-members, member-next}
+use Rattle.{std.proofs.{Common.{◌≡◌, true, false, sym, ◌∙◌, ap, bytes_eq, arith}, lemmas.Grind.common_steps}, iodef_tree.proofs.Data.all-left}
+use Rattle.iodef_tree.{proofs.{Filled.{member-at, member-elements}, MembersByName.{object-members, kept-members, member-next}}, specs.inner.SoundParts.AreKept}
 use Rattle.iodef_tree.proofs.value.member_named.Goals as goal
 
 pub loop-own-init : goal.loop-own-init

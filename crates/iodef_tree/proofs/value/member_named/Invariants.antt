@@ -1,9 +1,5 @@
-use Rattle.std.proofs.Common.{◌≡◌, map, drop}
-use Rattle.std.specs.List.{AllByRecursion}
-use Rattle.serde_json.specs.Find.{get_member}
-use Rattle.iodef_tree.specs.inner.SoundParts.{AreKept}
-use Rattle.iodef_tree.specs.View.{forest, named, members_forest}
-use Rattle.iodef_tree.specs.inner.Written.{members_of}
+use Rattle.{std.{proofs.Common.{◌≡◌, map, drop}, specs.List.AllByRecursion}, serde_json.specs.Find.get_member, iodef_tree.specs.View.{forest, named}}
+use Rattle.iodef_tree.specs.{View.members_forest, inner.{SoundParts.AreKept, Written.members_of}}
 use Rattle.iodef_tree.proofs.value.member_named.Given as goal
 
 abbrev pub invariant-loop-own : goal.invariant-loop-own

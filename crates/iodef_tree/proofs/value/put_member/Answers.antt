@@ -1,7 +1,4 @@
-use Rattle.std.proofs.Common.{ap, ◌∙◌}
-use Rattle.serde_json.specs.Data.{put}
-use Rattle.serde_json.specs.View.{view, members_view}
-use Rattle.serde_json.proofs.Views.{members_view-insert_entry}
+use Rattle.{std.proofs.Common.{ap, ◌∙◌}, serde_json.{proofs.Views.members_view-insert_entry, specs.{Data.put, View.{view, members_view}}}}
 use Rattle.iodef_tree.proofs.value.put_member.Goals as goal
 
 pub returns : goal.returns

@@ -1,6 +1,4 @@
-use Rattle.std.proofs.Common.{◌≡◌, drop}
-use Rattle.serde_json.specs.View.{items_view}
-use Rattle.iodef_tree.specs.Texts.{are_plain}
+use Rattle.{std.proofs.Common.{◌≡◌, drop}, serde_json.specs.View.items_view, iodef_tree.specs.Texts.are_plain}
 use Rattle.iodef_tree.proofs.value_text.+plain.Given as goal
 
 abbrev pub invariant-are_plain-loop-item : goal.invariant-are_plain-loop-item

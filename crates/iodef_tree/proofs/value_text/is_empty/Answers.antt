@@ -1,6 +1,4 @@
-use Rattle.std.proofs.Common.{◌≡◌, ◌≤◌, List, [], ◌∷◌, length, false, refl, arith}
-use Rattle.serde_json.specs.View.{items_view}
-use Rattle.serde_json.specs.declared.value.Value.{Value}
+use Rattle.{std.proofs.Common.{◌≡◌, ◌≤◌, List, [], ◌∷◌, length, false, refl, arith}, serde_json.specs.{View.items_view, declared.value.Value.Value}}
 use Rattle.iodef_tree.specs.Texts.{is_empty}
 use Rattle.iodef_tree.proofs.value_text.is_empty.Goals as goal
 

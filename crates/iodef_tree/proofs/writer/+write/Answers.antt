@@ -1,11 +1,6 @@
-use Rattle.std.proofs.lemmas.Grind.{common_steps}
-use Rattle.std.proofs.Common.{arith, string_bytes, [], ◌∷◌, ◌++◌, false, subst, rules}
-use Rattle.iodef_tree.specs.Filled.{IsMemberFilled}
-use Rattle.iodef_tree.specs.View.{forest}
-use Rattle.iodef_tree.specs.inner.Written.{written}
-use Rattle.iodef_tree.specs.declared.object.Object.{the_lemmas}
-use Rattle.iodef_tree.proofs.Filled.{many-kept, member-at, member-elements}
-use Rattle.iodef_tree.proofs.Writing.{write-member}
+use Rattle.{std.proofs.{Common.{arith, string_bytes, [], ◌∷◌, ◌++◌, false, subst, rules}, lemmas.Grind.common_steps}, iodef_tree.proofs.Filled.many-kept}
+use Rattle.iodef_tree.{proofs.{Filled.{member-at, member-elements}, Writing.write-member}, specs.{Filled.IsMemberFilled, View.forest}}
+use Rattle.iodef_tree.specs.{declared.object.Object.the_lemmas, inner.Written.written}
 use Rattle.iodef_tree.proofs.writer.+write.Goals as goal
 
 pub write_object-loop-name-preserved : goal.write_object-loop-name-preserved

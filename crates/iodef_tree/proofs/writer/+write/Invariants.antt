@@ -1,5 +1,4 @@
-use Rattle.std.proofs.Common.{string_bytes, ◌≡◌, [], ◌∷◌, ◌++◌, map, drop, false}
-use Rattle.iodef_tree.specs.View.{forest, members_forest, body}
+use Rattle.{std.proofs.Common.{string_bytes, ◌≡◌, [], ◌∷◌, ◌++◌, map, drop, false}, iodef_tree.specs.View.{forest, members_forest, body}}
 use Rattle.iodef_tree.specs.inner.Written.{written, array_text}
 use Rattle.iodef_tree.proofs.writer.+write.Given as goal
 

@@ -1,6 +1,4 @@
-use Rattle.std.proofs.Common.{◌≡◌, ◌||◌, drop}
-use Rattle.std.specs.List.{list_any}
-use Rattle.json_pointer.specs.Pointer.{is_escaped_byte}
+use Rattle.{std.{proofs.Common.{◌≡◌, ◌||◌, drop}, specs.List.list_any}, json_pointer.specs.Pointer.is_escaped_byte}
 use Rattle.json_pointer.proofs.pointer.is_written_otherwise.Given as goal
 
 abbrev pub invariant-loop-byte : goal.invariant-loop-byte

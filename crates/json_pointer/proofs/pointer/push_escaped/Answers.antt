@@ -1,7 +1,5 @@
-use Rattle.std.proofs.Common.{rules, arith, refl, sym, subst, string_bytes}
-use Rattle.std.proofs.lemmas.Grind.{common_steps}
-use Rattle.json_pointer.specs.Text.{Bytes, BeginsWith}
-use Rattle.json_pointer.proofs.Beginnings.{begins_with-same, begins_with-more}
+use Rattle.{std.proofs.{Common.{rules, arith, refl, sym, subst, string_bytes}, lemmas.Grind.common_steps}, json_pointer.proofs.Beginnings.begins_with-same}
+use Rattle.json_pointer.{proofs.Beginnings.begins_with-more, specs.Text.{Bytes, BeginsWith}}
 use Rattle.json_pointer.proofs.pointer.push_escaped.Goals as goal
 
 pub loop-c-init : goal.loop-c-init

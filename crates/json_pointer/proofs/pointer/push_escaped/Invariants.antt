@@ -1,7 +1,4 @@
-use Rattle.std.proofs.Common.{◌≡◌, ◌++◌, string_bytes}
-use Rattle.std.specs.Str.Iter.{chars_rest}
-use Rattle.json_pointer.specs.Text.{BeginsWith}
-use Rattle.json_pointer.specs.Pointer.{escaped}
+use Rattle.{std.{proofs.Common.{◌≡◌, ◌++◌, string_bytes}, specs.Str.Iter.chars_rest}, json_pointer.specs.{Pointer.escaped, Text.BeginsWith}}
 use Rattle.json_pointer.proofs.pointer.push_escaped.Given as goal
 
 abbrev pub invariant-loop-c : goal.invariant-loop-c

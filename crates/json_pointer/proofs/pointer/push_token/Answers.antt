@@ -1,7 +1,5 @@
-use Rattle.std.proofs.lemmas.Grind.{common_steps}
-use Rattle.std.proofs.Common.{arith, ◌≡◌, [], ◌∷◌, ◌++◌, sym, ◌∙◌, ap, append_assoc, string_bytes}
-use Rattle.json_pointer.specs.Text.{Bytes}
-use Rattle.json_pointer.proofs.Pointers.{escaped-same}
+use Rattle.std.proofs.{Common.{arith, ◌≡◌, [], ◌∷◌, ◌++◌, sym, ◌∙◌, ap, append_assoc, string_bytes}, lemmas.Grind.common_steps}
+use Rattle.json_pointer.{proofs.Pointers.escaped-same, specs.Text.Bytes}
 use Rattle.json_pointer.proofs.pointer.push_token.Goals as goal
 
 pub returns-clause-ok : goal.returns-clause-ok

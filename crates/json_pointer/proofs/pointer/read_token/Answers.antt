@@ -1,8 +1,5 @@
-use Rattle.std.proofs.Common.{rules, ◌≡◌, ap, sym, ◌∙◌, arith, string_bytes, Bool, false, Some, None}
-use Rattle.std.specs.Str.Iter.{chars_rest}
-use Rattle.std.proofs.lemmas.Grind.{common_steps}
-use Rattle.json_pointer.specs.Pointer.{unescaped_from}
-use Rattle.json_pointer.proofs.Unescaping.{made_then, made_then-nil, plain_step, tilde_step, code_step, no_code_step}
+use Rattle.std.{proofs.{Common.{rules, ◌≡◌, ap, sym, ◌∙◌, arith, string_bytes, Bool, false, Some, None}, lemmas.Grind.common_steps}, specs.Str.Iter.chars_rest}
+use Rattle.json_pointer.{proofs.Unescaping.{made_then, made_then-nil, plain_step, tilde_step, code_step, no_code_step}, specs.Pointer.unescaped_from}
 use Rattle.json_pointer.proofs.pointer.read_token.Goals as goal
 
 pub loop-c-init : goal.loop-c-init

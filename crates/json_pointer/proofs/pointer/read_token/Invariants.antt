@@ -1,7 +1,5 @@
-use Rattle.std.proofs.Common.{◌≡◌, string_bytes}
-use Rattle.std.specs.Str.Iter.{chars_rest}
-use Rattle.json_pointer.specs.Pointer.{unescaped, unescaped_from}
-use Rattle.json_pointer.proofs.Unescaping.{made_then}
+use Rattle.{std.{proofs.Common.{◌≡◌, string_bytes}, specs.Str.Iter.chars_rest}, json_pointer.{proofs.Unescaping.made_then, specs.Pointer.unescaped}}
+use Rattle.json_pointer.specs.Pointer.{unescaped_from}
 use Rattle.json_pointer.proofs.pointer.read_token.Given as goal
 
 abbrev pub invariant-loop-c : goal.invariant-loop-c

@@ -1,11 +1,6 @@
-use Rattle.std.proofs.Common.{lit<, ◌≡◌, ap, ◌∙◌}
-use Rattle.std.specs.List.{slice_split}
-use Rattle.std.specs.Str.Iter.{split_steps, split_text, split_has_more, split_pattern}
-use Rattle.std.specs.Str.Pattern.{FindsChar}
-use Rattle.std.proofs.lemmas.Iterator.Splits.{YieldsList-from_str_split}
-use Rattle.std.proofs.lemmas.Result.{err_from_is_err_and}
-use Rattle.json_pointer.specs.Pointer.{is_slash, slash_separated}
-use Rattle.json_pointer.proofs.Unescaping.{Comes, made_then, made_then-nil, token_step, bad_step, last_step}
+use Rattle.std.{proofs.{Common.{lit<, ◌≡◌, ap, ◌∙◌}, lemmas.{Iterator.Splits.YieldsList-from_str_split, Result.err_from_is_err_and}}, specs.List.slice_split}
+use Rattle.{std.specs.Str.{Iter.{split_steps, split_text, split_has_more, split_pattern}, Pattern.FindsChar}, json_pointer.proofs.Unescaping.{Comes, made_then}}
+use Rattle.json_pointer.{proofs.Unescaping.{made_then-nil, token_step, bad_step, last_step}, specs.Pointer.{is_slash, slash_separated}}
 use Rattle.json_pointer.proofs.pointer.read_tokens.Goals as goal
 
 pub loop-token-init : goal.loop-token-init

@@ -1,8 +1,4 @@
-use Rattle.std.specs.Str.Iter.{split_steps}
-use Rattle.std.specs.Str.Pattern.{FindsChar}
-use Rattle.std.proofs.Common.{◌≡◌}
-use Rattle.json_pointer.specs.Pointer.{slash_separated}
-use Rattle.json_pointer.proofs.Unescaping.{Comes}
+use Rattle.{std.{proofs.Common.◌≡◌, specs.Str.{Iter.split_steps, Pattern.FindsChar}}, json_pointer.{proofs.Unescaping.Comes, specs.Pointer.slash_separated}}
 use Rattle.json_pointer.proofs.pointer.read_tokens.Given as goal
 
 abbrev pub invariant-loop-token : goal.invariant-loop-token

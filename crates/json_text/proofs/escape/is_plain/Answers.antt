@@ -1,6 +1,4 @@
-use Rattle.std.proofs.Common.{◌≡◌, ◌∷◌, [], sym, subst}
-use Rattle.json_text.specs.Shown.{shown_byte}
-use Rattle.json_text.proofs.Escapes.{plain-text, plain-token}
+use Rattle.{std.proofs.Common.{◌≡◌, ◌∷◌, [], sym, subst}, json_text.{proofs.Escapes.{plain-text, plain-token}, specs.Shown.shown_byte}}
 use Rattle.json_text.proofs.escape.is_plain.Goals as goal
 
 pub returns-in-Text : goal.returns-in-Text

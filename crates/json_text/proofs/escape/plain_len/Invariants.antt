@@ -1,5 +1,4 @@
-use Rattle.std.proofs.Common.{◌≡◌, take}
-use Rattle.json_text.specs.Shown.{shown_bytes}
+use Rattle.{std.proofs.Common.{◌≡◌, take}, json_text.specs.Shown.shown_bytes}
 use Rattle.json_text.proofs.escape.plain_len.Given as goal
 
 abbrev pub invariant-loop-i : goal.invariant-loop-i

@@ -1,5 +1,4 @@
-use Rattle.std.proofs.Common.{OnOk, subst}
-use Rattle.json_text.proofs.Escapes.{letter-escape, control-escape, other-escape}
+use Rattle.{std.proofs.Common.{OnOk, subst}, json_text.proofs.Escapes.{letter-escape, control-escape, other-escape}}
 use Rattle.json_text.proofs.escape.put_escape.Goals as goal
 
 pub returns-then-letter-gt0 : goal.returns-then-letter-gt0

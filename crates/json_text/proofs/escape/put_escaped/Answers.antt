@@ -1,6 +1,4 @@
-use Rattle.std.proofs.Common.{◌++◌}
-use Rattle.json_text.specs.Shown.{shown_byte}
-use Rattle.json_text.proofs.Escapes.{front-shown, first-shown}
+use Rattle.{std.proofs.Common.◌++◌, json_text.{proofs.Escapes.{front-shown, first-shown}, specs.Shown.shown_byte}}
 use Rattle.json_text.proofs.escape.put_escaped.Goals as goal
 
 pub loop-byte-preserved-then-len-gt0 : goal.loop-byte-preserved-then-len-gt0

@@ -1,5 +1,4 @@
-use Rattle.std.proofs.Common.{◌≡◌, ℕ, List, ◌++◌, length}
-use Rattle.json_text.specs.Shown.{shown_bytes}
+use Rattle.{std.proofs.Common.{◌≡◌, ℕ, List, ◌++◌, length}, json_text.specs.Shown.shown_bytes}
 use Rattle.json_text.proofs.escape.put_escaped.Given as goal
 
 abbrev pub invariant-loop-byte : goal.invariant-loop-byte

@@ -1,6 +1,4 @@
-use Rattle.std.proofs.Common.{OnOk, sym, subst, ◌∙◌, ap}
-use Rattle.json_text.specs.Shown.{shown_byte}
-use Rattle.json_text.proofs.Escapes.{tilde-token, slash-token}
+use Rattle.{std.proofs.Common.{OnOk, sym, subst}, json_text.proofs.Escapes.{tilde-token, slash-token}}
 use Rattle.json_text.proofs.escape.put_shown.Goals as goal
 
 pub returns-in-Token-eq126 : goal.returns-in-Token-eq126

@@ -1,5 +1,4 @@
-use Rattle.std.proofs.Common.{◌≡◌, OnOk, sym, subst, rules}
-use Rattle.json.specs.Print.{escape}
+use Rattle.{std.proofs.Common.{◌≡◌, OnOk, sym, subst, rules}, json.specs.Print.escape}
 use Rattle.json_text.proofs.escape.put_text.Goals as goal
 
 pub returns-then-needs_no_escape : goal.returns-then-needs_no_escape

@@ -1,5 +1,4 @@
-use Rattle.std.proofs.Common.{arith}
-use Rattle.json.proofs.Printed.Plain.{plain_from_lanes}
+use Rattle.{std.proofs.Common.arith, json.proofs.Printed.Plain.plain_from_lanes}
 use Rattle.json_text.proofs.plain.plain_8.Goals as goal
 
 pub returns : goal.returns

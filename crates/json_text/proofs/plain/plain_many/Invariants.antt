@@ -1,5 +1,4 @@
-use Rattle.std.proofs.Common.{◌-◌, ◌≤◌, length}
-use Rattle.json.specs.Written.{PlainBetween}
+use Rattle.{std.proofs.Common.{◌-◌, ◌≤◌, length}, json.specs.Written.PlainBetween}
 use Rattle.json_text.proofs.plain.plain_many.Given as goal
 
 abbrev pub invariant-loop-at : goal.invariant-loop-at

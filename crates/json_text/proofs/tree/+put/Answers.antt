@@ -1,12 +1,6 @@
-use Rattle.std.proofs.Common.{◌≡◌, [], ◌∷◌, ◌++◌, map, refl, sym, ◌∙◌, ap, subst, rules}
-use Rattle.serde_json.specs.Written.{comma_if}
-use Rattle.iodef_tree.specs.Filled.{IsMemberFilled}
-use Rattle.iodef_tree.specs.View.{forest, bodies, body, members_forest}
-use Rattle.iodef_tree.specs.inner.Written.{written, body_text, bodies_text, array_text, member_text}
-use Rattle.iodef_tree.specs.declared.object.Object.{the_lemmas}
-use Rattle.iodef_tree.proofs.Filled.{many-kept, member-at, member-elements}
-use Rattle.iodef_tree.proofs.Views.{bodies-One, bodies-Many}
-use Rattle.json_text.proofs.Puts.{ok-both-are}
+use Rattle.{std.proofs.Common.{◌++◌, sym, ◌∙◌, ap, subst, rules}, serde_json.specs.Written.comma_if, iodef_tree.proofs.Filled.{many-kept, member-at}}
+use Rattle.iodef_tree.{proofs.{Filled.member-elements, Views.{bodies-One, bodies-Many}}, specs.{Filled.IsMemberFilled, View.{bodies, body}}}
+use Rattle.{iodef_tree.specs.{declared.object.Object.the_lemmas, inner.Written.{body_text, bodies_text, member_text}}, json_text.proofs.Puts.ok-both-are}
 use Rattle.json_text.proofs.Trees.{member-is, item-more, member-more, object-ends}
 use Rattle.json_text.proofs.tree.+put.Goals as goal
 

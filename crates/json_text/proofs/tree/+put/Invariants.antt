@@ -1,7 +1,5 @@
-use Rattle.std.proofs.Common.{◌≡◌, ℕ, List, [], ◌∷◌, ◌++◌, map, drop, false}
-use Rattle.serde_json.specs.Written.{comma_if}
-use Rattle.iodef_tree.specs.View.{forest, members_forest, body}
-use Rattle.iodef_tree.specs.inner.Written.{written, array_text}
+use Rattle.{std.proofs.Common.{◌≡◌, ℕ, List, [], ◌∷◌, ◌++◌, map, drop, false}, serde_json.specs.Written.comma_if, iodef_tree.specs.View.forest}
+use Rattle.iodef_tree.specs.{View.{members_forest, body}, inner.Written.{written, array_text}}
 use Rattle.json_text.proofs.tree.+put.Given as goal
 
 abbrev pub invariant-put_object-loop-name : goal.invariant-put_object-loop-name

@@ -1,5 +1,4 @@
-use Rattle.kept_documents.proofs.Weights.{last_fits, last_gone}
-use Rattle.kept_documents.proofs.Going.{taken_among}
+use Rattle.kept_documents.proofs.{Going.taken_among, Weights.{last_fits, last_gone}}
 use Rattle.kept_documents.proofs.documents.shrink.Goals as goal
 
 pub overflow_sub-left : goal.overflow_sub-left

@@ -1,5 +1,4 @@
-use Rattle.std.proofs.Common.{◌≤◌, length}
-use Rattle.kept_documents.specs.Kept.{weight_in, AreAmong}
+use Rattle.{std.proofs.Common.{◌≤◌, length}, kept_documents.specs.Kept.{weight_in, AreAmong}}
 use Rattle.kept_documents.proofs.documents.shrink.Given as goal
 
 abbrev pub invariant-loop-left : goal.invariant-loop-left

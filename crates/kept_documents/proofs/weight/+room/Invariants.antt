@@ -1,5 +1,4 @@
-use Rattle.std.proofs.Common.{◌≡◌, ◌+◌, true, drop, map, sum_by}
-use Rattle.iodef_tree.specs.View.{forest, bodies, body, members_forest}
+use Rattle.{std.proofs.Common.{◌≡◌, ◌+◌, true, drop, map, sum_by}, iodef_tree.specs.View.{forest, bodies, body, members_forest}}
 use Rattle.kept_documents.specs.Trees.{forest_weight, bodies_weight, body_weight}
 use Rattle.kept_documents.proofs.weight.+room.Given as goal
 

@@ -1,9 +1,5 @@
-use Rattle.std.proofs.Common.{rules, ◌≡◌, ◌∙◌, ap, sym, SFits, w64, to_z-of_z}
-use Rattle.circle.specs.Reads.{person_of}
-use Rattle.policy.specs.Reach.{reach_of}
-use Rattle.hub_state.specs.Reads.{its_gates, its_permissions, naming_of, standing_for}
-use Rattle.hub_state.specs.State.{State}
-use Rattle.hub_state.proofs.Bare.{naming_bare}
+use Rattle.{std.proofs.Common.{rules, ◌∙◌, ap, sym, SFits, w64, to_z-of_z}, circle.specs.Reads.person_of, policy.specs.Reach.reach_of}
+use Rattle.hub_state.{proofs.Bare.naming_bare, specs.{Reads.{its_gates, its_permissions, naming_of, standing_for}, State.State}}
 use Rattle.kept_rows.proofs.Reading.{nameless, unmet_by}
 use Rattle.kept_rows.proofs.kept_rows.may_meet_by.Goals as goal
 

@@ -1,8 +1,5 @@
-use Rattle.std.proofs.Common.{◌+◌, drop, arith}
-use Rattle.std.proofs.lemmas.Grind.{common_steps}
-use Rattle.iodef_tree.specs.View.{bodies, members_forest}
-use Rattle.iodef_tree.proofs.Filled.{member-at, member-elements}
-use Rattle.marking.proofs.Fronts.{held-here, held-skip}
+use Rattle.{std.proofs.{Common.{◌+◌, drop, arith}, lemmas.Grind.common_steps}, iodef_tree.{proofs.Filled.{member-at, member-elements}, specs.View.bodies}}
+use Rattle.{iodef_tree.specs.View.members_forest, marking.proofs.Fronts.{held-here, held-skip}}
 use Rattle.marking.proofs.class.held.Goals as goal
 
 pub returns-then-eq : goal.returns-then-eq

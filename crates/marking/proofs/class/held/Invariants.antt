@@ -1,6 +1,4 @@
-use Rattle.std.proofs.Common.{◌≡◌, drop}
-use Rattle.iodef_tree.specs.View.{forest, members_forest}
-use Rattle.marking.specs.Members.{held_in}
+use Rattle.{std.proofs.Common.{◌≡◌, drop}, iodef_tree.specs.View.{forest, members_forest}, marking.specs.Members.held_in}
 use Rattle.marking.proofs.class.held.Given as goal
 
 abbrev pub invariant-loop-key : goal.invariant-loop-key

@@ -1,9 +1,5 @@
-use Rattle.std.proofs.Common.{◌≡◌, false, sym, ◌∙◌, ap}
-use Rattle.std.specs.Prelude.{Some, is_some, option_map, unwrap_or}
-use Rattle.iodef_tree.specs.Paths.{located}
-use Rattle.marking.specs.Label.{private, marking_of}
-use Rattle.marking.specs.Marks.{own_label, has_own_label, site_of, label_at}
-use Rattle.marking.proofs.Owned.{site-self, site-up}
+use Rattle.{std.{proofs.Common.{◌≡◌, false, sym, ◌∙◌, ap}, specs.Prelude.{Some, is_some, option_map, unwrap_or}}, iodef_tree.specs.Paths.located}
+use Rattle.marking.{proofs.Owned.{site-self, site-up}, specs.{Label.{private, marking_of}, Marks.{own_label, has_own_label, site_of, label_at}}}
 use Rattle.marking.proofs.label_site.+nearest.Goals as goal
 
 pub returns-in-Some-clause-site : goal.returns-in-Some-clause-site

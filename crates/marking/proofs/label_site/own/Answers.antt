@@ -1,9 +1,5 @@
-use Rattle.std.proofs.Common.{sym, ◌∙◌, ap}
-use Rattle.iodef_tree.specs.Paths.{located}
-use Rattle.iodef_tree.specs.View.{forest}
-use Rattle.iodef_tree.proofs.Blocks.{below-parents}
+use Rattle.{std.proofs.Common.{sym, ◌∙◌, ap}, iodef_tree.{proofs.Blocks.below-parents, specs.{Paths.located, View.forest}}, marking.proofs.Owned.own-class}
 use Rattle.marking.specs.Sited.{own_in}
-use Rattle.marking.proofs.Owned.{own-class}
 use Rattle.marking.proofs.label_site.own.Goals as goal
 
 pub returns : goal.returns

@@ -1,8 +1,4 @@
-use Rattle.std.proofs.Common.{sym, ◌∙◌}
-use Rattle.iodef_tree.specs.Paths.{located}
-use Rattle.iodef_tree.specs.View.{forest}
-use Rattle.iodef_tree.proofs.Blocks.{below-parents}
-use Rattle.marking.proofs.Written.{written-block}
+use Rattle.{std.proofs.Common.{sym, ◌∙◌}, iodef_tree.{proofs.Blocks.below-parents, specs.{Paths.located, View.forest}}, marking.proofs.Written.written-block}
 use Rattle.marking.proofs.label_site.written_at.Goals as goal
 
 pub returns : goal.returns

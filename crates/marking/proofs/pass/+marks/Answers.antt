@@ -1,13 +1,6 @@
-use Rattle.std.proofs.Common.{◌+◌, drop, arith, append_assoc, rules}
-use Rattle.std.specs.List.{flat_map}
-use Rattle.std.proofs.lemmas.Grind.{common_steps}
-use Rattle.iodef_tree.specs.Tree.{end, member_front}
-use Rattle.iodef_tree.specs.View.{bodies, members_forest}
-use Rattle.iodef_tree.specs.declared.object.Object.{the_lemmas}
-use Rattle.iodef_tree.proofs.Filled.{member-at, element-at}
-use Rattle.marking.specs.Marks.{marked_by}
-use Rattle.marking.specs.inner.Pass.{marked_below}
-use Rattle.marking.proofs.Fronts.{written-member}
+use Rattle.{std.{proofs.{Common.{◌+◌, drop, arith, append_assoc, rules}, lemmas.Grind.common_steps}, specs.List.flat_map}, iodef_tree.proofs.Filled.member-at}
+use Rattle.iodef_tree.{proofs.Filled.element-at, specs.{Tree.{end, member_front}, View.{bodies, members_forest}, declared.object.Object.the_lemmas}}
+use Rattle.marking.{proofs.Fronts.written-member, specs.{Marks.marked_by, inner.Pass.marked_below}}
 use Rattle.marking.proofs.pass.+marks.Goals as goal
 
 pub write_members-loop-name-preserved : goal.write_members-loop-name-preserved

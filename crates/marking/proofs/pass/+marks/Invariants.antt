@@ -1,9 +1,5 @@
-use Rattle.std.proofs.Common.{◌≡◌, ◌++◌, drop, map}
-use Rattle.std.specs.List.{flat_map}
-use Rattle.iodef_tree.specs.Tree.{end, member_front, elements}
-use Rattle.iodef_tree.specs.View.{forest, bodies, body, members_forest}
-use Rattle.marking.specs.Marks.{marked_by}
-use Rattle.marking.specs.inner.Pass.{marked_below}
+use Rattle.{std.{proofs.Common.{◌≡◌, ◌++◌, drop, map}, specs.List.flat_map}, iodef_tree.specs.{Tree.{end, member_front, elements}, View.{forest, bodies, body}}}
+use Rattle.{iodef_tree.specs.View.members_forest, marking.specs.{Marks.marked_by, inner.Pass.marked_below}}
 use Rattle.marking.proofs.pass.+marks.Given as goal
 
 abbrev pub invariant-write_members-loop-name : goal.invariant-write_members-loop-name

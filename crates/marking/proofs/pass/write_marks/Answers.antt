@@ -1,10 +1,5 @@
-use Rattle.std.proofs.Common.{◌≡◌, ◌++◌, ◌∙◌, ap, subst}
-use Rattle.std.specs.Prelude.{List, map, OnOk}
-use Rattle.std.specs.List.{flat_map}
-use Rattle.iodef_tree.specs.Paths.{located, class_paths}
-use Rattle.iodef_tree.specs.View.{forest}
-use Rattle.marking.specs.Marks.{Marked, marked_at}
-use Rattle.marking.proofs.Marked.{marked-all}
+use Rattle.{std.{proofs.Common.{◌≡◌, ◌++◌, ◌∙◌, ap, subst}, specs.{List.flat_map, Prelude.{List, map, OnOk}}}, iodef_tree.specs.Paths.{located, class_paths}}
+use Rattle.{iodef_tree.specs.View.forest, marking.{proofs.Marked.marked-all, specs.Marks.{Marked, marked_at}}}
 use Rattle.marking.proofs.pass.write_marks.Goals as goal
 
 pub returns : goal.returns

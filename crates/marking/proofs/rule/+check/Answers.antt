@@ -1,10 +1,5 @@
-use Rattle.std.proofs.Common.{◌+◌, drop, arith, rules}
-use Rattle.std.proofs.lemmas.Grind.{common_steps}
-use Rattle.iodef_tree.specs.View.{bodies, members_forest}
-use Rattle.iodef_tree.specs.declared.object.Object.{the_lemmas}
-use Rattle.iodef_tree.proofs.Filled.{member-at, element-at}
-use Rattle.marking.specs.inner.Pass.{tokens_of}
-use Rattle.marking.proofs.Fronts.{bad-none, bad-some}
+use Rattle.{std.proofs.{Common.{◌+◌, drop, arith, rules}, lemmas.Grind.common_steps}, iodef_tree.{proofs.Filled.{member-at, element-at}, specs.View.bodies}}
+use Rattle.{iodef_tree.specs.{View.members_forest, declared.object.Object.the_lemmas}, marking.{proofs.Fronts.{bad-none, bad-some}, specs.inner.Pass.tokens_of}}
 use Rattle.marking.proofs.rule.+check.Goals as goal
 
 pub bad_below-returns-in-Some : goal.bad_below-returns-in-Some

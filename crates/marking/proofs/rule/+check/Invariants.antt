@@ -1,6 +1,4 @@
-use Rattle.std.proofs.Common.{◌≡◌, drop, map}
-use Rattle.iodef_tree.specs.Tree.{end, member_front, elements}
-use Rattle.iodef_tree.specs.View.{forest, bodies, body, members_forest}
+use Rattle.{std.proofs.Common.{◌≡◌, drop, map}, iodef_tree.specs.{Tree.{end, member_front, elements}, View.{forest, bodies, body, members_forest}}}
 use Rattle.marking.specs.inner.Pass.{bad_below}
 use Rattle.marking.proofs.rule.+check.Given as goal
 

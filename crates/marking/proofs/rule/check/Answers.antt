@@ -1,7 +1,4 @@
-use Rattle.std.proofs.Common.{arith}
-use Rattle.std.proofs.lemmas.Grind.{common_steps}
-use Rattle.iodef_tree.specs.View.{forest}
-use Rattle.marking.proofs.Bad.{first_bad}
+use Rattle.{std.proofs.{Common.arith, lemmas.Grind.common_steps}, iodef_tree.specs.View.forest, marking.proofs.Bad.first_bad}
 use Rattle.marking.proofs.rule.check.Goals as goal
 
 pub returns-in-None : goal.returns-in-None

@@ -1,6 +1,4 @@
-use Rattle.std.proofs.Common.{◌≡◌, [], drop}
-use Rattle.policy.specs.Verdict.{first_of}
-use Rattle.policy.specs.Ahead.{refused_with}
+use Rattle.{std.proofs.Common.{◌≡◌, [], drop}, policy.specs.{Ahead.refused_with, Verdict.first_of}}
 use Rattle.policy.proofs.ahead.first_here.Given as goal
 
 abbrev pub invariant-loop-gate : goal.invariant-loop-gate

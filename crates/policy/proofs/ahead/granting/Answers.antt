@@ -1,5 +1,4 @@
-use Rattle.std.proofs.Common.{arith}
-use Rattle.std.proofs.lemmas.Grind.{common_steps}
+use Rattle.std.proofs.{Common.arith, lemmas.Grind.common_steps}
 use Rattle.policy.proofs.ahead.granting.Goals as goal
 
 pub loop-permission-preserved : goal.loop-permission-preserved

@@ -1,8 +1,5 @@
-use Rattle.std.proofs.Common.{◌≡◌, ◌||◌, drop}
-use Rattle.iodef_tree.specs.Text.{Tokens}
+use Rattle.{std.proofs.Common.{◌≡◌, ◌||◌, drop}, iodef_tree.specs.Text.Tokens, policy.{proofs.Onwards.granted_among, specs.Ahead.granted_with}}
 use Rattle.policy.specs.Inherited.{is_granted}
-use Rattle.policy.specs.Ahead.{granted_with}
-use Rattle.policy.proofs.Onwards.{granted_among}
 use Rattle.policy.proofs.ahead.granting.Given as goal
 
 abbrev pub invariant-loop-permission : goal.invariant-loop-permission

@@ -1,6 +1,4 @@
-use Rattle.std.proofs.Common.{◌≡◌, ◌∷◌, ◌||◌, drop}
-use Rattle.iodef_tree.specs.Text.{Tokens}
-use Rattle.policy.specs.Ahead.{granted_with}
+use Rattle.{std.proofs.Common.{◌≡◌, ◌∷◌, ◌||◌, drop}, iodef_tree.specs.Text.Tokens, policy.specs.Ahead.granted_with}
 use Rattle.policy.proofs.ahead.granting_below.Given as goal
 
 abbrev pub invariant-loop-permission : goal.invariant-loop-permission

@@ -1,5 +1,4 @@
-use Rattle.std.proofs.Common.{sym, ◌∙◌}
-use Rattle.policy.proofs.Onwards.{none-left}
+use Rattle.{std.proofs.Common.{sym, ◌∙◌}, policy.proofs.Onwards.none-left}
 use Rattle.policy.proofs.ahead.is_here.Goals as goal
 
 pub returns : goal.returns

@@ -1,8 +1,5 @@
-use Rattle.std.proofs.Common.{◌≡◌, ◌++◌, drop}
-use Rattle.iodef_tree.specs.Text.{Tokens}
+use Rattle.{std.proofs.Common.{◌≡◌, ◌++◌, drop}, iodef_tree.specs.Text.Tokens, policy.{proofs.Onwards.refusals_among, specs.Ahead.refused_with}}
 use Rattle.policy.specs.Verdict.{refusals_at}
-use Rattle.policy.specs.Ahead.{refused_with}
-use Rattle.policy.proofs.Onwards.{refusals_among}
 use Rattle.policy.proofs.ahead.refusing.Given as goal
 
 abbrev pub invariant-loop-gate : goal.invariant-loop-gate

@@ -1,6 +1,4 @@
-use Rattle.std.proofs.Common.{◌≡◌, ◌∷◌, ◌++◌, drop}
-use Rattle.iodef_tree.specs.Text.{Tokens}
-use Rattle.policy.specs.Ahead.{refused_with}
+use Rattle.{std.proofs.Common.{◌≡◌, ◌∷◌, ◌++◌, drop}, iodef_tree.specs.Text.Tokens, policy.specs.Ahead.refused_with}
 use Rattle.policy.proofs.ahead.refusing_below.Given as goal
 
 abbrev pub invariant-loop-gate : goal.invariant-loop-gate

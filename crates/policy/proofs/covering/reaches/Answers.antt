@@ -1,11 +1,6 @@
-use Rattle.std.proofs.Common.{◌≡◌, ◌++◌, ◌∷◌, [], ◌&&◌, ◌||◌, take, sym, ◌∙◌, ap, arith}
-use Rattle.std.specs.Prelude.{is_none}
-use Rattle.std.proofs.lemmas.List.{take_more}
-use Rattle.iodef_tree.specs.Text.{same_path}
-use Rattle.iodef_tree.specs.Paths.{located}
-use Rattle.marking.specs.Marks.{written_label}
+use Rattle.std.{proofs.{Common.{◌≡◌, ◌++◌, ◌∷◌, [], ◌&&◌, ◌||◌, take, sym, ◌∙◌, ap, arith}, lemmas.List.take_more}, specs.Prelude.is_none}
+use Rattle.{iodef_tree.specs.{Paths.located, Text.same_path}, marking.specs.Marks.written_label, policy.proofs.Reaches.{reaches-push, reaches-root}}
 use Rattle.policy.specs.Permissions.{reaches}
-use Rattle.policy.proofs.Reaches.{reaches-push, reaches-root}
 use Rattle.policy.proofs.covering.reaches.Goals as goal
 
 pub loop-token-init : goal.loop-token-init

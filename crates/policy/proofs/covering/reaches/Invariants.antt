@@ -1,6 +1,4 @@
-use Rattle.std.proofs.Common.{◌≡◌, take}
-use Rattle.iodef_tree.specs.Paths.{located}
-use Rattle.policy.specs.Permissions.{reaches}
+use Rattle.{std.proofs.Common.{◌≡◌, take}, iodef_tree.specs.Paths.located, policy.specs.Permissions.reaches}
 use Rattle.policy.proofs.covering.reaches.Given as goal
 
 abbrev pub invariant-loop-token : goal.invariant-loop-token

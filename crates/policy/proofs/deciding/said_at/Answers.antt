@@ -1,8 +1,5 @@
-use Rattle.std.proofs.Common.{◌≡◌, ◌≤◌, ◌<◌, ◌+◌, ◌++◌, ◌∷◌, [], take, length, sym, ◌∙◌, ap, subst, arith}
-use Rattle.std.proofs.lemmas.List.{length-take-le, take_all, take_more}
-use Rattle.iodef_tree.specs.Paths.{located}
-use Rattle.policy.specs.Ahead.{ahead_of}
-use Rattle.policy.specs.Inherited.{carried, inherited_at}
+use Rattle.std.proofs.{Common.{◌≡◌, ◌≤◌, ◌<◌, ◌+◌, ◌++◌, ◌∷◌, [], take, length, sym, ◌∙◌, ap, subst, arith}, lemmas.List.{length-take-le, take_all, take_more}}
+use Rattle.{iodef_tree.specs.Paths.located, policy.specs.{Ahead.ahead_of, Inherited.{carried, inherited_at}}}
 use Rattle.policy.proofs.deciding.said_at.Goals as goal
 
 pub loop-place-init : goal.loop-place-init

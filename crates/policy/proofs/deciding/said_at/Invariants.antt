@@ -1,7 +1,4 @@
-use Rattle.std.proofs.Common.{◌≡◌, take}
-use Rattle.iodef_tree.specs.Paths.{located}
-use Rattle.policy.specs.Ahead.{ahead_of, met_by}
-use Rattle.policy.specs.inner.Descent.{Reaches}
+use Rattle.{std.proofs.Common.{◌≡◌, take}, iodef_tree.specs.Paths.located, policy.specs.{Ahead.{ahead_of, met_by}, inner.Descent.Reaches}}
 use Rattle.policy.proofs.deciding.said_at.Given as goal
 
 abbrev pub invariant-loop-place : goal.invariant-loop-place

@@ -1,5 +1,4 @@
-use Rattle.std.proofs.Common.{refl}
-use Rattle.jiff.proofs.OnLiterals.{jiff_on_literals}
+use Rattle.{std.proofs.Common.refl, jiff.proofs.OnLiterals.jiff_on_literals}
 use Rattle.policy.proofs.examples.moments_are_read.Goals as goal
 
 pub returns : goal.returns

@@ -1,6 +1,4 @@
-use Rattle.std.proofs.Common.{◌∷◌, [], ◌++◌, refl}
-use Rattle.marking.specs.Marks.{written_label}
-use Rattle.policy.proofs.Steps.{at_root-is, enter_class-at, enter_array-at}
+use Rattle.{std.proofs.Common.{◌∷◌, [], ◌++◌, refl}, marking.specs.Marks.written_label, policy.proofs.Steps.{at_root-is, enter_class-at, enter_array-at}}
 use Rattle.policy.proofs.laws.steps_are_as_said.Goals as goal
 
 pub returns : goal.returns

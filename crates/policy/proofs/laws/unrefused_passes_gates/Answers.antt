@@ -1,6 +1,4 @@
-use Rattle.std.proofs.Common.{ap}
-use Rattle.std.specs.Prelude.{is_some}
-use Rattle.policy.proofs.Refusals.{passes-all}
+use Rattle.{std.{proofs.Common.ap, specs.Prelude.is_some}, policy.proofs.Refusals.passes-all}
 use Rattle.policy.proofs.laws.unrefused_passes_gates.Goals as goal
 
 pub returns : goal.returns

@@ -1,10 +1,5 @@
-use Rattle.std.proofs.Common.{length, sym, ◌∙◌, ap, arith}
-use Rattle.std.proofs.lemmas.List.{get_or_read}
-use Rattle.iodef_tree.specs.Text.{Bytes, bytes_lt}
-use Rattle.iodef_tree.specs.declared.object.Member.{Member}
-use Rattle.iodef_tree.specs.Filled.{IsMemberFilled}
-use Rattle.iodef_tree.proofs.Filled.{all-at, member-elements}
-use Rattle.redact.proofs.Filling.{put_split}
+use Rattle.{std.proofs.{Common.{length, sym, ◌∙◌, ap, arith}, lemmas.List.get_or_read}, iodef_tree.proofs.Filled.{all-at, member-elements}}
+use Rattle.{iodef_tree.specs.{Filled.IsMemberFilled, Text.{Bytes, bytes_lt}, declared.object.Member.Member}, redact.proofs.Filling.put_split}
 use Rattle.redact.proofs.attributes.place_for.Goals as goal
 
 pub returns-then-lt-clause-splits : goal.returns-then-lt-clause-splits

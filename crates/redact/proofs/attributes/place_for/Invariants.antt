@@ -1,6 +1,4 @@
-use Rattle.std.proofs.Common.{◌≡◌, ℕ, ◌<◌, get_or, false}
-use Rattle.iodef_tree.specs.Text.{Bytes, bytes_lt}
-use Rattle.iodef_tree.specs.declared.object.Member.{Member}
+use Rattle.{std.proofs.Common.{◌≡◌, ℕ, ◌<◌, get_or, false}, iodef_tree.specs.{Text.{Bytes, bytes_lt}, declared.object.Member.Member}}
 use Rattle.redact.proofs.attributes.place_for.Given as goal
 
 abbrev pub invariant-loop-i : goal.invariant-loop-i

@@ -1,8 +1,5 @@
-use Rattle.std.proofs.Common.{◌∙◌, ap, codes}
-use Rattle.iodef_tree.specs.View.{forest}
+use Rattle.{std.proofs.Common.{◌∙◌, ap, codes}, iodef_tree.specs.View.forest, marking.specs.Label.{marking_of, restriction_of}, redact.specs.Told.attributes_by}
 use Rattle.redact.specs.inner.Judged.{put_leaf, put_attributes, attribute_leaf}
-use Rattle.redact.specs.Told.{attributes_by}
-use Rattle.marking.specs.Label.{marking_of, restriction_of}
 use Rattle.redact.proofs.attributes.put_label.Goals as goal
 
 pub returns-in_ok-with_attribute-in-Some-clause-put : goal.returns-in_ok-with_attribute-in-Some-clause-put

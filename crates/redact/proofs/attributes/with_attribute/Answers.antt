@@ -1,16 +1,7 @@
-use Rattle.std.specs.List.{AllByRecursion}
-use Rattle.std.proofs.Common.{List, subst, ◌≡◌, ◌∷◌, take, drop, sym, ◌∙◌, ap}
-use Rattle.std.proofs.lemmas.List.{map-append}
-use Rattle.iodef_tree.specs.Text.{Bytes}
-use Rattle.iodef_tree.specs.Tree.{Bodies, one}
-use Rattle.iodef_tree.specs.View.{bodies, named}
-use Rattle.iodef_tree.specs.declared.object.Item.{Text}
-use Rattle.iodef_tree.specs.declared.object.Member.{Member, One}
-use Rattle.iodef_tree.specs.Filled.{IsMemberFilled}
-use Rattle.iodef_tree.proofs.Filled.{made-filled, members-filled, filled-One, filled-Text}
-use Rattle.redact.proofs.Filling.{inserted-filled}
-use Rattle.iodef_tree.proofs.Views.{forest-members, forest-made, bodies-One, body-Text}
-use Rattle.redact.specs.inner.Saying.{saying}
+use Rattle.std.{proofs.{Common.{List, subst, ◌≡◌, ◌∷◌, take, drop, sym, ◌∙◌, ap}, lemmas.List.map-append}, specs.List.AllByRecursion}
+use Rattle.iodef_tree.proofs.{Filled.{made-filled, members-filled, filled-One, filled-Text}, Views.{forest-members, forest-made, bodies-One, body-Text}}
+use Rattle.iodef_tree.specs.{Filled.IsMemberFilled, Text.Bytes, Tree.{Bodies, one}, View.{bodies, named}, declared.object.{Item.Text, Member.{Member, One}}}
+use Rattle.redact.{proofs.Filling.inserted-filled, specs.inner.Saying.saying}
 use Rattle.redact.proofs.attributes.with_attribute.Goals as goal
 
 pub returns-clause-put : goal.returns-clause-put

@@ -1,21 +1,9 @@
-use Rattle.std.proofs.Common.{◌≡◌, ◌<◌, List, [], ◌++◌, sym, ◌∙◌, ap, subst, arith, None}
-use Rattle.iodef_tree.specs.Tree.{lines}
-use Rattle.iodef_tree.specs.Paths.{located}
-use Rattle.iodef_tree.specs.Sound.{IsSound}
-use Rattle.iodef_tree.specs.View.{forest}
-use Rattle.marking.specs.Marks.{first_bad_marking}
-use Rattle.policy.specs.Inherited.{carried, at_root}
-use Rattle.policy.specs.declared.rule.Rule.{Rule}
-use Rattle.redact.specs.Withheld.{Withheld, is_among, at_place, withheld_in_order}
-use Rattle.redact.specs.inner.Left.{tells}
-use Rattle.redact.specs.inner.Judged.{root, withheld_below}
-use Rattle.redact.specs.inner.Pass.{pass}
-use Rattle.redact.specs.Told.{kept_outline, withheld_of, visible_count}
+use Rattle.{std.proofs.Common.{◌≡◌, ◌<◌, List, [], ◌++◌, sym, ◌∙◌, ap, subst, arith, None}, iodef_tree.specs.{Paths.located, Sound.IsSound, Tree.lines}}
+use Rattle.{iodef_tree.specs.View.forest, marking.specs.Marks.first_bad_marking, policy.specs.{Inherited.{carried, at_root}, declared.rule.Rule.Rule}}
+use Rattle.redact.proofs.{Promised.{excerpt-none, excerpt-some, told_as, told-is}, Survival.{markings-accepted, labels-survive}, Whole.excerpt-sound}
+use Rattle.redact.{proofs.Whole.{excerpt-lines, excerpt-told, excerpt-count}, specs.{Excerpts.LabelsSurvive, Told.{kept_outline, withheld_of, visible_count}}}
+use Rattle.redact.specs.{Withheld.{Withheld, is_among, at_place, withheld_in_order}, inner.{Judged.{root, withheld_below}, Left.tells, Pass.pass}}
 use Rattle.redact.specs.inner.Tokens.{path_of}
-use Rattle.redact.specs.Excerpts.{LabelsSurvive}
-use Rattle.redact.proofs.Promised.{excerpt-none, excerpt-some, told_as, told-is}
-use Rattle.redact.proofs.Survival.{markings-accepted, labels-survive}
-use Rattle.redact.proofs.Whole.{excerpt-sound, excerpt-lines, excerpt-told, excerpt-count}
 use Rattle.redact.proofs.document_excerpt.excerpt.Goals as goal
 
 pub returns-then-state-eq0-clause-told : goal.returns-then-state-eq0-clause-told

@@ -1,9 +1,5 @@
-use Rattle.std.proofs.Common.{◌≡◌, [], sym, ◌∙◌, ap}
-use Rattle.std.proofs.lemmas.List.{nil_from_length}
-use Rattle.std.proofs.lemmas.Option.{MatchOption-at_none}
-use Rattle.iodef_tree.specs.Text.{same_path}
-use Rattle.redact.specs.Sifted.{way}
-use Rattle.redact.proofs.Ends.{root-same}
+use Rattle.{std.proofs.{Common.{◌≡◌, [], sym, ◌∙◌, ap}, lemmas.{List.nil_from_length, Option.MatchOption-at_none}}, iodef_tree.specs.Text.same_path}
+use Rattle.redact.{proofs.Ends.root-same, specs.Sifted.way}
 use Rattle.redact.proofs.gate_refusals.+is_at.Goals as goal
 
 pub returns-in-None : goal.returns-in-None

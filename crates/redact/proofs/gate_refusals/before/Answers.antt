@@ -1,7 +1,5 @@
-use Rattle.std.proofs.Common.{rules, ◌≡◌, ◌&&◌, ◌++◌, ◌∷◌, [], true, false, length, bytes_eq, decimal, sym, ◌∙◌, ap}
-use Rattle.iodef_tree.specs.Text.{same_path}
-use Rattle.redact.proofs.Ends.{last-is, last-none, step-place}
-use Rattle.redact.proofs.gate_refusals.before.Goals.{in_default-via-in-Some+else-is_place, in_default-via-in_default}
+use Rattle.{std.proofs.Common.{rules, ◌≡◌, ◌&&◌, ◌++◌, ◌∷◌, [], true, false, length, bytes_eq, decimal, sym, ◌∙◌, ap}, iodef_tree.specs.Text.same_path}
+use Rattle.redact.proofs.{Ends.{last-is, last-none, step-place}, gate_refusals.before.Goals.{in_default-via-in-Some+else-is_place, in_default-via-in_default}}
 use Rattle.redact.proofs.gate_refusals.before.Goals as goal
 
 pub returns-in-Some : goal.returns-in-Some

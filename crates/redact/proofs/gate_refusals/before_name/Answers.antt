@@ -1,7 +1,5 @@
-use Rattle.std.proofs.Common.{rules, ◌≡◌, ◌&&◌, true, false, length, bytes_eq, sym, ◌∙◌, ap}
-use Rattle.iodef_tree.specs.Text.{same_path}
-use Rattle.redact.proofs.Ends.{last-is, last-none}
-use Rattle.redact.proofs.gate_refusals.before_name.Goals.{in_default-via-in-Some+else-eq, in_default-via-in_default}
+use Rattle.{std.proofs.Common.{rules, ◌≡◌, ◌&&◌, true, false, length, bytes_eq, sym, ◌∙◌, ap}, iodef_tree.specs.Text.same_path, redact.proofs.Ends.last-is}
+use Rattle.redact.proofs.{Ends.last-none, gate_refusals.before_name.Goals.{in_default-via-in-Some+else-eq, in_default-via-in_default}}
 use Rattle.redact.proofs.gate_refusals.before_name.Goals as goal
 
 pub returns-in-Some : goal.returns-in-Some

@@ -1,5 +1,4 @@
-use Rattle.std.proofs.Common.{◌∙◌}
-use Rattle.redact.proofs.Ends.{only-root}
+use Rattle.{std.proofs.Common.◌∙◌, redact.proofs.Ends.only-root}
 use Rattle.redact.proofs.gate_refusals.is_root.Goals as goal
 
 pub returns : goal.returns

@@ -1,6 +1,4 @@
-use Rattle.redact.proofs.Matters.{excerpt-same}
-use Rattle.redact.proofs.MattersMarked.{well-marked}
-use Rattle.redact.proofs.MattersLabels.{labels-of-all}
+use Rattle.redact.proofs.{Matters.excerpt-same, MattersLabels.labels-of-all, MattersMarked.well-marked}
 use Rattle.redact.proofs.laws.what_matters_is_told.Goals as goal
 
 pub returns : goal.returns

@@ -1,7 +1,5 @@
-use Rattle.std.proofs.Common.{◌≡◌, ◌-◌, List, [], ◌∷◌, length, slice_index_or, slice_set, refl, ap, sub-one, ◌∙◌}
-use Rattle.iodef_tree.specs.declared.line.Line.{Line}
-use Rattle.redact.specs.declared.marks.Marking.{Marking}
-use Rattle.redact.specs.Marked.{held_with, innermost_held_with}
+use Rattle.{std.proofs.Common.{◌≡◌, ◌-◌, List, [], ◌∷◌, length, slice_index_or, slice_set, refl, ap, sub-one, ◌∙◌}, iodef_tree.specs.declared.line.Line.Line}
+use Rattle.redact.specs.{Marked.{held_with, innermost_held_with}, declared.marks.Marking.Marking}
 use Rattle.redact.proofs.marks.hold.Goals as goal
 
 held-at_end : (l : Line) (x : Marking) (xs : List Marking) (d : Marking) → slice_set (x ∷ xs) (length xs) (held_with l (slice_index_or (x ∷ xs) (length xs) d)) ≡ innermost_held_with l (x ∷ xs)

@@ -1,9 +1,5 @@
-use Rattle.std.proofs.Common.{◌≡◌, ◌-◌, List, [], ◌∷◌, length, slice_index_or, slice_set, refl, ap, sub-one, ◌∙◌}
-use Rattle.iodef_tree.specs.declared.line.Line.{Line}
-use Rattle.redact.specs.declared.want.Want.{Want}
-use Rattle.policy.specs.declared.standing.Standing.{Standing}
-use Rattle.redact.specs.declared.open_classes.Sight.{Sight}
-use Rattle.redact.specs.declared.open_classes.Open.{Open}
+use Rattle.{std.proofs.Common.{◌≡◌, ◌-◌, List, [], ◌∷◌, length, slice_index_or, slice_set, refl, ap, sub-one, ◌∙◌}, iodef_tree.specs.declared.line.Line.Line}
+use Rattle.{policy.specs.declared.standing.Standing.Standing, redact.specs.declared.{open_classes.{Open.Open, Sight.Sight}, want.Want.Want}}
 use Rattle.redact.specs.inner.Seeking.{holding, innermost_holding}
 use Rattle.redact.proofs.open_classes.hold.Goals as goal
 

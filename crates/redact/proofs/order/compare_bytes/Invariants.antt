@@ -1,5 +1,4 @@
-use Rattle.std.proofs.Common.{◌≡◌, drop}
-use Rattle.redact.proofs.PrintedOrder.{in_order}
+use Rattle.{std.proofs.Common.{◌≡◌, drop}, redact.proofs.PrintedOrder.in_order}
 use Rattle.redact.proofs.order.compare_bytes.Given as goal
 
 abbrev pub invariant-loop-i : goal.invariant-loop-i

@@ -1,5 +1,4 @@
-use Rattle.std.proofs.Common.{rules, ◌≡◌, ◌++◌, ◌∷◌, sym, ◌∙◌, ap}
-use Rattle.redact.proofs.Taking.{fits-next}
+use Rattle.{std.proofs.Common.{rules, ◌≡◌, ◌++◌, ◌∷◌, sym, ◌∙◌, ap}, redact.proofs.Taking.fits-next}
 use Rattle.redact.proofs.outline_document.document_of.Goals as goal
 
 pub add-requires : goal.add-requires

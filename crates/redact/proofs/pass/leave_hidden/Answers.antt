@@ -1,7 +1,4 @@
-use Rattle.std.proofs.Common.{◌≡◌, sym, ◌∙◌, ◌++◌, ap, refl}
-use Rattle.redact.specs.Withheld.{at_place, with_rule}
-use Rattle.redact.specs.inner.Tokens.{path_of}
-use Rattle.redact.proofs.Filling.{object-end}
+use Rattle.{std.proofs.Common.{◌≡◌, sym, ◌∙◌, ◌++◌, ap, refl}, redact.{proofs.Filling.object-end, specs.{Withheld.{at_place, with_rule}, inner.Tokens.path_of}}}
 use Rattle.redact.proofs.pass.leave_hidden.Goals as goal
 
 pub returns-in_ok-tell-clause-left : goal.returns-in_ok-tell-clause-left

@@ -1,5 +1,4 @@
-use Rattle.std.proofs.Common.{take}
-use Rattle.redact.specs.inner.Left.{Tells}
+use Rattle.{std.proofs.Common.take, redact.specs.inner.Left.Tells}
 use Rattle.redact.proofs.pass.tell.Given as goal
 
 abbrev pub invariant-loop-rule : goal.invariant-loop-rule

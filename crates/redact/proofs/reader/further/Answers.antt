@@ -1,9 +1,5 @@
-use Rattle.std.proofs.Common.{◌≡◌, [], ◌∷◌, ◌++◌, sym, ◌∙◌, ap, append_assoc}
-use Rattle.iodef_tree.specs.Text.{Bytes, Tokens}
-use Rattle.policy.specs.Ahead.{Met, met_at, ahead_of, nothing_met}
-use Rattle.policy.specs.declared.standing.Standing.{Standing}
-use Rattle.policy.specs.declared.case.Case.{Case}
-use Rattle.redact.specs.inner.Tokens.{token_of}
+use Rattle.{std.proofs.Common.{◌≡◌, [], ◌∷◌, ◌++◌, sym, ◌∙◌, ap, append_assoc}, iodef_tree.specs.Text.{Bytes, Tokens}, policy.specs.Ahead.{Met, met_at}}
+use Rattle.{policy.specs.{Ahead.{ahead_of, nothing_met}, declared.{case.Case.Case, standing.Standing.Standing}}, redact.specs.inner.Tokens.token_of}
 use Rattle.redact.proofs.reader.further.Goals as goal
 
 -- if nothing can be met, nothing can be met further down

@@ -1,9 +1,5 @@
-use Rattle.std.proofs.Common.{◌∙◌, ap, option_map}
-use Rattle.std.proofs.lemmas.Result.{IfOk-weaker}
-use Rattle.iodef_tree.specs.View.{forest}
-use Rattle.policy.specs.Inherited.{carried}
-use Rattle.redact.specs.inner.Tokens.{path_of}
-use Rattle.redact.proofs.Searching.{found_all}
+use Rattle.{std.proofs.{Common.{◌∙◌, ap, option_map}, lemmas.Result.IfOk-weaker}, iodef_tree.specs.View.forest, policy.specs.Inherited.carried}
+use Rattle.redact.{proofs.Searching.found_all, specs.inner.Tokens.path_of}
 use Rattle.redact.proofs.search.found.Goals as goal
 
 pub returns : goal.returns

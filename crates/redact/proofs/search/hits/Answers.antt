@@ -1,9 +1,5 @@
-use Rattle.std.proofs.Common.{sym, ◌∙◌, ap, subst}
-use Rattle.iodef_tree.specs.View.{body}
-use Rattle.iodef_tree.proofs.Views.{body-Text}
-use Rattle.memchr.specs.Find.{FindsNeedle}
-use Rattle.redact.specs.inner.Search.{body_hits}
-use Rattle.redact.proofs.Needles.{finds_has}
+use Rattle.{std.proofs.Common.{sym, ◌∙◌, ap, subst}, iodef_tree.{proofs.Views.body-Text, specs.View.body}, memchr.specs.Find.FindsNeedle}
+use Rattle.redact.{proofs.Needles.finds_has, specs.inner.Search.body_hits}
 use Rattle.redact.proofs.search.hits.Goals as goal
 
 pub returns-in-Text : goal.returns-in-Text

@@ -1,5 +1,4 @@
-use Rattle.std.proofs.Common.{sym, ◌∙◌, arith}
-use Rattle.redact.proofs.Searching.{hit_next}
+use Rattle.{std.proofs.Common.{sym, ◌∙◌, arith}, redact.proofs.Searching.hit_next}
 use Rattle.redact.proofs.search.holds.Goals as goal
 
 pub returns-then-member_hits : goal.returns-then-member_hits

@@ -1,6 +1,4 @@
-use Rattle.std.proofs.Common.{◌≡◌, drop}
-use Rattle.iodef_tree.specs.View.{forest, members_forest}
-use Rattle.redact.specs.inner.Search.{members_hit}
+use Rattle.{std.proofs.Common.{◌≡◌, drop}, iodef_tree.specs.View.{forest, members_forest}, redact.specs.inner.Search.members_hit}
 use Rattle.redact.proofs.search.holds.Given as goal
 
 abbrev pub invariant-loop-member : goal.invariant-loop-member

@@ -1,11 +1,6 @@
-use Rattle.std.proofs.Common.{sym, ◌∙◌, ap, rules, tests}
-use Rattle.std.proofs.lemmas.Iterator.{YieldsList-from_slice}
-use Rattle.std.proofs.lemmas.Iterator.Search.{any_from_yields_List}
-use Rattle.iodef_tree.specs.View.{body, bodies}
-use Rattle.iodef_tree.specs.declared.object.Item.{Item}
-use Rattle.iodef_tree.proofs.Views.{bodies-Many}
+use Rattle.std.proofs.{Common.{sym, ◌∙◌, ap, rules, tests}, lemmas.Iterator.{YieldsList-from_slice, Search.any_from_yields_List}}
+use Rattle.{iodef_tree.{proofs.Views.bodies-Many, specs.{View.{body, bodies}, declared.object.Item.Item}}, redact.proofs.Searching.any_map}
 use Rattle.redact.specs.inner.Search.{body_hits, bodies_hit}
-use Rattle.redact.proofs.Searching.{any_map}
 use Rattle.redact.proofs.search.member_hits.Goals as goal
 
 pub returns-in-Many : goal.returns-in-Many

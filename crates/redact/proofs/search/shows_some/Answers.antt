@@ -1,9 +1,5 @@
-use Rattle.std.proofs.Common.{◌∙◌, ap}
-use Rattle.std.proofs.lemmas.Result.{IfOk-weaker}
-use Rattle.iodef_tree.specs.View.{forest}
-use Rattle.policy.specs.Inherited.{carried}
-use Rattle.redact.specs.inner.Tokens.{path_of}
-use Rattle.redact.proofs.Searching.{listed_all}
+use Rattle.{std.proofs.{Common.{◌∙◌, ap}, lemmas.Result.IfOk-weaker}, iodef_tree.specs.View.forest, policy.specs.Inherited.carried}
+use Rattle.redact.{proofs.Searching.listed_all, specs.inner.Tokens.path_of}
 use Rattle.redact.proofs.search.shows_some.Goals as goal
 
 pub returns : goal.returns

@@ -1,10 +1,5 @@
-use Rattle.std.proofs.Common.{◌≡◌, List, ◌∙◌}
-use Rattle.std.proofs.lemmas.Result.{IfOk-weaker}
-use Rattle.std.specs.List.{dedup}
-use Rattle.std.proofs.lemmas.List.Filters.{dedup_is}
-use Rattle.redact.specs.Withheld.{Withheld, same_withheld}
-use Rattle.redact.proofs.Listing.{lists-dedup}
-use Rattle.redact.proofs.InOrder.{listed_in_order}
+use Rattle.{std.{proofs.{Common.{◌≡◌, List, ◌∙◌}, lemmas.{List.Filters.dedup_is, Result.IfOk-weaker}}, specs.List.dedup}, redact.proofs.InOrder.listed_in_order}
+use Rattle.redact.{proofs.Listing.lists-dedup, specs.Withheld.{Withheld, same_withheld}}
 use Rattle.redact.proofs.sorted_withheld.sorted_withheld.Goals as goal
 
 pub returns : goal.returns

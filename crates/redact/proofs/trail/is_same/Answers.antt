@@ -1,6 +1,4 @@
-use Rattle.std.proofs.Common.{sym, ◌∙◌, ap, bytes_eq, decimal, rules}
-use Rattle.redact.specs.inner.Tokens.{token_of}
-use Rattle.redact.proofs.Alike.{places-alike}
+use Rattle.{std.proofs.Common.{sym, ◌∙◌, ap, bytes_eq, decimal, rules}, redact.{proofs.Alike.places-alike, specs.inner.Tokens.token_of}}
 use Rattle.redact.proofs.trail.is_same.Goals as goal
 
 pub returns-in-Index-Index : goal.returns-in-Index-Index

@@ -1,5 +1,4 @@
-use Rattle.std.proofs.Common.{◌≡◌, take}
-use Rattle.redact.specs.inner.Tokens.{path_of}
+use Rattle.{std.proofs.Common.{◌≡◌, take}, redact.specs.inner.Tokens.path_of}
 use Rattle.redact.proofs.trail.path_at.Given as goal
 
 abbrev pub invariant-loop-token : goal.invariant-loop-token

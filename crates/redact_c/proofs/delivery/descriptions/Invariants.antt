@@ -1,6 +1,4 @@
-use Rattle.std.proofs.Common.{◌≡◌, ℕ, List, map, take}
-use Rattle.std.specs.Borrow.{Bor}
-use Rattle.redact_c.specs.Delivery.{descriptions_of}
+use Rattle.{std.{proofs.Common.{◌≡◌, ℕ, List, map, take}, specs.Borrow.Bor}, redact_c.specs.Delivery.descriptions_of}
 use Rattle.redact_c.proofs.delivery.descriptions.Given as goal
 
 abbrev pub invariant-loop-one : goal.invariant-loop-one

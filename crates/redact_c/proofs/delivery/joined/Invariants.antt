@@ -1,7 +1,4 @@
-use Rattle.std.proofs.Common.{◌≡◌, take}
-use Rattle.std.specs.List.{flat_map}
-use Rattle.redaction.specs.Answers.{texts_by}
-use Rattle.redact_c.specs.Delivery.{text_of}
+use Rattle.{std.{proofs.Common.{◌≡◌, take}, specs.List.flat_map}, redaction.specs.Answers.texts_by, redact_c.specs.Delivery.text_of}
 use Rattle.redact_c.proofs.delivery.joined.Given as goal
 
 abbrev pub invariant-loop-answer : goal.invariant-loop-answer

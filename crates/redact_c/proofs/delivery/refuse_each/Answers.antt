@@ -1,5 +1,4 @@
-use Rattle.std.proofs.Common.{arith}
-use Rattle.redact_c.proofs.Several.{refuse-step}
+use Rattle.{std.proofs.Common.arith, redact_c.proofs.Several.refuse-step}
 use Rattle.redact_c.proofs.delivery.refuse_each.Goals as goal
 
 pub loop-one-preserved : goal.loop-one-preserved

@@ -1,5 +1,4 @@
-use Rattle.std.proofs.Common.{◌≡◌, ◌++◌, map, take, drop}
-use Rattle.redact_c.specs.Delivery.{refused}
+use Rattle.{std.proofs.Common.{◌≡◌, ◌++◌, map, take, drop}, redact_c.specs.Delivery.refused}
 use Rattle.redact_c.proofs.delivery.refuse_each.Given as goal
 
 abbrev pub invariant-loop-one : goal.invariant-loop-one

@@ -1,5 +1,4 @@
-use Rattle.std.proofs.Common.{arith}
-use Rattle.redact_c.proofs.Several.{tell-step}
+use Rattle.{std.proofs.Common.arith, redact_c.proofs.Several.tell-step}
 use Rattle.redact_c.proofs.delivery.tell_each.Goals as goal
 
 pub loop-i-preserved : goal.loop-i-preserved

@@ -1,6 +1,4 @@
-use Rattle.std.proofs.Common.{◌≡◌, ◌++◌, take, drop}
-use Rattle.redaction.specs.Answers.{texts_by}
-use Rattle.redact_c.specs.Delivery.{told_each}
+use Rattle.{std.proofs.Common.{◌≡◌, ◌++◌, take, drop}, redaction.specs.Answers.texts_by, redact_c.specs.Delivery.told_each}
 use Rattle.redact_c.proofs.delivery.tell_each.Given as goal
 
 abbrev pub invariant-loop-i : goal.invariant-loop-i

@@ -1,5 +1,4 @@
-use Rattle.std.proofs.Common.{◌≡◌, List, ℕ, [], Option, None, Ok, IfSome, rules, ap, subst}
-use Rattle.redact_program.specs.Outcomes.{file_named, file_read}
+use Rattle.{std.proofs.Common.{◌≡◌, List, ℕ, [], Option, None, Ok, IfSome, rules, ap, subst}, redact_program.specs.Outcomes.{file_named, file_read}}
 use Rattle.redact_program.specs.Streams.{Given}
 use Rattle.redact_program.proofs.cli.read_view.Goals as goal
 

@@ -1,5 +1,4 @@
-use Rattle.std.proofs.Common.{◌≡◌, ◌++◌, List, ℕ}
-use Rattle.std.specs.Io.KnownBytes.{Appends}
+use Rattle.std.{proofs.Common.{◌≡◌, ◌++◌, List, ℕ}, specs.Io.KnownBytes.Appends}
 use Rattle.redact_program.proofs.output.put.Given as goal
 
 abbrev pub invariant-loop : goal.invariant-loop

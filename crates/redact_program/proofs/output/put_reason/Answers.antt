@@ -1,7 +1,4 @@
-use Rattle.std.proofs.Common.{◌≡◌, List, ℕ, rules, subst}
-use Rattle.redact_program.specs.Streams.{AppendsSome}
-use Rattle.redact_program.specs.Troubles.{trouble_reason}
-use Rattle.redact_program.proofs.Writing.{begins_longer}
+use Rattle.{std.proofs.Common.{◌≡◌, List, ℕ, rules, subst}, redact_program.{proofs.Writing.begins_longer, specs.{Streams.AppendsSome, Troubles.trouble_reason}}}
 use Rattle.redact_program.proofs.output.put_reason.Goals as goal
 
 pub returns-in-Err : goal.returns-in-Err

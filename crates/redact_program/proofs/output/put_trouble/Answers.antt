@@ -1,7 +1,5 @@
-use Rattle.std.proofs.Common.{◌≡◌, ◌++◌, List, ℕ, codes, rules, subst}
-use Rattle.redact_program.specs.Streams.{AppendsSome}
+use Rattle.{std.proofs.Common.{◌≡◌, ◌++◌, List, ℕ, codes, rules, subst}, redact_program.{proofs.Writing.begins_longer, specs.Streams.AppendsSome}}
 use Rattle.redact_program.specs.Troubles.{trouble_name}
-use Rattle.redact_program.proofs.Writing.{begins_longer}
 use Rattle.redact_program.proofs.output.put_trouble.Goals as goal
 
 pub returns-in-Err : goal.returns-in-Err

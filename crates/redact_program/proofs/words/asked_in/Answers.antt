@@ -1,6 +1,5 @@
-use Rattle.std.proofs.Common.{◌≡◌, List, Option, Some, None, option_map, rules, subst, IsSomeAnd}
-use Rattle.clap.specs.Words.{Row, Text, found_of, rows_of, subcommand_name_of, subcommand_rows_of}
-use Rattle.redact_program.specs.Words.{AsksBy}
+use Rattle.{std.proofs.Common.{◌≡◌, List, Option, Some, None, option_map, rules, subst, IsSomeAnd}, clap.specs.Words.{Row, Text, found_of, rows_of}}
+use Rattle.{clap.specs.Words.{subcommand_name_of, subcommand_rows_of}, redact_program.specs.Words.AsksBy}
 use Rattle.redact_program.proofs.words.asked_in.Goals as goal
 
 -- a name and rows that are read apart are read together

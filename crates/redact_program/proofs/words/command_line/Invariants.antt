@@ -1,5 +1,4 @@
-use Rattle.std.proofs.Common.{◌≡◌, map, take, string_bytes}
-use Rattle.redact_program.specs.Words.{line_of}
+use Rattle.{std.proofs.Common.{◌≡◌, map, take, string_bytes}, redact_program.specs.Words.line_of}
 use Rattle.redact_program.proofs.words.command_line.Given as goal
 
 abbrev pub invariant-loop-word : goal.invariant-loop-word

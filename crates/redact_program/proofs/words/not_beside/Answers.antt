@@ -1,8 +1,5 @@
-use Rattle.std.proofs.Common.{Result, Ok, Err, IfOk, List, ℕ, Bor, [], ◌∷◌}
-use Rattle.clap.specs.Words.{AddsConflicts, Rule}
-use Rattle.clap.specs.declared.builder.Arg.{Arg}
-use Rattle.redact_program.specs.Words.{IsArg, bound}
-use Rattle.redact_program.proofs.Commands.{conflicts}
+use Rattle.{std.proofs.Common.{Result, Ok, Err, IfOk, List, ℕ, Bor, [], ◌∷◌}, clap.specs.{Words.{AddsConflicts, Rule}, declared.builder.Arg.Arg}}
+use Rattle.redact_program.{proofs.Commands.conflicts, specs.Words.{IsArg, bound}}
 use Rattle.redact_program.proofs.words.not_beside.Goals as goal
 
 conflicting : {E : Type 0} (old : Arg) (x : Bor (List ℕ)) (rule : Rule) (r : Result Arg E) → IfOk r (λ new. AddsConflicts old new (x ∷ []))

@@ -1,5 +1,4 @@
-use Rattle.std.proofs.Common.{refl}
-use Rattle.redact_program.specs.Words.{excerpt_command, explain_command, finds_command, marks_command}
+use Rattle.{std.proofs.Common.refl, redact_program.specs.Words.{excerpt_command, explain_command, finds_command, marks_command}}
 use Rattle.redact_program.proofs.words.program.Goals as goal
 
 pub returns : goal.returns

@@ -1,7 +1,5 @@
-use Rattle.std.proofs.Common.{◌≡◌, ◌∙◌, List, IfOk, Option, map, true, refl, ap, subst}
-use Rattle.clap.specs.Words.{App, Row, Text, app_of, is_simple, subcommand_of, subcommand_rows_of}
-use Rattle.clap.proofs.OnLiterals.{clap_on_literals}
-use Rattle.redact_program.specs.Words.{AsksFor, program}
+use Rattle.{std.proofs.Common.{◌≡◌, ◌∙◌, List, IfOk, Option, map, true, refl, ap, subst}, clap.{proofs.OnLiterals.clap_on_literals, specs.Words.{App, Row}}}
+use Rattle.{clap.specs.Words.{Text, app_of, is_simple, subcommand_of, subcommand_rows_of}, redact_program.specs.Words.{AsksFor, program}}
 use Rattle.redact_program.proofs.words.read_words.Goals as goal
 
 simple : is_simple program ≡ true

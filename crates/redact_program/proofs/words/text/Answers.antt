@@ -1,6 +1,5 @@
-use Rattle.std.proofs.Common.{◌≡◌, ◌∙◌, List, ℕ, Option, Some, None, option_map, option_copied, Bor, refl}
+use Rattle.{std.proofs.Common.{◌≡◌, ◌∙◌, List, ℕ, Option, Some, None, option_map, option_copied, Bor, refl}, clap.proofs.WalkLemmas.first_value-rows}
 use Rattle.clap.specs.Words.{found_of}
-use Rattle.clap.proofs.WalkLemmas.{first_value-rows}
 use Rattle.redact_program.proofs.words.text.Goals as goal
 
 copied : (o : Option (Bor (List ℕ))) → option_copied o ≡ option_map (λ s. s.now) o

@@ -1,8 +1,5 @@
-use Rattle.std.proofs.Common.{IfOk, Result, subst}
-use Rattle.std.specs.declared.alloc.AllocError.{AllocError}
-use Rattle.clap.specs.declared.builder.Command.{Command}
-use Rattle.redact_program.specs.Words.{IsCommand}
-use Rattle.redact_program.proofs.Commands.{adds_command}
+use Rattle.{std.{proofs.Common.{IfOk, Result, subst}, specs.declared.alloc.AllocError.AllocError}, clap.specs.declared.builder.Command.Command}
+use Rattle.redact_program.{proofs.Commands.adds_command, specs.Words.IsCommand}
 use Rattle.redact_program.proofs.words.with.Goals as goal
 
 pub returns : goal.returns

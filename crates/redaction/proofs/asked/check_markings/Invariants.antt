@@ -1,6 +1,4 @@
-use Rattle.std.proofs.Common.{◌≡◌, drop}
-use Rattle.std.specs.List.{list_all}
-use Rattle.redaction.specs.Asked.{is_well_marked}
+use Rattle.{std.{proofs.Common.{◌≡◌, drop}, specs.List.list_all}, redaction.specs.Asked.is_well_marked}
 use Rattle.redaction.proofs.asked.check_markings.Given as goal
 
 abbrev pub invariant-loop-document : goal.invariant-loop-document

@@ -1,14 +1,7 @@
-use Rattle.json.specs.Print.{quoted, token_text}
-use Rattle.json.specs.Token.{boolean}
-use Rattle.serde_json.specs.Data.{object, array}
-use Rattle.serde_json.specs.View.{items_of}
-use Rattle.serde_json.specs.Written.{compact_text}
-use Rattle.iodef_tree.specs.Json.{data_of}
-use Rattle.std.proofs.Common.{codes, decimal, map, refl, ap, ◌∙◌}
-use Rattle.json_text.proofs.Objects.{begins, holds-more, holds-named, ends}
-use Rattle.redaction.specs.Answers.{withheld_pair}
+use Rattle.{std.proofs.Common.{codes, decimal, map, refl, ap, ◌∙◌}, json.specs.{Print.{quoted, token_text}, Token.boolean}, serde_json.specs.Data.object}
+use Rattle.{serde_json.specs.{Data.array, View.items_of, Written.compact_text}, iodef_tree.specs.Json.data_of, json_text.proofs.Objects.{begins, holds-more}}
+use Rattle.{json_text.proofs.Objects.{holds-named, ends}, redaction.specs.{Answers.withheld_pair, Readable.is_readable}}
 use Rattle.redaction.specs.Highest as spec
-use Rattle.redaction.specs.Readable.{is_readable}
 use Rattle.redaction.proofs.body.put_excerpt.Goals as goal
 
 pub returns-clause-puts : goal.returns-clause-puts

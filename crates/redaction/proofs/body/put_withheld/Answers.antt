@@ -1,8 +1,5 @@
-use Rattle.std.proofs.Common.{◌++◌}
-use Rattle.serde_json.specs.Written.{comma_if, compact_text}
-use Rattle.json_text.proofs.Puts.{ok-both-are}
-use Rattle.json_text.proofs.Lists.{array-begins, element-more, array-ends}
-use Rattle.redaction.specs.Answers.{withheld_pair}
+use Rattle.{std.proofs.Common.◌++◌, serde_json.specs.Written.{comma_if, compact_text}, json_text.proofs.Lists.{array-begins, element-more, array-ends}}
+use Rattle.{json_text.proofs.Puts.ok-both-are, redaction.specs.Answers.withheld_pair}
 use Rattle.redaction.proofs.body.put_withheld.Goals as goal
 
 pub loop-pair-init : goal.loop-pair-init

@@ -1,6 +1,4 @@
-use Rattle.std.proofs.Common.{◌≡◌, drop}
-use Rattle.json.specs.Value.{items_view}
-use Rattle.redaction.specs.Described.{some_says_end}
+use Rattle.{std.proofs.Common.{◌≡◌, drop}, json.specs.Value.items_view, redaction.specs.Described.some_says_end}
 use Rattle.redaction.proofs.case.some_says_end.Given as goal
 
 abbrev pub invariant-loop-item : goal.invariant-loop-item

@@ -1,7 +1,4 @@
-use Rattle.std.proofs.Common.{[], ap, option_map, unwrap_or}
-use Rattle.redaction.specs.Answers.{whole_by_view}
-use Rattle.redaction.specs.Outcome.{◌>>=◌}
-use Rattle.redaction.specs.Whole.{named, whole_of}
+use Rattle.{std.proofs.Common.{[], ap, option_map, unwrap_or}, redaction.specs.{Answers.whole_by_view, Outcome.◌>>=◌, Whole.{named, whole_of}}}
 use Rattle.redaction.proofs.excerpting.whole_for.Goals as goal
 
 pub returns : goal.returns

@@ -1,8 +1,5 @@
-use Rattle.std.proofs.Common.{sym, ap, subst, ◌∙◌}
-use Rattle.redaction.specs.Answers.{pointer_of}
-use Rattle.redaction.specs.Described.{described}
-use Rattle.redaction.specs.Outcome.{Yields, both}
-use Rattle.redaction.proofs.Beside.{beside-yields}
+use Rattle.{std.proofs.Common.{sym, ap, subst, ◌∙◌}, redaction.{proofs.Beside.beside-yields, specs.{Answers.pointer_of, Described.described, Outcome.Yields}}}
+use Rattle.redaction.specs.Outcome.{both}
 use Rattle.redaction.proofs.explaining.words_of.Goals as goal
 
 pub returns : goal.returns

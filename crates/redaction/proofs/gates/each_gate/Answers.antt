@@ -1,9 +1,5 @@
-use Rattle.std.proofs.Common.{◌+◌, ap, ap₂, ◌∙◌}
-use Rattle.redaction.specs.Described.{gate_in}
-use Rattle.redaction.specs.Readings.{at}
-use Rattle.redaction.specs.declared.place.Step.TheVariants.{Item}
-use Rattle.redaction.specs.inner.SoFar.{unless}
-use Rattle.redaction.proofs.SoFar.{item-read, items-end}
+use Rattle.{std.proofs.Common.{◌+◌, ap, ap₂, ◌∙◌}, redaction.{proofs.SoFar.{item-read, items-end}, specs.{Described.gate_in, Readings.at}}}
+use Rattle.redaction.specs.{declared.place.Step.TheVariants.Item, inner.SoFar.unless}
 use Rattle.redaction.proofs.gates.each_gate.Goals as goal
 
 pub loop-item-preserved : goal.loop-item-preserved

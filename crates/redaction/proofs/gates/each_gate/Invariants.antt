@@ -1,8 +1,4 @@
-use Rattle.std.proofs.Common.{◌≡◌, drop}
-use Rattle.json.specs.Value.{items_view}
-use Rattle.redaction.specs.Values.{each, each_from}
-use Rattle.redaction.specs.Described.{gate_in}
-use Rattle.redaction.proofs.SoFar.{joined}
+use Rattle.{std.proofs.Common.{◌≡◌, drop}, json.specs.Value.items_view, redaction.{proofs.SoFar.joined, specs.{Described.gate_in, Values.{each, each_from}}}}
 use Rattle.redaction.proofs.gates.each_gate.Given as goal
 
 abbrev pub invariant-loop-item : goal.invariant-loop-item

@@ -1,5 +1,4 @@
-use Rattle.std.proofs.Common.{◌≡◌, drop}
-use Rattle.redaction.specs.Described.{has_alike, same_place}
+use Rattle.{std.proofs.Common.{◌≡◌, drop}, redaction.specs.Described.{has_alike, same_place}}
 use Rattle.redaction.proofs.gates.has_alike.Given as goal
 
 abbrev pub invariant-loop-gate : goal.invariant-loop-gate

@@ -1,6 +1,4 @@
-use Rattle.std.proofs.Common.{◌≡◌, ◌+◌, ◌≤◌, drop}
-use Rattle.json.specs.Value.{items_view}
-use Rattle.redaction.specs.Described.{root_gates}
+use Rattle.{std.proofs.Common.{◌≡◌, ◌+◌, ◌≤◌, drop}, json.specs.Value.items_view, redaction.specs.Described.root_gates}
 use Rattle.redaction.proofs.gates.root_gates.Given as goal
 
 abbrev pub invariant-loop-item : goal.invariant-loop-item

@@ -1,6 +1,4 @@
-use Rattle.std.proofs.Common.{arith, rules}
-use Rattle.iodef_tree.specs.declared.object.Object.{the_lemmas}
-use Rattle.iodef_tree.proofs.Filled.{member-at, element-at}
+use Rattle.{std.proofs.Common.{arith, rules}, iodef_tree.{proofs.Filled.{member-at, element-at}, specs.declared.object.Object.the_lemmas}}
 use Rattle.redaction.proofs.SpelledLabels.{strictest_steps}
 use Rattle.redaction.proofs.highest.+strictest.Goals as goal
 

@@ -1,6 +1,5 @@
-use Rattle.std.proofs.Common.{◌≡◌, drop, map}
-use Rattle.iodef_tree.specs.View.{forest, bodies, body, members_forest}
-use Rattle.redaction.specs.inner.Labels.{strictest_in, strictest_among, strictest_of}
+use Rattle.{std.proofs.Common.{◌≡◌, drop, map}, iodef_tree.specs.View.{forest, bodies, body, members_forest}, redaction.specs.inner.Labels.strictest_in}
+use Rattle.redaction.specs.inner.Labels.{strictest_among, strictest_of}
 use Rattle.redaction.proofs.highest.+strictest.Given as goal
 
 abbrev pub invariant-strictest_in-loop-name : goal.invariant-strictest_in-loop-name

@@ -1,5 +1,4 @@
-use Rattle.std.proofs.Common.{arith}
-use Rattle.redaction.proofs.TreeIncidents.{low_steps}
+use Rattle.{std.proofs.Common.arith, redaction.proofs.TreeIncidents.low_steps}
 use Rattle.redaction.proofs.limits.+depth.Goals as goal
 
 pub is_low-loop-name-preserved : goal.is_low-loop-name-preserved

@@ -1,6 +1,4 @@
-use Rattle.std.proofs.Common.{◌≡◌, drop, map, nat_le}
-use Rattle.iodef_tree.specs.Tree.{height}
-use Rattle.iodef_tree.specs.View.{forest, bodies, body, members_forest}
+use Rattle.{std.proofs.Common.{◌≡◌, drop, map, nat_le}, iodef_tree.specs.{Tree.height, View.{forest, bodies, body, members_forest}}}
 use Rattle.redaction.specs.inner.Trees.{tallest, bodies_height}
 use Rattle.redaction.proofs.limits.+depth.Given as goal
 

@@ -1,5 +1,4 @@
-use Rattle.std.proofs.Common.{arith}
-use Rattle.iodef_tree.proofs.Counts.{counting}
+use Rattle.{std.proofs.Common.arith, iodef_tree.proofs.Counts.counting}
 use Rattle.redaction.proofs.limits.+room.Goals as goal
 
 pub member_room-returns-in_err-left-in-Many-clause-none : goal.member_room-returns-in_err-left-in-Many-clause-none

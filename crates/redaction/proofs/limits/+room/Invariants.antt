@@ -1,6 +1,5 @@
-use Rattle.std.proofs.Common.{◌≡◌, ◌+◌, drop, map, sum_by}
-use Rattle.iodef_tree.specs.inner.FitValues.{line_count, bodies_count, body_count}
-use Rattle.iodef_tree.specs.View.{forest, bodies, body, members_forest}
+use Rattle.{std.proofs.Common.{◌≡◌, ◌+◌, drop, map, sum_by}, iodef_tree.specs.{View.{forest, bodies, body, members_forest}, inner.FitValues.line_count}}
+use Rattle.iodef_tree.specs.inner.FitValues.{bodies_count, body_count}
 use Rattle.redaction.proofs.limits.+room.Given as goal
 
 abbrev pub invariant-member_room-loop-item : goal.invariant-member_room-loop-item

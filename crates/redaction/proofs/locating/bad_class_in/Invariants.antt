@@ -1,5 +1,4 @@
-use Rattle.std.proofs.Common.{◌≡◌, drop}
-use Rattle.redaction.specs.Locating.{bad_class_from}
+use Rattle.{std.proofs.Common.{◌≡◌, drop}, redaction.specs.Locating.bad_class_from}
 use Rattle.redaction.proofs.locating.bad_class_in.Given as goal
 
 abbrev pub invariant-loop-document : goal.invariant-loop-document

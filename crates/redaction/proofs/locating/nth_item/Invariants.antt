@@ -1,6 +1,4 @@
-use Rattle.std.proofs.Common.{◌≡◌, drop}
-use Rattle.json.specs.Value.{items_view}
-use Rattle.redaction.specs.Places.{nth_item}
+use Rattle.{std.proofs.Common.{◌≡◌, drop}, json.specs.Value.items_view, redaction.specs.Places.nth_item}
 use Rattle.redaction.proofs.locating.nth_item.Given as goal
 
 abbrev pub invariant-loop-item : goal.invariant-loop-item

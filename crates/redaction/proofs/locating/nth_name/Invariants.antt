@@ -1,6 +1,4 @@
-use Rattle.std.proofs.Common.{◌≡◌, drop}
-use Rattle.json.specs.Value.{members_view}
-use Rattle.redaction.specs.Places.{nth_name}
+use Rattle.{std.proofs.Common.{◌≡◌, drop}, json.specs.Value.members_view, redaction.specs.Places.nth_name}
 use Rattle.redaction.proofs.locating.nth_name.Given as goal
 
 abbrev pub invariant-loop-name : goal.invariant-loop-name

@@ -1,7 +1,4 @@
-use Rattle.std.proofs.Common.{◌≡◌, drop, not}
-use Rattle.std.specs.List.{position_from}
-use Rattle.iodef_tree.specs.Paths.{located}
-use Rattle.redaction.specs.Asked.{gate_stands}
+use Rattle.{std.{proofs.Common.{◌≡◌, drop, not}, specs.List.position_from}, iodef_tree.specs.Paths.located, redaction.specs.Asked.gate_stands}
 use Rattle.redaction.proofs.locating.stray_gate.Given as goal
 
 abbrev pub invariant-loop-gate : goal.invariant-loop-gate

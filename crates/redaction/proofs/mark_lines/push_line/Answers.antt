@@ -1,8 +1,5 @@
-use Rattle.std.proofs.Common.{◌≡◌, [], ◌∷◌, ◌++◌, sym, ◌∙◌, ap, append_assoc}
-use Rattle.std.specs.Prelude.{None, string_bytes}
-use Rattle.json.specs.Print.{quoted}
-use Rattle.iodef_tree.specs.Text.{Bytes}
-use Rattle.marking.specs.Label.{marking_of, text_of, handling_of, name_of}
+use Rattle.{std.{proofs.Common.{◌≡◌, [], ◌∷◌, ◌++◌, sym, ◌∙◌, ap, append_assoc}, specs.Prelude.{None, string_bytes}}, json.specs.Print.quoted}
+use Rattle.{iodef_tree.specs.Text.Bytes, marking.specs.Label.{marking_of, text_of, handling_of, name_of}}
 use Rattle.redaction.proofs.mark_lines.push_line.Goals as goal
 
 -- the cells, one behind another, are the array

@@ -1,5 +1,4 @@
-use Rattle.std.proofs.Common.{◌≡◌, drop}
-use Rattle.redaction.specs.Moments.{behind}
+use Rattle.{std.proofs.Common.{◌≡◌, drop}, redaction.specs.Moments.behind}
 use Rattle.redaction.proofs.moment.behind.Given as goal
 
 abbrev pub invariant-loop-byte : goal.invariant-loop-byte

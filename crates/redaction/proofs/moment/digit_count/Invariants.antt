@@ -1,6 +1,4 @@
-use Rattle.std.proofs.Common.{◌≡◌, drop, not}
-use Rattle.std.specs.List.{position_from}
-use Rattle.std.specs.Char.{is_ascii_digit}
+use Rattle.std.{proofs.Common.{◌≡◌, drop, not}, specs.{Char.is_ascii_digit, List.position_from}}
 use Rattle.redaction.proofs.moment.digit_count.Given as goal
 
 abbrev pub invariant-loop-byte : goal.invariant-loop-byte

@@ -1,8 +1,5 @@
-use Rattle.std.proofs.Common.{◌≡◌, drop}
-use Rattle.json.specs.Value.{items_view}
-use Rattle.redaction.specs.Values.{each, each_from}
-use Rattle.redaction.specs.Described.{permission_in}
-use Rattle.redaction.proofs.SoFar.{joined}
+use Rattle.{std.proofs.Common.{◌≡◌, drop}, json.specs.Value.items_view, redaction.{proofs.SoFar.joined, specs.{Described.permission_in, Values.each}}}
+use Rattle.redaction.specs.Values.{each_from}
 use Rattle.redaction.proofs.permissions.each_permission.Given as goal
 
 abbrev pub invariant-loop-item : goal.invariant-loop-item

@@ -1,5 +1,4 @@
-use Rattle.std.proofs.Common.{◌≡◌, drop}
-use Rattle.redaction.specs.Described.{has_alike, same_permission}
+use Rattle.{std.proofs.Common.{◌≡◌, drop}, redaction.specs.Described.{has_alike, same_permission}}
 use Rattle.redaction.proofs.permissions.has_alike.Given as goal
 
 abbrev pub invariant-loop-permission : goal.invariant-loop-permission

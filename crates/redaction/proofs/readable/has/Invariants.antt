@@ -1,6 +1,4 @@
-use Rattle.std.proofs.Common.{◌≡◌, drop}
-use Rattle.iodef_tree.specs.View.{forest, members_forest}
-use Rattle.redaction.specs.inner.Trees.{has_name}
+use Rattle.{std.proofs.Common.{◌≡◌, drop}, iodef_tree.specs.View.{forest, members_forest}, redaction.specs.inner.Trees.has_name}
 use Rattle.redaction.proofs.readable.has.Given as goal
 
 abbrev pub invariant-loop-key : goal.invariant-loop-key

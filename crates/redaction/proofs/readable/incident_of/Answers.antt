@@ -1,9 +1,6 @@
-use Rattle.std.proofs.Common.{◌≡◌, ◌+◌, drop, map, arith, false}
-use Rattle.std.proofs.lemmas.Grind.{common_steps}
-use Rattle.iodef_tree.specs.View.{bodies, named, members_forest}
-use Rattle.iodef_tree.specs.inner.Written.{goes_on}
-use Rattle.iodef_tree.proofs.Filled.{member-at, member-elements}
-use Rattle.redaction.proofs.TreeIncidents.{goes-none, other-member, this-member}
+use Rattle.{std.proofs.{Common.{◌≡◌, ◌+◌, drop, map, arith, false}, lemmas.Grind.common_steps}, iodef_tree.proofs.Filled.{member-at, member-elements}}
+use Rattle.{iodef_tree.specs.{View.{bodies, named, members_forest}, inner.Written.goes_on}, redaction.proofs.TreeIncidents.{goes-none, other-member}}
+use Rattle.redaction.proofs.TreeIncidents.{this-member}
 use Rattle.redaction.proofs.readable.incident_of.Goals as goal
 
 pub returns-then-eq-clause-found : goal.returns-then-eq-clause-found

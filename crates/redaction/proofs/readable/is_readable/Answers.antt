@@ -1,10 +1,6 @@
-use Rattle.std.proofs.Common.{◌≡◌, true, false, ◌&&◌, nat_le, sym, ap, ◌∙◌}
-use Rattle.iodef_tree.specs.Tree.{height}
-use Rattle.iodef_tree.specs.View.{forest}
-use Rattle.iodef_tree.specs.inner.FitValues.{line_count}
-use Rattle.iodef_tree.specs.declared.TheConstants.{DEPTH_LIMIT, LINE_LIMIT}
+use Rattle.{std.proofs.Common.{◌≡◌, true, false, ◌&&◌, nat_le, sym, ap, ◌∙◌}, iodef_tree.specs.{Tree.height, View.forest, declared.TheConstants.DEPTH_LIMIT}}
+use Rattle.{iodef_tree.specs.{declared.TheConstants.LINE_LIMIT, inner.FitValues.line_count}, redaction.proofs.TreeIncidents.readable-is}
 use Rattle.redaction.specs.inner.Trees.{has_complete_incident_in}
-use Rattle.redaction.proofs.TreeIncidents.{readable-is}
 use Rattle.redaction.proofs.readable.is_readable.Goals as goal
 
 pub returns-then-has_complete_incident : goal.returns-then-has_complete_incident

@@ -1,7 +1,4 @@
-use Rattle.std.proofs.Common.{sym, ap₂, ◌∙◌}
-use Rattle.json.specs.Value.{value_view}
-use Rattle.redaction.specs.Readings.{◌&◌}
-use Rattle.redaction.proofs.FirstFaults.{reader-fault}
+use Rattle.{std.proofs.Common.{sym, ap₂, ◌∙◌}, json.specs.Value.value_view, redaction.{proofs.FirstFaults.reader-fault, specs.Readings.◌&◌}}
 use Rattle.redaction.proofs.reader.reader_of.Goals as goal
 
 pub returns-in-Err : goal.returns-in-Err

@@ -1,6 +1,4 @@
-use Rattle.std.proofs.Common.{◌≡◌, drop}
-use Rattle.std.specs.List.{list_all}
-use Rattle.policy.specs.Numbers.{is_among}
+use Rattle.{std.{proofs.Common.{◌≡◌, drop}, specs.List.list_all}, policy.specs.Numbers.is_among}
 use Rattle.redaction.proofs.reader.require_active.Given as goal
 
 abbrev pub invariant-loop-number : goal.invariant-loop-number

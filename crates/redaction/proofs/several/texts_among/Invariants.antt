@@ -1,7 +1,4 @@
-use Rattle.std.proofs.Common.{◌≡◌, ℕ, List, map, take}
-use Rattle.std.specs.Borrow.{Bor}
-use Rattle.redaction.specs.Answers.{texts_by}
-use Rattle.redaction.specs.inner.Among.{text_among}
+use Rattle.{std.{proofs.Common.{◌≡◌, ℕ, List, map, take}, specs.Borrow.Bor}, redaction.specs.{Answers.texts_by, inner.Among.text_among}}
 use Rattle.redaction.proofs.several.texts_among.Given as goal
 
 abbrev pub invariant-loop-description : goal.invariant-loop-description

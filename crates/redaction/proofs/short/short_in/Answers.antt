@@ -1,7 +1,4 @@
-use Rattle.std.proofs.Common.{sym, ap₂, ◌∙◌}
-use Rattle.json.specs.Value.{value_view}
-use Rattle.redaction.specs.Readings.{◌&◌}
-use Rattle.redaction.proofs.FirstFaults.{short-fault}
+use Rattle.{std.proofs.Common.{sym, ap₂, ◌∙◌}, json.specs.Value.value_view, redaction.{proofs.FirstFaults.short-fault, specs.Readings.◌&◌}}
 use Rattle.redaction.proofs.short.short_in.Goals as goal
 
 pub returns-in-Err : goal.returns-in-Err

@@ -1,5 +1,4 @@
-use Rattle.std.proofs.Common.{length, sym, ap, ◌∙◌}
-use Rattle.redaction.proofs.Numbers.{count-is}
+use Rattle.{std.proofs.Common.{length, sym, ap, ◌∙◌}, redaction.proofs.Numbers.count-is}
 use Rattle.redaction.proofs.value.count_of.Goals as goal
 
 pub returns : goal.returns

@@ -1,9 +1,5 @@
-use Rattle.std.proofs.Common.{◌+◌, ap, ap₂, ◌∙◌}
-use Rattle.redaction.specs.Values.{number_in}
-use Rattle.redaction.specs.Readings.{at}
-use Rattle.redaction.specs.declared.place.Step.TheVariants.{Item}
-use Rattle.redaction.specs.inner.SoFar.{unless}
-use Rattle.redaction.proofs.SoFar.{item-read, items-end}
+use Rattle.{std.proofs.Common.{◌+◌, ap, ap₂, ◌∙◌}, redaction.{proofs.SoFar.{item-read, items-end}, specs.{Readings.at, Values.number_in}}}
+use Rattle.redaction.specs.{declared.place.Step.TheVariants.Item, inner.SoFar.unless}
 use Rattle.redaction.proofs.value.each_number.Goals as goal
 
 pub loop-item-preserved : goal.loop-item-preserved

@@ -1,8 +1,4 @@
-use Rattle.std.proofs.Common.{◌≡◌, drop}
-use Rattle.json.specs.Value.{items_view}
-use Rattle.redaction.specs.Values.{each, each_from}
-use Rattle.redaction.specs.Values.{number_in}
-use Rattle.redaction.proofs.SoFar.{joined}
+use Rattle.{std.proofs.Common.{◌≡◌, drop}, json.specs.Value.items_view, redaction.{proofs.SoFar.joined, specs.Values.{each, each_from, number_in}}}
 use Rattle.redaction.proofs.value.each_number.Given as goal
 
 abbrev pub invariant-loop-item : goal.invariant-loop-item

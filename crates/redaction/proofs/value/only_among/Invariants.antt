@@ -1,6 +1,4 @@
-use Rattle.std.proofs.Common.{◌≡◌, drop}
-use Rattle.json.specs.Value.{members_view}
-use Rattle.redaction.specs.Values.{only_from}
+use Rattle.{std.proofs.Common.{◌≡◌, drop}, json.specs.Value.members_view, redaction.specs.Values.only_from}
 use Rattle.redaction.proofs.value.only_among.Given as goal
 
 abbrev pub invariant-loop-name : goal.invariant-loop-name

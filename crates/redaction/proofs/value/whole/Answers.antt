@@ -1,5 +1,4 @@
-use Rattle.std.proofs.Common.{ap, ◌∙◌, rules, Err}
-use Rattle.redaction.proofs.Numbers.{too_large}
+use Rattle.{std.proofs.Common.{ap, ◌∙◌, rules, Err}, redaction.proofs.Numbers.too_large}
 use Rattle.redaction.proofs.value.whole.Goals as goal
 
 pub returns-in-Err : goal.returns-in-Err

@@ -1,8 +1,4 @@
-use Rattle.std.proofs.Common.{ap, ap₂, ◌∙◌}
-use Rattle.json.specs.Value.{value_view}
-use Rattle.redaction.specs.Readings.{◌&◌}
-use Rattle.redaction.specs.Described.{now_in}
-use Rattle.redaction.proofs.FirstFaults.{long-is}
+use Rattle.{std.proofs.Common.{ap, ap₂, ◌∙◌}, json.specs.Value.value_view, redaction.{proofs.FirstFaults.long-is, specs.{Described.now_in, Readings.◌&◌}}}
 use Rattle.redaction.proofs.view.long_in.Goals as goal
 
 pub returns : goal.returns

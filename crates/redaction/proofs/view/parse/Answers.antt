@@ -1,5 +1,4 @@
-use Rattle.std.proofs.Common.{ap, sym, ◌∙◌, Err}
-use Rattle.redaction.proofs.Parsed.{read-other}
+use Rattle.{std.proofs.Common.{ap, sym, ◌∙◌, Err}, redaction.proofs.Parsed.read-other}
 use Rattle.redaction.proofs.view.parse.Goals as goal
 
 pub returns-in-Err : goal.returns-in-Err

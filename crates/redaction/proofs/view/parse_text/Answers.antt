@@ -1,6 +1,4 @@
-use Rattle.std.proofs.Common.{ap, sym, ◌∙◌, Err, rules}
-use Rattle.json.specs.Value.{value_view}
-use Rattle.redaction.proofs.Parsed.{read-once, read-doubled, read-none}
+use Rattle.{std.proofs.Common.{ap, sym, ◌∙◌, Err, rules}, json.specs.Value.value_view, redaction.proofs.Parsed.{read-once, read-doubled, read-none}}
 use Rattle.redaction.proofs.view.parse_text.Goals as goal
 
 pub returns-in-Ok : goal.returns-in-Ok

@@ -1,5 +1,4 @@
-use Rattle.std.proofs.Common.{◌≡◌, drop, nat_lt}
-use Rattle.std.specs.List.{position_from}
+use Rattle.std.{proofs.Common.{◌≡◌, drop, nat_lt}, specs.List.position_from}
 use Rattle.redaction.proofs.whole.block_length.Given as goal
 
 abbrev pub invariant-loop-line : goal.invariant-loop-line

@@ -1,5 +1,4 @@
-use Rattle.std.proofs.Common.{◌≡◌, IfOk, subst, ap, ap₂, ◌∙◌, option_map, codes}
-use Rattle.redaction.specs.Whole.{named, put_missing, with_id, with_purpose}
+use Rattle.{std.proofs.Common.{◌≡◌, IfOk, subst, ap, ap₂, ◌∙◌, option_map, codes}, redaction.specs.Whole.{named, put_missing, with_id, with_purpose}}
 use Rattle.redaction.proofs.whole.completed.Goals as goal
 
 pub returns : goal.returns

@@ -1,6 +1,4 @@
-use Rattle.std.proofs.Common.{◌≡◌, drop}
-use Rattle.std.specs.List.{position_from}
-use Rattle.redaction.specs.Whole.{is_incident}
+use Rattle.{std.{proofs.Common.{◌≡◌, drop}, specs.List.position_from}, redaction.specs.Whole.is_incident}
 use Rattle.redaction.proofs.whole.incident_begin.Given as goal
 
 abbrev pub invariant-loop-line : goal.invariant-loop-line

@@ -1,6 +1,4 @@
-use Rattle.std.proofs.Common.{◌≡◌, drop}
-use Rattle.std.specs.List.{position_from}
-use Rattle.redaction.specs.Whole.{comes_before}
+use Rattle.{std.{proofs.Common.{◌≡◌, drop}, specs.List.position_from}, redaction.specs.Whole.comes_before}
 use Rattle.redaction.proofs.whole.place_in.Given as goal
 
 abbrev pub invariant-loop-line : goal.invariant-loop-line

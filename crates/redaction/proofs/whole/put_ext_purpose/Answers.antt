@@ -1,5 +1,4 @@
-use Rattle.std.proofs.Common.{◌≡◌, IfOk, subst, codes}
-use Rattle.redaction.specs.Whole.{put_missing, put_ext_purpose}
+use Rattle.{std.proofs.Common.{◌≡◌, IfOk, subst, codes}, redaction.specs.Whole.{put_missing, put_ext_purpose}}
 use Rattle.redaction.proofs.whole.put_ext_purpose.Goals as goal
 
 pub returns : goal.returns

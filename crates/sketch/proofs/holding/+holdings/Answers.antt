@@ -1,6 +1,4 @@
-use Rattle.std.proofs.Common.{arith, map}
-use Rattle.sketch.specs.inner.Held.{shown}
-use Rattle.sketch.proofs.Texts.{left_next, below_next}
+use Rattle.{std.proofs.Common.{arith, map}, sketch.{proofs.Texts.{left_next, below_next}, specs.inner.Held.shown}}
 use Rattle.sketch.proofs.holding.+holdings.Goals as goal
 
 pub push_below-loop-name-preserved : goal.push_below-loop-name-preserved

@@ -1,6 +1,5 @@
-use Rattle.std.proofs.Common.{◌≡◌, ◌++◌, drop, map}
-use Rattle.iodef_tree.specs.View.{forest, bodies, body, members_forest}
-use Rattle.sketch.specs.inner.Held.{shown, left_below, holdings_below, many_left, many_holdings, bodies_left, bodies_holdings}
+use Rattle.{std.proofs.Common.{◌≡◌, ◌++◌, drop, map}, iodef_tree.specs.View.{forest, bodies, body, members_forest}, sketch.specs.inner.Held.{shown, left_below}}
+use Rattle.sketch.specs.inner.Held.{holdings_below, many_left, many_holdings, bodies_left, bodies_holdings}
 use Rattle.sketch.proofs.holding.+holdings.Given as goal
 
 abbrev pub invariant-push_below-loop-name : goal.invariant-push_below-loop-name

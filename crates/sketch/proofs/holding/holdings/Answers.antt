@@ -1,7 +1,4 @@
-use Rattle.std.proofs.Common.{map, ◌∙◌, ap, ◌++◌}
-use Rattle.iodef_tree.specs.View.{forest}
-use Rattle.sketch.specs.inner.Held.{shown, holdings_below}
-use Rattle.sketch.proofs.Classes.{held-all}
+use Rattle.{std.proofs.Common.{map, ◌∙◌, ap, ◌++◌}, iodef_tree.specs.View.forest, sketch.{proofs.Classes.held-all, specs.inner.Held.{shown, holdings_below}}}
 use Rattle.sketch.proofs.holding.holdings.Goals as goal
 
 pub returns : goal.returns

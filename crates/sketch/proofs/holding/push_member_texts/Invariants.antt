@@ -1,7 +1,4 @@
-use Rattle.std.proofs.Common.{◌≡◌, ◌++◌, drop, map}
-use Rattle.std.specs.List.{flat_map}
-use Rattle.iodef_tree.specs.View.{bodies, body}
-use Rattle.sketch.specs.Holdings.{held_in}
+use Rattle.{std.{proofs.Common.{◌≡◌, ◌++◌, drop, map}, specs.List.flat_map}, iodef_tree.specs.View.{bodies, body}, sketch.specs.Holdings.held_in}
 use Rattle.sketch.specs.inner.Held.{shown, body_texts, bodies_texts}
 use Rattle.sketch.proofs.holding.push_member_texts.Given as goal
 

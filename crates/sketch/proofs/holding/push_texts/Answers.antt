@@ -1,6 +1,4 @@
-use Rattle.std.proofs.Common.{arith, map}
-use Rattle.sketch.specs.inner.Held.{shown}
-use Rattle.sketch.proofs.Texts.{texts_next}
+use Rattle.{std.proofs.Common.{arith, map}, sketch.{proofs.Texts.texts_next, specs.inner.Held.shown}}
 use Rattle.sketch.proofs.holding.push_texts.Goals as goal
 
 pub loop-member-preserved : goal.loop-member-preserved

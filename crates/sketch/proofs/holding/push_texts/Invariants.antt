@@ -1,7 +1,5 @@
-use Rattle.std.proofs.Common.{◌≡◌, ◌++◌, drop, map}
-use Rattle.iodef_tree.specs.View.{forest, members_forest}
-use Rattle.sketch.specs.Holdings.{held_in}
-use Rattle.sketch.specs.inner.Held.{shown, texts_in}
+use Rattle.{std.proofs.Common.{◌≡◌, ◌++◌, drop, map}, iodef_tree.specs.View.{forest, members_forest}, sketch.specs.{Holdings.held_in, inner.Held.shown}}
+use Rattle.sketch.specs.inner.Held.{texts_in}
 use Rattle.sketch.proofs.holding.push_texts.Given as goal
 
 abbrev pub invariant-loop-member : goal.invariant-loop-member

@@ -1,9 +1,5 @@
-use Rattle.std.proofs.Common.{◌∙◌, ap, ◌++◌, map}
-use Rattle.std.specs.List.{flat_map}
-use Rattle.iodef_tree.specs.Paths.{located, class_paths}
-use Rattle.marking.specs.Marks.{marked_at}
-use Rattle.sketch.specs.Labels.{code_of}
-use Rattle.sketch.proofs.Codes.{line_of, coded-all}
+use Rattle.{std.{proofs.Common.{◌∙◌, ap, ◌++◌, map}, specs.List.flat_map}, iodef_tree.specs.Paths.{located, class_paths}, marking.specs.Marks.marked_at}
+use Rattle.sketch.{proofs.Codes.{line_of, coded-all}, specs.Labels.code_of}
 use Rattle.sketch.proofs.labels.handlings.Goals as goal
 
 pub returns : goal.returns

@@ -1,5 +1,4 @@
-use Rattle.std.proofs.Common.{◌≡◌, drop}
-use Rattle.sketch.specs.Labels.{least_from, least_of}
+use Rattle.{std.proofs.Common.{◌≡◌, drop}, sketch.specs.Labels.{least_from, least_of}}
 use Rattle.sketch.proofs.labels.least.Given as goal
 
 abbrev pub invariant-loop-handling : goal.invariant-loop-handling

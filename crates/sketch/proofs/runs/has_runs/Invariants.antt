@@ -1,7 +1,4 @@
-use Rattle.std.proofs.Common.{◌≡◌, drop}
-use Rattle.std.specs.List.{list_all}
-use Rattle.sketch.specs.Bits.{holds}
-use Rattle.sketch.specs.Runs.{runs}
+use Rattle.{std.{proofs.Common.{◌≡◌, drop}, specs.List.list_all}, sketch.specs.{Bits.holds, Runs.runs}}
 use Rattle.sketch.proofs.runs.has_runs.Given as goal
 
 abbrev pub invariant-loop-start : goal.invariant-loop-start

@@ -1,5 +1,4 @@
-use Rattle.std.proofs.Common.{◌≡◌, ◌<◌, ◌^◌, drop}
-use Rattle.sketch.specs.Runs.{number_from, number_of}
+use Rattle.{std.proofs.Common.{◌≡◌, ◌<◌, ◌^◌, drop}, sketch.specs.Runs.{number_from, number_of}}
 use Rattle.sketch.proofs.runs.number.Given as goal
 
 abbrev pub invariant-loop-byte : goal.invariant-loop-byte

@@ -1,6 +1,4 @@
-use Rattle.std.proofs.Common.{◌≡◌, drop}
-use Rattle.sketch.specs.Runs.{runs}
-use Rattle.sketch.specs.inner.Puts.{put_all}
+use Rattle.{std.proofs.Common.{◌≡◌, drop}, sketch.specs.{Runs.runs, inner.Puts.put_all}}
 use Rattle.sketch.proofs.runs.put_runs.Given as goal
 
 abbrev pub invariant-loop-start : goal.invariant-loop-start

@@ -1,6 +1,4 @@
-use Rattle.std.proofs.Common.{◌≡◌, ◌+◌, ◌≤◌, min, drop, map}
-use Rattle.sketch.specs.Sketched.{text_bytes}
-use Rattle.sketch.specs.inner.Held.{shown}
+use Rattle.{std.proofs.Common.{◌≡◌, ◌+◌, ◌≤◌, min, drop, map}, sketch.specs.{Sketched.text_bytes, inner.Held.shown}}
 use Rattle.sketch.proofs.sizes.text_bytes.Given as goal
 
 abbrev pub invariant-loop-holding : goal.invariant-loop-holding

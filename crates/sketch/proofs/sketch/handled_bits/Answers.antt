@@ -1,10 +1,5 @@
-use Rattle.std.proofs.Common.{◌≡◌, map, length, sym, ◌∙◌, ap, subst}
-use Rattle.std.proofs.lemmas.List.{length-replicate}
-use Rattle.sketch.specs.Runs.{runs}
-use Rattle.sketch.specs.Sketched.{text_bytes, IsSizeFor}
-use Rattle.sketch.specs.inner.Held.{shown}
-use Rattle.sketch.proofs.Numbers.{length-put_all}
-use Rattle.sketch.proofs.Sets.{put-handled, size-for}
+use Rattle.{std.proofs.{Common.{◌≡◌, map, length, sym, ◌∙◌, ap, subst}, lemmas.List.length-replicate}, sketch.proofs.{Numbers.length-put_all, Sets.put-handled}}
+use Rattle.sketch.{proofs.Sets.size-for, specs.{Runs.runs, Sketched.{text_bytes, IsSizeFor}, inner.Held.shown}}
 use Rattle.sketch.proofs.sketch.handled_bits.Goals as goal
 
 pub loop-holding-preserved : goal.loop-holding-preserved

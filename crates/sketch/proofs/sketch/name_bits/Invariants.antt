@@ -1,7 +1,4 @@
-use Rattle.std.proofs.Common.{◌≡◌, drop, map, length}
-use Rattle.sketch.specs.Sketched.{names_in}
-use Rattle.sketch.specs.inner.Held.{shown}
-use Rattle.sketch.specs.inner.Puts.{put_all}
+use Rattle.{std.proofs.Common.{◌≡◌, drop, map, length}, sketch.specs.{Sketched.names_in, inner.{Held.shown, Puts.put_all}}}
 use Rattle.sketch.proofs.sketch.name_bits.Given as goal
 
 abbrev pub invariant-loop-holding : goal.invariant-loop-holding

@@ -1,10 +1,6 @@
-use Rattle.std.proofs.Common.{map, length, not, ◌∙◌, ap, subst}
-use Rattle.std.specs.Prelude.{is_none}
-use Rattle.std.specs.List.{list_any}
-use Rattle.sketch.specs.Labels.{least_of}
-use Rattle.sketch.specs.Sketched.{runs_in, handled_runs_in, names_in, text_bytes, IsSizeFor}
+use Rattle.{std.{proofs.Common.{map, length, not, ◌∙◌, ap, subst}, specs.{List.list_any, Prelude.is_none}}, sketch.proofs.Summaries.{has_some, some-handling}}
+use Rattle.sketch.{proofs.Summaries.{not-empty, bits-of}, specs.{Labels.least_of, Sketched.{runs_in, handled_runs_in, names_in, text_bytes, IsSizeFor}}}
 use Rattle.sketch.specs.inner.Held.{shown}
-use Rattle.sketch.proofs.Summaries.{has_some, some-handling, not-empty, bits-of}
 use Rattle.sketch.proofs.sketch.summarise.Goals as goal
 
 pub returns : goal.returns

@@ -1,7 +1,4 @@
-use Rattle.std.proofs.Common.{rules, ℕ, true, ap, ◌∙◌}
-use Rattle.std.specs.List.{filter}
-use Rattle.std.proofs.lemmas.Fn.{filter_same}
-use Rattle.circle.specs.Directory.{has_group_being}
+use Rattle.{std.{proofs.{Common.{rules, ℕ, true, ap, ◌∙◌}, lemmas.Fn.filter_same}, specs.List.filter}, circle.specs.Directory.has_group_being}
 use Rattle.circle_rows.proofs.rows.DirectoryRows.active_groups_joined.Goals as goal
 
 pub returns : goal.returns

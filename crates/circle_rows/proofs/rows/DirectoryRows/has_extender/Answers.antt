@@ -1,7 +1,5 @@
-use Rattle.std.proofs.Common.{ap, ◌∙◌}
+use Rattle.{std.proofs.Common.{ap, ◌∙◌}, circle.{proofs.Lookup.found_with, specs.Directory.{Directory, has_extender, group_member_key}}}
 use Rattle.circle.specs.declared.directory.GroupMember.{GroupMember}
-use Rattle.circle.specs.Directory.{Directory, has_extender, group_member_key}
-use Rattle.circle.proofs.Lookup.{found_with}
 use Rattle.circle_rows.proofs.rows.DirectoryRows.has_extender.Goals as goal
 
 pub returns : goal.returns

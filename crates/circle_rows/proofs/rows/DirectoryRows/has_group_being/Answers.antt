@@ -1,8 +1,5 @@
-use Rattle.std.proofs.Common.{ap, ◌∙◌}
-use Rattle.circle.specs.declared.directory.Group.{Group}
-use Rattle.circle.specs.Directory.{Directory, has_group_being, group_number, same_flag}
-use Rattle.circle.specs.Stretches.{numbered}
-use Rattle.circle.proofs.Lookup.{found_with}
+use Rattle.{std.proofs.Common.{ap, ◌∙◌}, circle.{proofs.Lookup.found_with, specs.Directory.{Directory, has_group_being, group_number, same_flag}}}
+use Rattle.circle.specs.{Stretches.numbered, declared.directory.Group.Group}
 use Rattle.circle_rows.proofs.rows.DirectoryRows.has_group_being.Goals as goal
 
 pub returns : goal.returns

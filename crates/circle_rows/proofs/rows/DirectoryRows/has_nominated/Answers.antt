@@ -1,8 +1,5 @@
-use Rattle.std.proofs.Common.{ap, ◌∙◌}
+use Rattle.{std.proofs.Common.{ap, ◌∙◌}, circle.{proofs.Lookup.found_with, specs.{Directory.{Directory, has_nominated, account_number}, Stretches.numbered}}}
 use Rattle.circle.specs.declared.directory.Account.{Account}
-use Rattle.circle.specs.Directory.{Directory, has_nominated, account_number}
-use Rattle.circle.specs.Stretches.{numbered}
-use Rattle.circle.proofs.Lookup.{found_with}
 use Rattle.circle_rows.proofs.rows.DirectoryRows.has_nominated.Goals as goal
 
 pub returns : goal.returns

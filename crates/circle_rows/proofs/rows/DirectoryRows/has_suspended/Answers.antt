@@ -1,8 +1,5 @@
-use Rattle.std.proofs.Common.{ap, ◌∙◌, not}
-use Rattle.circle.specs.declared.directory.Account.{Account}
-use Rattle.circle.specs.Directory.{Directory, has_suspended, account_number}
-use Rattle.circle.specs.Stretches.{numbered}
-use Rattle.circle.proofs.Lookup.{found_with}
+use Rattle.{std.proofs.Common.{ap, ◌∙◌, not}, circle.{proofs.Lookup.found_with, specs.Directory.{Directory, has_suspended, account_number}}}
+use Rattle.circle.specs.{Stretches.numbered, declared.directory.Account.Account}
 use Rattle.circle_rows.proofs.rows.DirectoryRows.has_suspended.Goals as goal
 
 pub returns : goal.returns

@@ -1,8 +1,5 @@
-use Rattle.std.proofs.Common.{◌≡◌, ◌+◌, ◌∷◌, length, sym, ap, subst, ◌∙◌, arith}
-use Rattle.std.specs.Vec.Iter.{into_iter_items}
-use Rattle.circle.specs.Aftermath.{edited_rows}
-use Rattle.circle_rows.specs.Rows.{directory_of, IsAscending, HasRoom}
-use Rattle.circle_rows.proofs.InKeys.{order_after}
+use Rattle.{std.{proofs.Common.{◌≡◌, ◌+◌, ◌∷◌, length, sym, ap, subst, ◌∙◌, arith}, specs.Vec.Iter.into_iter_items}, circle.specs.Aftermath.edited_rows}
+use Rattle.circle_rows.{proofs.InKeys.order_after, specs.Rows.{directory_of, IsAscending, HasRoom}}
 use Rattle.circle_rows.proofs.sets.Sets.edit_all.Goals as goal
 
 pub loop-edit-preserved : goal.loop-edit-preserved

@@ -1,6 +1,4 @@
-use Rattle.std.proofs.Common.{◌≡◌, length}
-use Rattle.std.specs.Vec.Iter.{into_iter_items, into_iter_len}
-use Rattle.circle.specs.Aftermath.{edited_rows}
+use Rattle.{std.{proofs.Common.{◌≡◌, length}, specs.Vec.Iter.{into_iter_items, into_iter_len}}, circle.specs.Aftermath.edited_rows}
 use Rattle.circle_rows.specs.Rows.{directory_of, IsAscending, HasRoom}
 use Rattle.circle_rows.proofs.sets.Sets.edit_all.Given as goal
 

@@ -1,14 +1,7 @@
-use Rattle.std.proofs.Common.{inl, inr, Err, w64, sym, ap, subst, refl, ◌∙◌}
-use Rattle.std.specs.Prelude.{ℤ}
-use Rattle.std.proofs.lemmas.Int.{to_z-of_z}
-use Rattle.hub.specs.Replies.{reply_of}
-use Rattle.hub_core.specs.Shelves.{HasFailed, KeepsContent}
-use Rattle.hub.specs.Machine.{state_left}
-use Rattle.hub.specs.Serving.{is_made}
-use Rattle.hub.proofs.AnsweredAlike.{answered-alike}
-use Rattle.hub.proofs.Served.{due_tells, given_up, failure_told, told_failed}
+use Rattle.{std.{proofs.{Common.{◌<◌, inl, inr, Err, w64, sym, ap, subst, refl, ◌∙◌}, lemmas.Int.to_z-of_z}, specs.Prelude.ℤ}, hub_core.specs.Shelves.HasFailed}
+use Rattle.{hub_core.specs.Shelves.KeepsContent, hub.proofs.{AnsweredAlike.answered-alike, Served.{due_tells, given_up, failure_told, told_failed}}}
+use Rattle.hub.{proofs.hub.Hub.answer.Goals.{in-Ok, in-Err}, specs.{Machine.state_left, Replies.reply_of, Serving.is_made}}
 use Rattle.hub.proofs.hub.Hub.answer.Goals as goal
-use Rattle.hub.proofs.hub.Hub.answer.Goals.{in-Ok, in-Err}
 
 pub returns-clause-step : goal.returns-clause-step
 returns-clause-step g c = λ clean s has sound.

@@ -1,10 +1,5 @@
-use Rattle.std.proofs.Common.{◌≡◌, ◌++◌, [], ◌∷◌, take, subst, arith, rules}
-use Rattle.hub.specs.inner.InTurn.{MayBeLeftInTurn}
-use Rattle.hub.proofs.Failures.{counted_on, failure_alone}
-use Rattle.hub.proofs.Leaving.{left_in_turn}
-use Rattle.hub.proofs.OneMore.{answers_on}
-use Rattle.hub.proofs.Runs.{goes_on, runs_sound}
-use Rattle.hub.proofs.Stopped.{stops_on}
+use Rattle.{std.proofs.{Common.{◌≡◌, ◌++◌, [], ◌∷◌, take, subst, arith, rules}, lemmas.List.take_all}, hub.proofs.{Failures.{counted_on, failure_alone}, Leaving.left_in_turn}}
+use Rattle.hub.{proofs.{OneMore.answers_on, Runs.{goes_on, runs_sound}, Stopped.stops_on}, specs.inner.InTurn.MayBeLeftInTurn}
 use Rattle.hub.proofs.hub.Hub.run.Goals as goal
 
 pub loop-one-preserved : goal.loop-one-preserved
@@ -47,6 +42,6 @@ returns-clause-crash g c =
     let before = g.Sh.Shelf.may_remain c.args.self.now in
     let asked = c.args.asked.now in
     let replies = c.loop-one.replies.items in
-    let whole : take c.loop-one.one-index asked ≡ asked = search rules in
+    let whole : take c.loop-one.one-index asked ≡ asked = take_all c.loop-one.one-index asked c.loop-one-test.false in
     λ clean s has sound left there.
     left_in_turn before s asked replies left (subst (λ q. MayBeLeftInTurn before s q replies left) whole (c.loop-one.invariant.crash clean s has sound left there))

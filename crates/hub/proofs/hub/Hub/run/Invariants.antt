@@ -1,11 +1,5 @@
-use Rattle.std.proofs.Common.{◌≡◌, ◌≤◌, Option, take, length, vec_len}
-use Rattle.std.specs.Vec.{vec_capacity}
-use Rattle.hub_core.specs.State.{State}
-use Rattle.hub_core.specs.Sound.{IsSound}
-use Rattle.hub.specs.Faults.{AreCounted, failures_told}
-use Rattle.hub.specs.Machine.{IsRun}
-use Rattle.hub.specs.OneByOne.{AreAnswers}
-use Rattle.hub.specs.inner.InTurn.{MayBeLeftInTurn}
+use Rattle.{std.{proofs.Common.{◌≡◌, ◌≤◌, Option, take, length, vec_len}, specs.Vec.vec_capacity}, hub_core.specs.{Sound.IsSound, State.State}}
+use Rattle.hub.specs.{Faults.{AreCounted, failures_told}, Machine.IsRun, OneByOne.AreAnswers, inner.InTurn.MayBeLeftInTurn}
 use Rattle.hub.proofs.hub.Hub.run.Given as goal
 
 abbrev pub invariant-loop-one : goal.invariant-loop-one

@@ -1,6 +1,4 @@
-use Rattle.std.proofs.Common.{◌≡◌, w64, to_z, of_z, subst, rules}
-use Rattle.std.specs.Prelude.{ℤ}
-use Rattle.hub.specs.OneByOne.{IsOneAnswer}
+use Rattle.{std.{proofs.Common.{◌≡◌, w64, to_z, of_z, subst, rules}, specs.Prelude.ℤ}, hub.specs.OneByOne.IsOneAnswer}
 use Rattle.hub.proofs.hub.Hub.step.Goals as goal
 
 pub returns : goal.returns

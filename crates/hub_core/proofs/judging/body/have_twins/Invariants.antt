@@ -1,6 +1,4 @@
-use Rattle.std.proofs.Common.{◌≡◌, map, drop}
-use Rattle.hub_state.specs.Documents.{ident_of}
-use Rattle.hub_core.specs.Refusals.{stands_twice}
+use Rattle.{std.proofs.Common.{◌≡◌, map, drop}, hub_state.specs.Documents.ident_of, hub_core.specs.Refusals.stands_twice}
 use Rattle.hub_core.proofs.judging.body.have_twins.Given as goal
 
 abbrev pub invariant-loop-place : goal.invariant-loop-place

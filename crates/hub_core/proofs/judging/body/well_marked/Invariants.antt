@@ -1,5 +1,4 @@
-use Rattle.std.proofs.Common.{◌≡◌, drop}
-use Rattle.hub_state.specs.Documents.{bad_marking, bad_marking_from}
+use Rattle.{std.proofs.Common.{◌≡◌, drop}, hub_state.specs.Documents.{bad_marking, bad_marking_from}}
 use Rattle.hub_core.proofs.judging.body.well_marked.Given as goal
 
 abbrev pub invariant-loop-place : goal.invariant-loop-place

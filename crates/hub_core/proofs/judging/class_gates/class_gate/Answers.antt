@@ -1,6 +1,4 @@
-use Rattle.std.proofs.Common.{◌≡◌, ap, Some, rules, List, ℕ}
-use Rattle.iodef_tree.specs.Pointer.{pointer_tokens}
-use Rattle.iodef_tree.proofs.Inverse.{pointer_text-pointer_tokens}
+use Rattle.{std.proofs.Common.{◌≡◌, ap, Some, rules, List, ℕ}, iodef_tree.{proofs.Inverse.pointer_text-pointer_tokens, specs.Pointer.pointer_tokens}}
 use Rattle.hub_state.specs.declared.request.WantedGate.{WantedGate}
 use Rattle.hub_core.proofs.judging.class_gates.class_gate.Goals as goal
 

@@ -1,7 +1,4 @@
-use Rattle.std.proofs.Common.{arith}
-use Rattle.std.proofs.lemmas.Grind.{common_steps}
-use Rattle.hub_state.specs.declared.request.WantedGate.{WantedGate}
-use Rattle.hub_core.proofs.Twins.{twins_here}
+use Rattle.{std.proofs.{Common.arith, lemmas.Grind.common_steps}, hub_state.specs.declared.request.WantedGate.WantedGate, hub_core.proofs.Twins.twins_here}
 use Rattle.hub_core.proofs.judging.class_gates.have_twins.Goals as goal
 
 pub returns-then-is_among : goal.returns-then-is_among

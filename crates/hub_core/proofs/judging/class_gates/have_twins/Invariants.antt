@@ -1,6 +1,4 @@
-use Rattle.std.proofs.Common.{◌≡◌, map, drop}
-use Rattle.hub_core.specs.Refusals.{stands_twice}
-use Rattle.hub_state.specs.declared.request.WantedGate.{WantedGate}
+use Rattle.{std.proofs.Common.{◌≡◌, map, drop}, hub_state.specs.declared.request.WantedGate.WantedGate, hub_core.specs.Refusals.stands_twice}
 use Rattle.hub_core.proofs.judging.class_gates.have_twins.Given as goal
 
 abbrev pub invariant-loop-place : goal.invariant-loop-place

@@ -1,5 +1,4 @@
-use Rattle.std.proofs.Common.{◌≡◌, ◌++◌, take, map}
-use Rattle.hub_core.specs.inner.Wanted.{put_at}
+use Rattle.{std.proofs.Common.{◌≡◌, ◌++◌, take, map}, hub_core.specs.inner.Wanted.put_at}
 use Rattle.hub_core.proofs.judging.class_gates.put_each.Given as goal
 
 abbrev pub invariant-loop-gate : goal.invariant-loop-gate

@@ -1,6 +1,4 @@
-use Rattle.std.proofs.Common.{◌≡◌, ◌+◌, ◌++◌, length}
-use Rattle.std.specs.Vec.Iter.{into_iter_items}
-use Rattle.hub_state.specs.Aftermath.{put_incidents}
+use Rattle.{std.{proofs.Common.{◌≡◌, ◌+◌, ◌++◌, length}, specs.Vec.Iter.into_iter_items}, hub_state.specs.Aftermath.put_incidents}
 use Rattle.hub_core.proofs.judging.post.put_incidents.Given as goal
 
 abbrev pub invariant-loop-posted : goal.invariant-loop-posted

@@ -1,9 +1,5 @@
-use Rattle.std.proofs.Common.{[], ◌∷◌, rules}
-use Rattle.hub_state.specs.Documents.{documents_in}
-use Rattle.hub_core.specs.Refusals.{unless_poster}
-use Rattle.hub_core.specs.Judgement.{root_gate, replace_arguments, replace_facts}
-use Rattle.hub_core.specs.inner.Asked.{Asks}
-use Rattle.hub_core.proofs.Asking.{fourth}
+use Rattle.{std.proofs.Common.{[], ◌∷◌, rules}, hub_state.specs.Documents.documents_in, hub_core.{proofs.Asking.fourth, specs.Judgement.root_gate}}
+use Rattle.hub_core.specs.{Judgement.{replace_arguments, replace_facts}, Refusals.unless_poster, inner.Asked.Asks}
 use Rattle.hub_core.proofs.judging.replace.replace.Goals as goal
 
 pub returns-in_err-known-clause-asked : goal.returns-in_err-known-clause-asked

@@ -1,6 +1,4 @@
-use Rattle.std.proofs.Common.{◌≡◌, ◌++◌, drop}
-use Rattle.hub_http.specs.Parameters.{values}
-use Rattle.hub_http.specs.inner.Texts.{pair_views, texts}
+use Rattle.{std.proofs.Common.{◌≡◌, ◌++◌, drop}, hub_http.specs.{Parameters.values, inner.Texts.{pair_views, texts}}}
 use Rattle.hub_http.proofs.parameters.Parameters.all.Given as goal
 
 abbrev pub invariant-loop-pair : goal.invariant-loop-pair

@@ -1,7 +1,4 @@
-use Rattle.std.proofs.Common.{◌≡◌, drop}
-use Rattle.std.specs.List.{list_all}
-use Rattle.hub_http.specs.Parameters.{is_one_of}
-use Rattle.hub_http.specs.inner.Texts.{pair_views, texts}
+use Rattle.{std.{proofs.Common.{◌≡◌, drop}, specs.List.list_all}, hub_http.specs.{Parameters.is_one_of, inner.Texts.{pair_views, texts}}}
 use Rattle.hub_http.proofs.parameters.Parameters.only.Given as goal
 
 abbrev pub invariant-loop-pair : goal.invariant-loop-pair

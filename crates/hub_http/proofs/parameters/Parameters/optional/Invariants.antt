@@ -1,7 +1,4 @@
-use Rattle.std.proofs.Common.{◌≡◌, ◌++◌, drop}
-use Rattle.hub_http.specs.Parameters.{sole, values}
-use Rattle.hub_http.specs.inner.Texts.{pair_views}
-use Rattle.hub_http.proofs.ValuesSoFar.{held}
+use Rattle.{std.proofs.Common.{◌≡◌, ◌++◌, drop}, hub_http.{proofs.ValuesSoFar.held, specs.{Parameters.{sole, values}, inner.Texts.pair_views}}}
 use Rattle.hub_http.proofs.parameters.Parameters.optional.Given as goal
 
 abbrev pub invariant-loop-pair : goal.invariant-loop-pair

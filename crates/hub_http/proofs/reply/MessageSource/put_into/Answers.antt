@@ -1,7 +1,4 @@
-use Rattle.std.proofs.lemmas.Result.{IfOk-weaker}
-use Rattle.json_text.proofs.Puts.{both-are}
-use Rattle.hub_http.specs.inner.Messages.{body_bytes}
-use Rattle.hub_http.proofs.Messages.{message-is}
+use Rattle.{std.proofs.lemmas.Result.IfOk-weaker, json_text.proofs.Puts.both-are, hub_http.{proofs.Messages.message-is, specs.inner.Messages.body_bytes}}
 use Rattle.hub_http.proofs.reply.MessageSource.put_into.Goals as goal
 
 pub returns : goal.returns

@@ -1,6 +1,4 @@
-use Rattle.std.proofs.Common.{w64}
-use Rattle.std.proofs.lemmas.Int.{to_z-of_z}
-use Rattle.hub_state.proofs.Standings.{set_is}
+use Rattle.{std.proofs.{Common.w64, lemmas.Int.to_z-of_z}, hub_state.proofs.Standings.set_is}
 use Rattle.hub_state.proofs.kept_reader.KeptReader.set_for.Goals as goal
 
 pub returns-clause-stands : goal.returns-clause-stands

@@ -1,9 +1,5 @@
-use Rattle.std.proofs.Common.{◌≡◌, ◌∙◌, map, take, ap, sym}
-use Rattle.std.specs.List.{take-map}
-use Rattle.std.proofs.lemmas.Result.{IfOk-weaker}
-use Rattle.circle.specs.Directory.{Directory}
-use Rattle.hub_state.specs.Reads.{entry_of, entries_after}
-use Rattle.hub_state.specs.Lists.{with_directory}
+use Rattle.{std.{proofs.{Common.{◌≡◌, ◌∙◌, map, take, ap, sym}, lemmas.Result.IfOk-weaker}, specs.List.take-map}, circle.specs.Directory.Directory}
+use Rattle.hub_state.specs.{Lists.with_directory, Reads.{entry_of, entries_after}}
 use Rattle.hub_state.proofs.lists.Lists.entries_after.Goals as goal
 
 pub returns : goal.returns

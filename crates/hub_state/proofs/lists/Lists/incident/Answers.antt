@@ -1,7 +1,5 @@
-use Rattle.std.proofs.Common.{◌==◌, filter, ◌∙◌, ap}
-use Rattle.std.specs.List.{slice_get}
+use Rattle.{std.{proofs.Common.{◌==◌, filter, ◌∙◌, ap}, specs.List.slice_get}, circle.proofs.Lookup.first_having}
 use Rattle.hub_state.specs.declared.state.Incident.{Incident}
-use Rattle.circle.proofs.Lookup.{first_having}
 use Rattle.hub_state.proofs.lists.Lists.incident.Goals as goal
 
 pub returns : goal.returns

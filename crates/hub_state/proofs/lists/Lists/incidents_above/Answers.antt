@@ -1,10 +1,5 @@
-use Rattle.std.proofs.Common.{rules, ◌∙◌, subst, filter, drop, ap, sym}
-use Rattle.std.specs.Prelude.{nat_le, nat_lt}
-use Rattle.std.proofs.lemmas.List.Sorted.{IsPartitionPoint-from_clause}
-use Rattle.hub_state.specs.InOrder.{IsInOrder}
-use Rattle.hub_state.specs.Orders.{incident_cmp}
-use Rattle.hub_state.specs.declared.state.Incident.{Incident}
-use Rattle.hub_state.proofs.Found.{all_above}
+use Rattle.std.{proofs.{Common.{rules, ◌∙◌, subst, filter, drop, ap, sym}, lemmas.List.Sorted.IsPartitionPoint-from_clause}, specs.Prelude.{nat_le, nat_lt}}
+use Rattle.hub_state.{proofs.Found.all_above, specs.{InOrder.IsInOrder, Orders.incident_cmp, declared.state.Incident.Incident}}
 use Rattle.hub_state.proofs.lists.Lists.incidents_above.Goals as goal
 
 pub returns : goal.returns

@@ -1,7 +1,4 @@
-use Rattle.std.proofs.Common.{◌==◌, ◌∙◌, ap}
-use Rattle.std.specs.List.{list_any}
-use Rattle.circle.proofs.Lookup.{any_having}
-use Rattle.hub_state.specs.State.{same_target}
+use Rattle.{std.{proofs.Common.{◌==◌, ◌∙◌, ap}, specs.List.list_any}, circle.proofs.Lookup.any_having, hub_state.specs.State.same_target}
 use Rattle.hub_state.specs.declared.state.Recipient.{Recipient}
 use Rattle.hub_state.proofs.lists.Lists.is_addressed.Goals as goal
 

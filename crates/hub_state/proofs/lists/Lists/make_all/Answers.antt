@@ -1,8 +1,5 @@
-use Rattle.std.proofs.Common.{◌∙◌, sym, ap, subst, map, length, add-one}
-use Rattle.std.specs.Vec.Iter.{into_iter_items}
-use Rattle.hub_state.specs.Edits.{with_edits}
-use Rattle.hub_state.specs.inner.Changes.{row_edit}
-use Rattle.hub_state.specs.Lists.{HasRoom, with_directory}
+use Rattle.{std.{proofs.Common.{◌∙◌, sym, ap, subst, map, length, add-one}, specs.Vec.Iter.into_iter_items}, hub_state.specs.{Edits.with_edits, Lists.HasRoom}}
+use Rattle.hub_state.specs.{Lists.with_directory, inner.Changes.row_edit}
 use Rattle.hub_state.proofs.lists.Lists.make_all.Goals as goal
 
 pub loop-change-preserved : goal.loop-change-preserved

@@ -1,9 +1,5 @@
-use Rattle.std.proofs.Common.{◌≡◌, map, length}
-use Rattle.std.specs.Vec.Iter.{into_iter_items}
-use Rattle.circle.specs.Directory.{Directory}
-use Rattle.hub_state.specs.Edits.{with_edits}
-use Rattle.hub_state.specs.inner.Changes.{row_edit}
-use Rattle.hub_state.specs.Lists.{AreInOrder, HasRoom, with_directory}
+use Rattle.{std.{proofs.Common.{◌≡◌, map, length}, specs.Vec.Iter.into_iter_items}, circle.specs.Directory.Directory, hub_state.specs.Edits.with_edits}
+use Rattle.hub_state.specs.{Lists.{AreInOrder, HasRoom, with_directory}, inner.Changes.row_edit}
 use Rattle.hub_state.proofs.lists.Lists.make_all.Given as goal
 
 abbrev pub invariant-loop-change : goal.invariant-loop-change

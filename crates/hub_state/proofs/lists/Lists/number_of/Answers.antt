@@ -1,10 +1,5 @@
-use Rattle.std.proofs.Common.{◌≡◌, ◌∙◌, filter, ap, sym, None, Some, List}
-use Rattle.std.specs.List.{slice_get, find}
-use Rattle.hub_state.specs.InOrder.{is_alike}
-use Rattle.hub_state.specs.Orders.{named_cmp}
-use Rattle.hub_state.specs.declared.rows.Named.{Named}
-use Rattle.circle.proofs.Lookup.{first_having}
-use Rattle.hub_state.proofs.Found.{name_found}
+use Rattle.{std.{proofs.Common.{◌≡◌, ◌∙◌, filter, ap, sym, None, Some, List}, specs.List.{slice_get, find}}, circle.proofs.Lookup.first_having}
+use Rattle.hub_state.{proofs.Found.name_found, specs.{InOrder.is_alike, Orders.named_cmp, declared.rows.Named.Named}}
 use Rattle.hub_state.proofs.lists.Lists.number_of.Goals as goal
 
 chain : (key : Named) (names from rows : List Named) → from ≡ names → rows ≡ filter (λ (e : Named). is_alike named_cmp e key) from → slice_get rows 0 ≡ find (λ (e : Named). is_alike named_cmp e key) names

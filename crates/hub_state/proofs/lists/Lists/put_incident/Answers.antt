@@ -1,9 +1,5 @@
-use Rattle.std.proofs.Common.{rules, ◌≡◌, sym}
-use Rattle.std.proofs.ResultArms.{subst_both}
-use Rattle.circle.specs.Ordered.{put_by}
-use Rattle.hub_state.specs.Lists.{IsIndexOf}
-use Rattle.hub_state.specs.Orders.{incident_cmp, named_cmp, named}
-use Rattle.hub_state.proofs.Indexing.{index_put}
+use Rattle.{std.proofs.{Common.{rules, ◌≡◌, sym}, ResultArms.subst_both}, circle.specs.Ordered.put_by, hub_state.proofs.Indexing.index_put}
+use Rattle.hub_state.specs.{Lists.IsIndexOf, Orders.{incident_cmp, named_cmp, named}}
 use Rattle.hub_state.proofs.lists.Lists.put_incident.Goals as goal
 
 pub returns : goal.returns

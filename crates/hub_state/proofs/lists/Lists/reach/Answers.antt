@@ -1,10 +1,5 @@
-use Rattle.std.proofs.Common.{◌==◌, ◌∙◌, ap, sym, filter}
-use Rattle.std.specs.List.{list_any}
-use Rattle.policy.specs.Permissions.{holds_for}
-use Rattle.policy.specs.Reach.{is_refusing, is_shutting}
-use Rattle.hub_state.specs.declared.state.Gate.{Gate}
-use Rattle.hub_state.specs.declared.state.Permission.{Permission}
-use Rattle.hub_state.proofs.Keeping.{any_map}
+use Rattle.{std.{proofs.Common.{◌==◌, ◌∙◌, ap, sym, filter}, specs.List.list_any}, policy.specs.{Permissions.holds_for, Reach.{is_refusing, is_shutting}}}
+use Rattle.hub_state.{proofs.Keeping.any_map, specs.declared.state.{Gate.Gate, Permission.Permission}}
 use Rattle.hub_state.proofs.lists.Lists.reach.Goals as goal
 
 pub returns : goal.returns

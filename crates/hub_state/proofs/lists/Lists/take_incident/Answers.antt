@@ -1,12 +1,5 @@
-use Rattle.std.proofs.Common.{rules, ◌≡◌, ◌==◌, not, filter, sym}
-use Rattle.std.proofs.ResultArms.{subst_both}
-use Rattle.std.proofs.lemmas.Fn.{filter_same}
-use Rattle.hub_state.specs.Lists.{IsIndexOf}
-use Rattle.hub_state.specs.Orders.{named_cmp}
-use Rattle.hub_state.specs.declared.state.Incident.{Incident}
-use Rattle.hub_state.specs.declared.rows.Named.{Named}
-use Rattle.hub_state.proofs.Indexing.{index_left}
-use Rattle.hub_state.proofs.Ranked.{left_in_order}
+use Rattle.{std.proofs.{Common.{rules, ◌≡◌, ◌==◌, not, filter, sym}, ResultArms.subst_both, lemmas.Fn.filter_same}, hub_state.proofs.Indexing.index_left}
+use Rattle.hub_state.{proofs.Ranked.left_in_order, specs.{Lists.IsIndexOf, Orders.named_cmp, declared.{rows.Named.Named, state.Incident.Incident}}}
 use Rattle.hub_state.proofs.lists.Lists.take_incident.Goals as goal
 
 pub returns : goal.returns

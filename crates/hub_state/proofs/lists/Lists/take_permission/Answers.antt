@@ -1,9 +1,5 @@
-use Rattle.std.proofs.Common.{rules, ◌≡◌, not, filter, ap}
-use Rattle.std.proofs.lemmas.Fn.{filter_same}
-use Rattle.hub_state.specs.Lists.{with_directory}
-use Rattle.hub_state.specs.State.{permission_cmp, is_permission_being}
-use Rattle.hub_state.specs.declared.state.Permission.{Permission}
-use Rattle.hub_state.proofs.Ranked.{left_in_order}
+use Rattle.{std.proofs.{Common.{rules, ◌≡◌, not, filter, ap}, lemmas.Fn.filter_same}, hub_state.{proofs.Ranked.left_in_order, specs.Lists.with_directory}}
+use Rattle.hub_state.specs.{State.{permission_cmp, is_permission_being}, declared.state.Permission.Permission}
 use Rattle.hub_state.proofs.lists.Lists.take_permission.Goals as goal
 
 pub returns : goal.returns

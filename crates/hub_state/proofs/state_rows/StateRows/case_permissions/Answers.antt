@@ -1,7 +1,4 @@
-use Rattle.std.proofs.Common.{◌≡◌, subst}
-use Rattle.std.specs.Prelude.{IfOk}
-use Rattle.hub_state.specs.State.{State}
-use Rattle.hub_state.specs.Reads.{its_permissions}
+use Rattle.{std.{proofs.Common.{◌≡◌, subst}, specs.Prelude.IfOk}, hub_state.specs.{Reads.its_permissions, State.State}}
 use Rattle.hub_state.proofs.state_rows.StateRows.case_permissions.Goals as goal
 
 pub returns : goal.returns

@@ -1,5 +1,4 @@
-use Rattle.std.proofs.Common.{ap}
-use Rattle.hub_state.specs.State.{State}
+use Rattle.{std.proofs.Common.ap, hub_state.specs.State.State}
 use Rattle.hub_state.proofs.state_rows.StateRows.directory.Goals as goal
 
 pub returns : goal.returns

@@ -1,5 +1,4 @@
-use Rattle.std.proofs.Common.{◌∙◌, ap}
-use Rattle.hub_state.specs.State.{State, incident_of}
+use Rattle.{std.proofs.Common.{◌∙◌, ap}, hub_state.specs.State.{State, incident_of}}
 use Rattle.hub_state.proofs.state_rows.StateRows.incident.Goals as goal
 
 pub returns : goal.returns

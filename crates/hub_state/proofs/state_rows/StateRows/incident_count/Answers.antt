@@ -1,6 +1,4 @@
-use Rattle.std.proofs.Common.{◌∙◌, ap, length}
-use Rattle.std.specs.Prelude.{min}
-use Rattle.hub_state.specs.State.{State}
+use Rattle.{std.{proofs.Common.{◌∙◌, ap, length}, specs.Prelude.min}, hub_state.specs.State.State}
 use Rattle.hub_state.proofs.state_rows.StateRows.incident_count.Goals as goal
 
 pub returns : goal.returns

@@ -1,7 +1,4 @@
-use Rattle.std.proofs.Common.{◌≡◌, ◌++◌, ℕ, drop}
-use Rattle.std.specs.List.{filter_map}
-use Rattle.std.specs.Prelude.{option_map}
-use Rattle.circle.specs.Reads.{community_of}
+use Rattle.{std.{proofs.Common.{◌≡◌, ◌++◌, ℕ, drop}, specs.{List.filter_map, Prelude.option_map}}, circle.specs.Reads.community_of}
 use Rattle.hub_state.specs.Reads.{joined_community, joined_communities}
 use Rattle.hub_state.proofs.state_rows.StateRows.joined_communities.Given as goal
 

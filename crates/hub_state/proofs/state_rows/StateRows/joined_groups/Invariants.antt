@@ -1,9 +1,5 @@
-use Rattle.std.proofs.Common.{◌≡◌, ◌++◌, drop}
-use Rattle.std.specs.List.{filter_map}
-use Rattle.std.specs.Prelude.{option_map}
-use Rattle.circle.specs.declared.directory.GroupMember.{GroupMember}
-use Rattle.circle.specs.Reads.{group_of}
-use Rattle.hub_state.specs.Reads.{joined, groups_of}
+use Rattle.{std.{proofs.Common.{◌≡◌, ◌++◌, drop}, specs.{List.filter_map, Prelude.option_map}}, circle.specs.Reads.group_of}
+use Rattle.{circle.specs.declared.directory.GroupMember.GroupMember, hub_state.specs.Reads.{joined, groups_of}}
 use Rattle.hub_state.proofs.state_rows.StateRows.joined_groups.Given as goal
 
 abbrev pub invariant-loop-member : goal.invariant-loop-member

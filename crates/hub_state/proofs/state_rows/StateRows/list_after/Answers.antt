@@ -1,9 +1,5 @@
-use Rattle.std.proofs.Common.{◌≡◌, ◌∙◌, ap}
-use Rattle.std.proofs.lemmas.Result.{IfOk-weaker}
-use Rattle.circle.specs.Directory.{Directory}
-use Rattle.hub_state.specs.State.{State}
-use Rattle.hub_state.specs.Lists.{with_directory}
-use Rattle.hub_state.specs.Reads.{entries_after}
+use Rattle.{std.proofs.{Common.{◌≡◌, ◌∙◌, ap}, lemmas.Result.IfOk-weaker}, circle.specs.Directory.Directory, hub_state.specs.Lists.with_directory}
+use Rattle.hub_state.specs.{Reads.entries_after, State.State}
 use Rattle.hub_state.proofs.state_rows.StateRows.list_after.Goals as goal
 
 pub returns : goal.returns

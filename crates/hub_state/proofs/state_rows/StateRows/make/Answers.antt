@@ -1,12 +1,5 @@
-use Rattle.std.proofs.Common.{rules, ◌≡◌, ◌∙◌, map, sym, ap}
-use Rattle.circle.specs.Directory.{Directory}
-use Rattle.circle.specs.Aftermath.{edited_rows}
-use Rattle.hub_state.specs.State.{State}
-use Rattle.hub_state.specs.Edits.{with_edits}
-use Rattle.hub_state.specs.inner.Changes.{row_edit, directory_edits, row_edits}
-use Rattle.hub_state.proofs.Bare.{all_kept}
-use Rattle.hub_state.specs.Lists.{with_directory}
-use Rattle.hub_state.proofs.MadeApart.{made_apart}
+use Rattle.{std.proofs.Common.{rules, ◌≡◌, ◌∙◌, sym, ap}, circle.specs.{Aftermath.edited_rows, Directory.Directory}, hub_state.proofs.Bare.all_kept}
+use Rattle.hub_state.{proofs.MadeApart.made_apart, specs.{Edits.with_edits, Lists.with_directory, State.State, inner.Changes.{directory_edits, row_edits}}}
 use Rattle.hub_state.proofs.state_rows.StateRows.make.Goals as goal
 
 pub returns-in_err-reserve-clause-none : goal.returns-in_err-reserve-clause-none

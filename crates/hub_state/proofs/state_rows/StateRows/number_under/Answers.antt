@@ -1,8 +1,5 @@
-use Rattle.std.proofs.Common.{◌∙◌, ℕ, List, ap, sym, subst}
-use Rattle.std.specs.Prelude.{option_map}
-use Rattle.circle.specs.Sound.{Differ}
-use Rattle.hub_state.specs.State.{State, incident_named, incident_number}
-use Rattle.hub_state.specs.declared.state.Incident.{Incident}
+use Rattle.{std.{proofs.Common.{◌∙◌, ℕ, List, ap, sym, subst}, specs.Prelude.option_map}, circle.specs.Sound.Differ, hub_state.specs.State.State}
+use Rattle.hub_state.specs.{State.{incident_named, incident_number}, declared.state.Incident.Incident}
 use Rattle.hub_state.proofs.state_rows.StateRows.number_under.Goals as goal
 
 pub returns : goal.returns

@@ -1,15 +1,7 @@
-use Rattle.std.proofs.Common.{◌≡◌, ◌∙◌, map, sym, ap}
-use Rattle.circle.specs.Directory.{Directory}
-use Rattle.circle.specs.Aftermath.{edited_rows}
-use Rattle.hub_state.specs.State.{State}
-use Rattle.hub_state.specs.Edits.{with_edits}
-use Rattle.hub_state.specs.Bare.{kept_edit}
-use Rattle.hub_state.specs.inner.Changes.{row_edit, directory_edits, row_edits}
-use Rattle.hub_state.specs.Lists.{Ready, ready_by, with_directory}
-use Rattle.hub_state.specs.declared.edit.Edit.{Edit}
-use Rattle.hub_state.proofs.MadeApart.{made_apart}
+use Rattle.{std.{proofs.Common.{◌≡◌, ◌∙◌, map, sym, ap}, specs.Prelude.{false, List}}, circle.specs.{Aftermath.edited_rows, Directory.Directory}}
+use Rattle.hub_state.{proofs.MadeApart.made_apart, specs.{Bare.kept_edit, Edits.with_edits, Lists.{Ready, ready_by, with_directory}, State.State}}
+use Rattle.hub_state.specs.{declared.edit.Edit.Edit, inner.Changes.{row_edit, directory_edits, row_edits}}
 use Rattle.hub_state.proofs.state_rows.StateRows.ready.Goals as goal
-use Rattle.std.specs.Prelude.{false, List}
 
 both : (b c a d : State) → b ≡ c → a ≡ d → ◌≡◌ {A = Ready} (record { before = b; after = a }) (record { before = c; after = d })
 both b c a d h k = cc

@@ -1,14 +1,6 @@
-use Rattle.std.proofs.Common.{◌≡◌, Option, Some, rules, sym, subst, ◌∙◌}
-use Rattle.std.specs.Prelude.{◌↔◌}
-use Rattle.sqlite.specs.State.{HasCleanDisk, Survives}
-use Rattle.sqlite.specs.Held.{state}
-use Rattle.hub_state.specs.State.{State, empty}
-use Rattle.hub_store.specs.Content.{Has, MayLeave}
-use Rattle.hub_store.specs.Means.{TreesHold}
-use Rattle.hub_store.specs.Tables.{no_schema}
-use Rattle.hub_store.proofs.Rows.Empty.{has_empty, sound_empty}
-use Rattle.hub_store.proofs.Shelf.Left.{left_by_commit}
-use Rattle.hub_store.proofs.Edits.Runs.{kept_has}
+use Rattle.{std.{proofs.Common.{◌≡◌, Option, Some, rules, sym, subst, ◌∙◌}, specs.Prelude.◌↔◌}, sqlite.specs.{Held.state, State.{HasCleanDisk, Survives}}}
+use Rattle.{hub_state.specs.State.{State, empty}, hub_store.proofs.{Edits.Runs.kept_has, Rows.Empty.{has_empty, sound_empty}, Shelf.Left.left_by_commit}}
+use Rattle.hub_store.specs.{Content.{Has, MayLeave}, Means.TreesHold, Tables.no_schema}
 use Rattle.hub_store.proofs.sql_shelf.SqlShelf.create.Goals as goal
 
 pub returns-in-Ok-clause-made : goal.returns-in-Ok-clause-made

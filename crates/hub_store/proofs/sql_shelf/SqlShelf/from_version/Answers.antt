@@ -1,8 +1,5 @@
-use Rattle.std.proofs.Common.{sym, subst, ◌∙◌}
-use Rattle.sqlite.specs.Held.{state}
-use Rattle.hub_store.specs.Opening.{IsBrought}
-use Rattle.hub_store.proofs.Shelf.Left.{left_by_commit}
-use Rattle.hub_store.proofs.Versions.Renewed.{committed_has, committed_tells, either_fault, store_cause}
+use Rattle.{std.proofs.Common.{sym, subst, ◌∙◌}, sqlite.specs.Held.state, hub_store.proofs.{Shelf.Left.left_by_commit, Versions.Renewed.committed_has}}
+use Rattle.hub_store.{proofs.Versions.Renewed.{committed_tells, either_fault, store_cause}, specs.Opening.IsBrought}
 use Rattle.hub_store.proofs.sql_shelf.SqlShelf.from_version.Goals as goal
 
 pub returns-in-Ok-clause-brought : goal.returns-in-Ok-clause-brought

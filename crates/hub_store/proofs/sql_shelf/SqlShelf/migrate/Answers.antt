@@ -1,11 +1,6 @@
-use Rattle.std.proofs.Common.{◌≡◌, ◌≢◌, Some, rules, sym, subst, ◌∙◌}
-use Rattle.std.proofs.lemmas.Result.{IfOk-weaker, IfErr-weaker}
-use Rattle.sqlite.specs.State.{HasCleanDisk}
-use Rattle.sqlite.specs.Held.{state}
-use Rattle.hub_store.specs.declared.sql_shelf.OpenFault.TheVariants.{WrongVersion}
-use Rattle.hub_store.specs.Opening.{newest, IsMigrated}
-use Rattle.hub_store.specs.Versions.{version_of}
-use Rattle.hub_store.proofs.Versions.Renewed.{at_newest, not_begun, is_brought, is_not_brought}
+use Rattle.{std.proofs.{Common.{◌≡◌, ◌≢◌, Some, rules, sym, subst, ◌∙◌}, lemmas.Result.{IfOk-weaker, IfErr-weaker}}, sqlite.specs.Held.state}
+use Rattle.{sqlite.specs.State.HasCleanDisk, hub_store.{proofs.Versions.Renewed.{at_newest, not_begun, is_brought, is_not_brought}, specs.Opening.newest}}
+use Rattle.hub_store.specs.{Opening.IsMigrated, Versions.version_of, declared.sql_shelf.OpenFault.TheVariants.WrongVersion}
 use Rattle.hub_store.proofs.sql_shelf.SqlShelf.migrate.Goals as goal
 
 pub returns-in-Ok-Some-eq4-clause-opened : goal.returns-in-Ok-Some-eq4-clause-opened

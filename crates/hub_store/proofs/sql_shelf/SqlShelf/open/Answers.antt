@@ -1,7 +1,4 @@
-use Rattle.std.proofs.Common.{rules, sym, subst}
-use Rattle.sqlite.specs.Held.{state}
-use Rattle.hub_store.specs.Opening.{IsOpened}
-use Rattle.hub_store.proofs.Shelf.Opened.{is_opened, is_refused}
+use Rattle.{std.proofs.Common.{rules, sym, subst}, sqlite.specs.Held.state, hub_store.{proofs.Shelf.Opened.{is_opened, is_refused}, specs.Opening.IsOpened}}
 use Rattle.hub_store.proofs.sql_shelf.SqlShelf.open.Goals as goal
 
 pub returns-in-Ok-Some-eq4-clause-opened : goal.returns-in-Ok-Some-eq4-clause-opened

@@ -1,6 +1,4 @@
-use Rattle.std.proofs.Common.{◌∙◌, ap}
-use Rattle.iodef_tree.specs.Outline.{is_outline}
-use Rattle.iodef_tree.proofs.Spines.{finished-sound, finished-filled}
+use Rattle.{std.proofs.Common.{◌∙◌, ap}, iodef_tree.{proofs.Spines.{finished-sound, finished-filled}, specs.Outline.is_outline}}
 use Rattle.iodef_tree.proofs.builder.Builder.finish.Goals as goal
 
 pub new-requires-clause-sound : goal.new-requires-clause-sound

@@ -1,10 +1,5 @@
-use Rattle.std.proofs.Common.{refl, arith}
-use Rattle.iodef_tree.specs.declared.builder.Spine.{Spine}
-use Rattle.iodef_tree.proofs.Filled.{object-filled, filled-Class}
-use Rattle.iodef_tree.proofs.Views.{forest-members, body-Class}
-use Rattle.std.proofs.lemmas.Result.{IfOk-weaker}
-use Rattle.std.proofs.lemmas.Grind.{common_steps}
-use Rattle.iodef_tree.proofs.Spines.{innermost-grown, closed}
+use Rattle.{std.proofs.{Common.{refl, arith}, lemmas.{Grind.common_steps, Result.IfOk-weaker}}, iodef_tree.proofs.Filled.{object-filled, filled-Class}}
+use Rattle.iodef_tree.{proofs.{Spines.{innermost-grown, closed}, Views.{forest-members, body-Class}}, specs.declared.builder.Spine.Spine}
 use Rattle.iodef_tree.proofs.builder.Spine.close.Goals as goal
 
 pub put-requires-clause-numbered : goal.put-requires-clause-numbered

@@ -1,5 +1,4 @@
-use Rattle.std.proofs.Common.{◌+◌, ◌-◌, []}
-use Rattle.iodef_tree.specs.Built.{Extends}
+use Rattle.{std.proofs.Common.{◌+◌, ◌-◌, []}, iodef_tree.specs.Built.Extends}
 use Rattle.iodef_tree.proofs.builder.Spine.close_to.Given as goal
 
 abbrev pub invariant-loop-closed : goal.invariant-loop-closed

@@ -1,8 +1,4 @@
-use Rattle.std.proofs.Common.{refl}
-use Rattle.iodef_tree.specs.declared.object.Object.{Object, roll-Object}
-use Rattle.iodef_tree.specs.declared.builder.Open.{Open}
-use Rattle.iodef_tree.specs.declared.builder.Spine.{Spine}
-use Rattle.iodef_tree.proofs.Spines.{opened}
+use Rattle.{std.proofs.Common.refl, iodef_tree.{proofs.Spines.opened, specs.declared.{builder.{Open.Open, Spine.Spine}, object.Object.{Object, roll-Object}}}}
 use Rattle.iodef_tree.proofs.builder.Spine.open.Goals as goal
 
 pub returns : goal.returns

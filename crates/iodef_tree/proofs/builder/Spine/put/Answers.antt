@@ -1,9 +1,5 @@
-use Rattle.std.proofs.Common.{refl}
-use Rattle.iodef_tree.specs.View.{body}
-use Rattle.iodef_tree.specs.declared.object.Object.{Object, roll-Object}
-use Rattle.iodef_tree.specs.declared.builder.Open.{Open}
-use Rattle.iodef_tree.specs.declared.builder.Spine.{Spine}
-use Rattle.iodef_tree.proofs.Spines.{put-class}
+use Rattle.{std.proofs.Common.refl, iodef_tree.{proofs.Spines.put-class, specs.{View.body, declared.{builder.{Open.Open, Spine.Spine}, object.Object.Object}}}}
+use Rattle.iodef_tree.specs.declared.object.Object.{roll-Object}
 use Rattle.iodef_tree.proofs.builder.Spine.put.Goals as goal
 
 pub returns-in_ok-push-in-Some : goal.returns-in_ok-push-in-Some

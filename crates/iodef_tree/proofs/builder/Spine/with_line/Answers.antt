@@ -1,10 +1,5 @@
-use Rattle.std.proofs.Common.{refl}
-use Rattle.std.proofs.lemmas.Result.{IfOk-weaker}
-use Rattle.iodef_tree.specs.Tree.{text, value}
-use Rattle.iodef_tree.specs.View.{body}
-use Rattle.iodef_tree.specs.declared.object.Item.TheVariants.{Text, Value}
-use Rattle.iodef_tree.proofs.Views.{body-Text, body-Value}
-use Rattle.iodef_tree.proofs.Spines.{has-class, has-plain}
+use Rattle.{std.proofs.{Common.refl, lemmas.Result.IfOk-weaker}, iodef_tree.proofs.{Spines.{has-class, has-plain}, Views.{body-Text, body-Value}}}
+use Rattle.iodef_tree.specs.{Tree.{text, value}, View.body, declared.object.Item.TheVariants.{Text, Value}}
 use Rattle.iodef_tree.proofs.builder.Spine.with_line.Goals as goal
 
 pub returns-in-Class : goal.returns-in-Class

@@ -1,13 +1,6 @@
-use Rattle.std.proofs.Common.{◌≡◌, Bor, Option, Some, None, option_map, [], IfSome, arith}
-use Rattle.iodef_tree.specs.inner.Lookup.{object_at}
-use Rattle.iodef_tree.specs.Paths.{located}
-use Rattle.iodef_tree.specs.Sound.{IsSound}
-use Rattle.json_pointer.specs.Text.{Tokens}
-use Rattle.iodef_tree.specs.Tree.{Forest, lines}
-use Rattle.iodef_tree.specs.View.{forest}
-use Rattle.iodef_tree.specs.Walk.{IsBlock}
-use Rattle.iodef_tree.specs.declared.object.Object.{Object}
-use Rattle.iodef_tree.proofs.Onward.{found-onward, stands-onward, root-stands}
+use Rattle.{std.proofs.Common.{◌≡◌, Bor, Option, Some, None, option_map, [], IfSome, arith}, json_pointer.specs.Text.Tokens}
+use Rattle.iodef_tree.{proofs.Onward.{found-onward, stands-onward, root-stands}, specs.{Paths.located, Sound.IsSound, Tree.{Forest, lines}, View.forest}}
+use Rattle.iodef_tree.specs.{Walk.IsBlock, declared.object.Object.Object, inner.Lookup.object_at}
 use Rattle.iodef_tree.proofs.document.Document.class.Goals as goal
 
 block_of : (root : Forest) (p : Tokens) (r : Option (Bor Object)) → IsSound root → option_map (λ o. forest o.now) r ≡ object_at root p →

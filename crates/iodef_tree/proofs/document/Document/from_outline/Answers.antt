@@ -1,5 +1,4 @@
-use Rattle.iodef_tree.proofs.Steps.{from_outline_steps}
-use Rattle.std.proofs.Common.{arith}
+use Rattle.{std.proofs.Common.arith, iodef_tree.proofs.Steps.from_outline_steps}
 use Rattle.iodef_tree.proofs.document.Document.from_outline.Goals as goal
 
 pub returns-then-not-branch-clause-err : goal.returns-then-not-branch-clause-err

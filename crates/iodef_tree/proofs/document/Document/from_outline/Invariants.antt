@@ -1,6 +1,4 @@
-use Rattle.std.proofs.Common.{◌≡◌, take}
-use Rattle.iodef_tree.specs.Outline.{back}
-use Rattle.iodef_tree.specs.Shown.{Shows}
+use Rattle.{std.proofs.Common.{◌≡◌, take}, iodef_tree.specs.{Outline.back, Shown.Shows}}
 use Rattle.iodef_tree.proofs.document.Document.from_outline.Given as goal
 
 abbrev pub invariant-loop-line : goal.invariant-loop-line

@@ -1,7 +1,5 @@
-use Rattle.std.proofs.Common.{refl, ap, string_bytes, Some, None}
-use Rattle.iodef_tree.specs.View.{bodies, forest}
+use Rattle.{std.proofs.Common.{refl, ap, string_bytes, Some, None}, iodef_tree.{proofs.MembersByName.id-is, specs.View.{bodies, forest}}}
 use Rattle.iodef_tree.specs.inner.Written.{bodies_data}
-use Rattle.iodef_tree.proofs.MembersByName.{id-is}
 use Rattle.iodef_tree.proofs.document.Document.incident_id.Goals as goal
 
 pub returns-in-None : goal.returns-in-None

@@ -1,5 +1,4 @@
-use Rattle.iodef_tree.specs.View.{forest}
-use Rattle.iodef_tree.proofs.Onward.{found-onward, stands-onward}
+use Rattle.iodef_tree.{proofs.Onward.{found-onward, stands-onward}, specs.View.forest}
 use Rattle.iodef_tree.proofs.object.Object.class.Goals as goal
 
 pub returns-clause-found : goal.returns-clause-found

@@ -1,7 +1,5 @@
-use Rattle.std.proofs.Common.{[], ◌∷◌, ◌++◌, take, ◌-◌, sym, ◌∙◌, ap}
-use Rattle.iodef_tree.specs.declared.shape.Shape.{Shape}
-use Rattle.iodef_tree.specs.declared.shape.Sibling.{Sibling}
-use Rattle.iodef_tree.proofs.Outlines.{too_many, fits_is, shows_more}
+use Rattle.{std.proofs.Common.{[], ◌∷◌, ◌++◌, take, ◌-◌, sym, ◌∙◌, ap}, iodef_tree.proofs.Outlines.{too_many, fits_is, shows_more}}
+use Rattle.iodef_tree.specs.declared.shape.{Shape.Shape, Sibling.Sibling}
 use Rattle.iodef_tree.proofs.shape.Shape.accept.Goals as goal
 
 pub returns-in-None-clause-exact : goal.returns-in-None-clause-exact

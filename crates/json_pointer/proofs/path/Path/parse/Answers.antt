@@ -1,6 +1,4 @@
-use Rattle.std.proofs.Common.{◌==◌, List, ℕ, length, ap}
-use Rattle.std.specs.Char.{encode_utf8}
-use Rattle.json_pointer.proofs.Unescaping.{pointer_tokens-none}
+use Rattle.{std.{proofs.Common.{◌==◌, List, ℕ, length, ap}, specs.Char.encode_utf8}, json_pointer.proofs.Unescaping.pointer_tokens-none}
 use Rattle.json_pointer.proofs.path.Path.parse.Goals as goal
 
 pub returns-in_default-clause-bad : goal.returns-in_default-clause-bad

@@ -1,5 +1,4 @@
-use Rattle.std.proofs.Common.{◌≡◌, ◌++◌, drop, string_bytes}
-use Rattle.json_pointer.specs.Pointer.{pointer_text}
+use Rattle.{std.proofs.Common.{◌≡◌, ◌++◌, drop, string_bytes}, json_pointer.specs.Pointer.pointer_text}
 use Rattle.json_pointer.proofs.path.Path.print.Given as goal
 
 abbrev pub invariant-loop-token : goal.invariant-loop-token

@@ -1,5 +1,4 @@
-use Rattle.std.proofs.Common.{arith}
-use Rattle.std.proofs.lemmas.Grind.{common_steps}
+use Rattle.std.proofs.{Common.arith, lemmas.Grind.common_steps}
 use Rattle.json_pointer.proofs.path.PathClone.clone.Goals as goal
 
 pub loop-token-preserved : goal.loop-token-preserved

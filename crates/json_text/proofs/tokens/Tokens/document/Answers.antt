@@ -1,9 +1,5 @@
-use Rattle.std.proofs.Common.{OnOk, subst, ◌++◌, ◌∙◌, ap}
-use Rattle.serde_json.specs.Data.{object as json_object}
-use Rattle.serde_json.specs.Written.{comma_if, compact_text}
-use Rattle.iodef_tree.specs.Json.{data_of}
-use Rattle.iodef_tree.specs.View.{forest}
-use Rattle.iodef_tree.proofs.Meaning.{text-is}
+use Rattle.{std.proofs.Common.{OnOk, subst, ◌++◌, ◌∙◌, ap}, serde_json.specs.{Data.object as json_object, Written.{comma_if, compact_text}}}
+use Rattle.iodef_tree.{proofs.Meaning.text-is, specs.{Json.data_of, View.forest}}
 use Rattle.json_text.proofs.tokens.Tokens.document.Goals as goal
 
 pub returns-clause-puts : goal.returns-clause-puts

@@ -1,9 +1,5 @@
-use Rattle.std.proofs.Common.{◌++◌, [], ◌∷◌, ap, ◌∙◌}
-use Rattle.json.specs.Token.{boolean}
-use Rattle.json.specs.Print.{quoted, token_text}
-use Rattle.serde_json.specs.Written.{comma_if}
-use Rattle.json_text.proofs.Puts.{ok-both-are}
-use Rattle.json_text.proofs.Texts.{named-is, separator-begins}
+use Rattle.{std.proofs.Common.{◌++◌, [], ◌∷◌, ap, ◌∙◌}, json.specs.{Print.{quoted, token_text}, Token.boolean}, serde_json.specs.Written.comma_if}
+use Rattle.json_text.proofs.{Puts.ok-both-are, Texts.{named-is, separator-begins}}
 use Rattle.json_text.proofs.tokens.Tokens.flag_member.Goals as goal
 
 pub returns-clause-puts : goal.returns-clause-puts

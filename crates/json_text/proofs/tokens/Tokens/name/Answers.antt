@@ -1,6 +1,4 @@
-use Rattle.serde_json.specs.Written.{comma_if}
-use Rattle.json_text.proofs.Puts.{both-are}
-use Rattle.json_text.proofs.Texts.{name-is}
+use Rattle.{serde_json.specs.Written.comma_if, json_text.proofs.{Puts.both-are, Texts.name-is}}
 use Rattle.json_text.proofs.tokens.Tokens.name.Goals as goal
 
 pub returns-clause-puts : goal.returns-clause-puts

@@ -1,6 +1,4 @@
-use Rattle.serde_json.specs.Written.{comma_if}
-use Rattle.json_text.proofs.Puts.{ok-both-are}
-use Rattle.json_text.proofs.Texts.{opened-is}
+use Rattle.{serde_json.specs.Written.comma_if, json_text.proofs.{Puts.ok-both-are, Texts.opened-is}}
 use Rattle.json_text.proofs.tokens.Tokens.open_quote.Goals as goal
 
 pub returns : goal.returns

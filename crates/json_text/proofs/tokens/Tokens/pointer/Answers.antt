@@ -1,9 +1,5 @@
-use Rattle.std.proofs.Common.{[], ◌∷◌, ◌++◌, ◌∙◌}
-use Rattle.serde_json.specs.Written.{comma_if}
-use Rattle.json_text.specs.Shown.{shown_bytes}
-use Rattle.json_text.specs.declared.escape.Within.TheVariants.{Token}
-use Rattle.json_text.proofs.Puts.{ok-both-are}
-use Rattle.json_text.proofs.Texts.{token-more, pointer-is}
+use Rattle.{std.proofs.Common.{[], ◌∷◌, ◌++◌, ◌∙◌}, serde_json.specs.Written.comma_if, json_text.proofs.{Puts.ok-both-are, Texts.{token-more, pointer-is}}}
+use Rattle.json_text.specs.{Shown.shown_bytes, declared.escape.Within.TheVariants.Token}
 use Rattle.json_text.proofs.tokens.Tokens.pointer.Goals as goal
 
 pub loop-token-preserved : goal.loop-token-preserved

@@ -1,7 +1,4 @@
-use Rattle.std.proofs.Common.{◌≡◌, ℕ, List, [], ◌∷◌, ◌++◌, drop}
-use Rattle.std.specs.List.{flat_map}
-use Rattle.serde_json.specs.Written.{comma_if}
-use Rattle.json_text.proofs.Texts.{token_shown}
+use Rattle.{std.{proofs.Common.{◌≡◌, ℕ, List, [], ◌∷◌, ◌++◌, drop}, specs.List.flat_map}, serde_json.specs.Written.comma_if, json_text.proofs.Texts.token_shown}
 use Rattle.json_text.proofs.tokens.Tokens.pointer.Given as goal
 
 abbrev pub invariant-loop-token : goal.invariant-loop-token

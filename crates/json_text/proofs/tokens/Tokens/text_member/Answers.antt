@@ -1,6 +1,4 @@
-use Rattle.json.specs.Print.{quoted}
-use Rattle.json_text.proofs.Puts.{ok-both-are}
-use Rattle.json_text.proofs.Texts.{named-is}
+use Rattle.{json.specs.Print.quoted, json_text.proofs.{Puts.ok-both-are, Texts.named-is}}
 use Rattle.json_text.proofs.tokens.Tokens.text_member.Goals as goal
 
 pub returns-clause-puts : goal.returns-clause-puts

@@ -1,5 +1,4 @@
-use Rattle.kept_documents.proofs.Going.{kept_promoted, light_promoted}
-use Rattle.kept_documents.proofs.Weights.{promoted_fits}
+use Rattle.kept_documents.proofs.{Going.{kept_promoted, light_promoted}, Weights.promoted_fits}
 use Rattle.kept_documents.proofs.documents.Documents.is_wanted.Goals as goal
 
 pub returns-then-promote : goal.returns-then-promote

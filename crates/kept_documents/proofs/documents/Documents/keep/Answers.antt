@@ -1,7 +1,4 @@
-use Rattle.std.proofs.Common.{◌≤◌, inl, arith}
-use Rattle.kept_documents.proofs.Going.{kept_put, kept_same, light_put}
-use Rattle.kept_documents.proofs.Weights.{put_fits}
-use Rattle.kept_documents.specs.Kept.{document_weight}
+use Rattle.{std.proofs.Common.{◌≤◌, inl, arith}, kept_documents.{proofs.{Going.{kept_put, kept_same, light_put}, Weights.put_fits}, specs.Kept.document_weight}}
 use Rattle.kept_documents.proofs.documents.Documents.keep.Goals as goal
 
 pub returns-in-Ok : goal.returns-in-Ok

@@ -1,8 +1,4 @@
-use Rattle.std.proofs.Common.{subst, false, ◌≡◌}
-use Rattle.std.specs.List.{list_any}
-use Rattle.std.proofs.lemmas.List.{take_all}
-use Rattle.kept_documents.specs.Kept.{is_of}
-use Rattle.kept_documents.proofs.Edits.{one_more}
+use Rattle.{std.{proofs.{Common.{subst, false, ◌≡◌}, lemmas.List.take_all}, specs.List.list_any}, kept_documents.{proofs.Edits.one_more, specs.Kept.is_of}}
 use Rattle.kept_documents.proofs.documents.Documents.let_go.Goals as goal
 
 pub loop-edit-preserved : goal.loop-edit-preserved

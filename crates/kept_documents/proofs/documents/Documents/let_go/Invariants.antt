@@ -1,5 +1,4 @@
-use Rattle.std.proofs.Common.{take}
-use Rattle.kept_documents.specs.Kept.{AreSpared}
+use Rattle.{std.proofs.Common.take, kept_documents.specs.Kept.AreSpared}
 use Rattle.kept_documents.proofs.documents.Documents.let_go.Given as goal
 
 abbrev pub invariant-loop-edit : goal.invariant-loop-edit

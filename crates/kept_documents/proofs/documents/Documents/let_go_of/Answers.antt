@@ -1,6 +1,4 @@
-use Rattle.std.proofs.Common.{arith}
-use Rattle.kept_documents.proofs.Going.{kept_others, light_others}
-use Rattle.kept_documents.proofs.Weights.{none_gone, one_gone}
+use Rattle.{std.proofs.Common.arith, kept_documents.proofs.{Going.{kept_others, light_others}, Weights.{none_gone, one_gone}}}
 use Rattle.kept_documents.proofs.documents.Documents.let_go_of.Goals as goal
 
 pub returns-in-Some : goal.returns-in-Some

@@ -1,12 +1,7 @@
-use Rattle.std.proofs.Common.{◌≡◌, ◌≤◌, ◌-◌, Option, None, IfSome, sym, subst, ap, arith}
-use Rattle.iodef_tree.specs.Paths.{located}
-use Rattle.iodef_tree.specs.View.{forest}
-use Rattle.marking.specs.Marks.{first_bad_marking}
-use Rattle.hub_state.specs.Documents.{Lines}
-use Rattle.kept_documents.specs.Kept.{document_weight}
-use Rattle.kept_documents.proofs.Trees.{document_weight-lines}
+use Rattle.{std.proofs.Common.{◌≡◌, ◌≤◌, ◌-◌, Option, None, IfSome, sym, subst, ap, arith}, iodef_tree.specs.{Paths.located, View.forest}}
+use Rattle.{marking.specs.Marks.first_bad_marking, hub_state.specs.Documents.Lines, kept_documents.proofs.Trees.document_weight-lines}
+use Rattle.kept_documents.{proofs.kept.Kept.within.Goals.{in-Err, in-Ok+in-Err-copy, in-Ok+in-Ok-copy}, specs.Kept.document_weight}
 use Rattle.kept_documents.proofs.kept.Kept.within.Goals as goal
-use Rattle.kept_documents.proofs.kept.Kept.within.Goals.{in-Err, in-Ok+in-Err-copy, in-Ok+in-Ok-copy}
 
 pub invariant_of-result : goal.invariant_of-result
 invariant_of-result c =

@@ -1,6 +1,4 @@
-use Rattle.std.proofs.Common.{◌∙◌}
-use Rattle.kept_documents.proofs.Again.{not_failed, read_again, read_as}
-use Rattle.kept_documents.proofs.Told.{met_alike}
+use Rattle.{std.proofs.Common.◌∙◌, kept_documents.proofs.{Again.{not_failed, read_again, read_as}, Told.met_alike}}
 use Rattle.kept_documents.proofs.kept_documents.KeptDocuments.meets_below.Goals as goal
 
 pub returns-then-give_way-clause-shelf : goal.returns-then-give_way-clause-shelf

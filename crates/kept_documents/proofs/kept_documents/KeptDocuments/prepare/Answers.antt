@@ -1,5 +1,4 @@
-use Rattle.std.proofs.Common.{sym, ◌∙◌}
-use Rattle.kept_documents.proofs.Told.{kept_new}
+use Rattle.{std.proofs.Common.{sym, ◌∙◌}, kept_documents.proofs.Told.kept_new}
 use Rattle.kept_documents.proofs.kept_documents.KeptDocuments.prepare.Goals as goal
 
 pub returns-in-Ok-Some-clause-documents : goal.returns-in-Ok-Some-clause-documents

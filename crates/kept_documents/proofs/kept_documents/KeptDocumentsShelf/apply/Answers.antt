@@ -1,5 +1,4 @@
-use Rattle.kept_documents.proofs.Edits.{kept_after}
-use Rattle.kept_documents.proofs.Told.{on_ok_beside, on_err_weaker}
+use Rattle.kept_documents.proofs.{Edits.kept_after, Told.{on_ok_beside, on_err_weaker}}
 use Rattle.kept_documents.proofs.kept_documents.KeptDocumentsShelf.apply.Goals as goal
 
 pub returns-clause-made : goal.returns-clause-made

@@ -1,7 +1,4 @@
-use Rattle.std.proofs.Common.{rules, ◌∙◌, arith}
-use Rattle.kept_documents.proofs.Again.{fewer, ok_not_failed, read_again}
-use Rattle.kept_documents.proofs.Going.{none_among}
-use Rattle.kept_documents.proofs.Told.{served}
+use Rattle.{std.proofs.Common.{rules, ◌∙◌, arith}, kept_documents.proofs.{Again.{fewer, ok_not_failed, read_again}, Going.none_among, Told.served}}
 use Rattle.kept_documents.proofs.kept_documents.KeptDocumentsShelf.excerpt.Goals as goal
 
 pub returns-in-None : goal.returns-in-None

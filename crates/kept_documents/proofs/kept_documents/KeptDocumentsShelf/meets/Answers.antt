@@ -1,7 +1,4 @@
-use Rattle.std.proofs.Common.{rules, ◌∙◌, arith}
-use Rattle.kept_documents.proofs.Again.{fewer, ok_not_failed, read_again}
-use Rattle.kept_documents.proofs.Going.{none_among}
-use Rattle.kept_documents.proofs.Told.{met}
+use Rattle.{std.proofs.Common.{rules, ◌∙◌, arith}, kept_documents.proofs.{Again.{fewer, ok_not_failed, read_again}, Going.none_among, Told.met}}
 use Rattle.kept_documents.proofs.kept_documents.KeptDocumentsShelf.meets.Goals as goal
 
 pub returns-in-None : goal.returns-in-None
@@ -43,3 +40,9 @@ returns-in-Err g c =
         crash = read.kept.crash;
       };
     }
+
+pub returns-in_err-prepare : goal.returns-in_err-prepare
+returns-in_err-prepare g c = record {
+  value = search rules;
+  kept = record { cause = search rules; doubt = search rules; content = search rules; crash = search rules };
+}

@@ -1,5 +1,4 @@
-use Rattle.std.proofs.Common.{◌∙◌, sym}
-use Rattle.kept_rows.proofs.Drawn.{keeps_read}
+use Rattle.{std.proofs.Common.{◌∙◌, sym}, kept_rows.proofs.Drawn.keeps_read}
 use Rattle.kept_rows.proofs.kept_rows.KeptRows.draw.Goals as goal
 
 pub returns-in_ok-draw-clause-reads : goal.returns-in_ok-draw-clause-reads

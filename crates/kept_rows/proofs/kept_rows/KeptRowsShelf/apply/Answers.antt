@@ -1,10 +1,5 @@
-use Rattle.std.proofs.Common.{◌≡◌, List, ◌∙◌, ap, map}
-use Rattle.hub_state.specs.Edits.{with_edits}
-use Rattle.hub_state.specs.Bare.{bare, bare_edit}
-use Rattle.hub_state.specs.Lists.{Ready}
-use Rattle.hub_state.specs.State.{State}
-use Rattle.hub_state.specs.declared.edit.Edit.{Edit}
-use Rattle.hub_state.proofs.Bare.{edits_bare}
+use Rattle.{std.proofs.Common.{◌≡◌, List, ◌∙◌, ap, map}, hub_state.{proofs.Bare.edits_bare, specs.{Bare.{bare, bare_edit}, Edits.with_edits, Lists.Ready}}}
+use Rattle.hub_state.specs.{State.State, declared.edit.Edit.Edit}
 use Rattle.kept_rows.proofs.kept_rows.KeptRowsShelf.apply.Goals as goal
 
 -- the rows of a state, with the edits made, are those of the state with them made

@@ -1,7 +1,4 @@
-use Rattle.std.proofs.Common.{◌∙◌, ap}
-use Rattle.hub_state.specs.Reads.{case_of}
-use Rattle.hub_state.proofs.Bare.{case_bare}
-use Rattle.kept_rows.proofs.Reading.{answered}
+use Rattle.{std.proofs.Common.{◌∙◌, ap}, hub_state.{proofs.Bare.case_bare, specs.Reads.case_of}, kept_rows.proofs.Reading.answered}
 use Rattle.kept_rows.proofs.kept_rows.KeptRowsShelf.case.Goals as goal
 
 pub returns : goal.returns

@@ -1,7 +1,4 @@
-use Rattle.std.proofs.Common.{◌∙◌, ap}
-use Rattle.hub_state.specs.Reads.{entries_after}
-use Rattle.hub_state.proofs.Bare.{entries_bare}
-use Rattle.kept_rows.proofs.Reading.{answered}
+use Rattle.{std.proofs.Common.{◌∙◌, ap}, hub_state.{proofs.Bare.entries_bare, specs.Reads.entries_after}, kept_rows.proofs.Reading.answered}
 use Rattle.kept_rows.proofs.kept_rows.KeptRowsShelf.incidents_after.Goals as goal
 
 pub returns : goal.returns

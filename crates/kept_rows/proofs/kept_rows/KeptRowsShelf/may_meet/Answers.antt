@@ -1,6 +1,4 @@
-use Rattle.std.proofs.Common.{sym}
-use Rattle.kept_rows.proofs.Drawn.{document_drawn}
-use Rattle.kept_rows.proofs.Reading.{answered, unheld}
+use Rattle.{std.proofs.Common.sym, kept_rows.proofs.{Drawn.document_drawn, Reading.{answered, unheld}}}
 use Rattle.kept_rows.proofs.kept_rows.KeptRowsShelf.may_meet.Goals as goal
 
 pub returns-then-not-may_hold : goal.returns-then-not-may_hold

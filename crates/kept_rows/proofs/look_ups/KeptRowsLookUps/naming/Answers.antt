@@ -1,7 +1,4 @@
-use Rattle.std.proofs.Common.{◌∙◌, ap}
-use Rattle.hub_state.specs.Reads.{naming_of}
-use Rattle.hub_state.proofs.Bare.{naming_bare}
-use Rattle.kept_rows.proofs.Reading.{answered}
+use Rattle.{std.proofs.Common.{◌∙◌, ap}, hub_state.{proofs.Bare.naming_bare, specs.Reads.naming_of}, kept_rows.proofs.Reading.answered}
 use Rattle.kept_rows.proofs.look_ups.KeptRowsLookUps.naming.Goals as goal
 
 pub returns : goal.returns

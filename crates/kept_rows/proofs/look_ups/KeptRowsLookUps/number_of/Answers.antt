@@ -1,9 +1,5 @@
-use Rattle.std.proofs.Common.{ℕ, List, ◌∙◌, ap, sym, subst, refl}
-use Rattle.std.specs.Prelude.{option_map}
-use Rattle.circle.specs.Sound.{Differ}
-use Rattle.hub_state.specs.State.{State, incident_named, incident_number}
-use Rattle.hub_state.specs.declared.state.Incident.{Incident}
-use Rattle.hub_state.proofs.Bare.{number_bare, differ_bare}
+use Rattle.{std.{proofs.Common.{ℕ, List, ◌∙◌, ap, sym, subst, refl}, specs.Prelude.option_map}, circle.specs.Sound.Differ, hub_state.proofs.Bare.number_bare}
+use Rattle.hub_state.{proofs.Bare.differ_bare, specs.{State.{State, incident_named, incident_number}, declared.state.Incident.Incident}}
 use Rattle.kept_rows.proofs.Reading.{answered}
 use Rattle.kept_rows.proofs.look_ups.KeptRowsLookUps.number_of.Goals as goal
 

@@ -1,7 +1,4 @@
-use Rattle.std.proofs.Common.{◌∙◌, ap}
-use Rattle.hub_state.specs.Reads.{sharing_of}
-use Rattle.hub_state.proofs.Bare.{sharing_bare}
-use Rattle.kept_rows.proofs.Reading.{answered}
+use Rattle.{std.proofs.Common.{◌∙◌, ap}, hub_state.{proofs.Bare.sharing_bare, specs.Reads.sharing_of}, kept_rows.proofs.Reading.answered}
 use Rattle.kept_rows.proofs.look_ups.KeptRowsLookUps.sharing_of.Goals as goal
 
 pub returns : goal.returns

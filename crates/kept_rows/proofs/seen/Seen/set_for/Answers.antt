@@ -1,11 +1,6 @@
-use Rattle.std.proofs.Common.{rules, ◌≡◌, Option, Some, None, ◌∙◌, ap, sym, subst, SFits, w64, to_z-of_z}
-use Rattle.circle.specs.Reads.{person_of}
-use Rattle.circle.specs.declared.directory.Person.{Person}
-use Rattle.hub_state.specs.KeptReaders.{IsReader}
-use Rattle.hub_state.specs.Reads.{standing_for, ties_of}
-use Rattle.hub_state.specs.declared.kept_reader.KeptReader.{KeptReader}
-use Rattle.hub_state.specs.declared.state.Naming.{Naming}
-use Rattle.kept_rows.proofs.Ties.{ties_kept}
+use Rattle.{std.proofs.Common.{rules, ◌≡◌, Option, Some, None, ◌∙◌, ap, sym, subst, SFits, w64, to_z-of_z}, circle.specs.Reads.person_of}
+use Rattle.{circle.specs.declared.directory.Person.Person, hub_state.specs.{KeptReaders.IsReader, Reads.{standing_for, ties_of}}}
+use Rattle.{hub_state.specs.declared.kept_reader.KeptReader.KeptReader, kept_rows.proofs.Ties.ties_kept}
 use Rattle.kept_rows.proofs.seen.Seen.set_for.Goals as goal
 
 same_person : (p q : Person) (o : Option Person) → o ≡ Some p → o ≡ Some q → p ≡ q

@@ -1,7 +1,4 @@
-use Rattle.std.proofs.Common.{sym, subst}
-use Rattle.hub_state.specs.Edits.{edited}
-use Rattle.kept_rows.specs.Drawn.{AreDrawn}
-use Rattle.kept_rows.proofs.Drawn.{drawn_put, drawn_taken}
+use Rattle.{std.proofs.Common.{sym, subst}, hub_state.specs.Edits.edited, kept_rows.{proofs.Drawn.{drawn_put, drawn_taken}, specs.Drawn.AreDrawn}}
 use Rattle.kept_rows.proofs.sketches.Sketches.follow.Goals as goal
 
 pub returns-in-PutIncident : goal.returns-in-PutIncident

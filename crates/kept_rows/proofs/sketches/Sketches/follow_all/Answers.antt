@@ -1,6 +1,4 @@
-use Rattle.std.proofs.Common.{◌≡◌, ◌∙◌, ◌+◌, sym, ap, subst, drop}
-use Rattle.std.proofs.lemmas.List.{drop_more, drop_all}
-use Rattle.hub_state.specs.Edits.{edited, with_edits}
+use Rattle.{std.proofs.{Common.{◌∙◌, ◌+◌, sym, ap, subst, drop}, lemmas.List.{drop_more, drop_all}}, hub_state.specs.Edits.{edited, with_edits}}
 use Rattle.kept_rows.specs.Drawn.{AreDrawn}
 use Rattle.kept_rows.proofs.sketches.Sketches.follow_all.Goals as goal
 

@@ -1,7 +1,4 @@
-use Rattle.std.proofs.Common.{◌≡◌, drop}
-use Rattle.hub_state.specs.State.{State}
-use Rattle.hub_state.specs.Edits.{with_edits}
-use Rattle.kept_rows.specs.Drawn.{AreDrawn}
+use Rattle.{std.proofs.Common.{◌≡◌, drop}, hub_state.specs.{Edits.with_edits, State.State}, kept_rows.specs.Drawn.AreDrawn}
 use Rattle.kept_rows.proofs.sketches.Sketches.follow_all.Given as goal
 
 abbrev pub invariant-loop-edit : goal.invariant-loop-edit

@@ -1,6 +1,4 @@
-use Rattle.std.proofs.Common.{◌∙◌, sym}
-use Rattle.kept_rows.proofs.Drawn.{document_drawn}
-use Rattle.kept_rows.proofs.Reading.{met_there}
+use Rattle.{std.proofs.Common.{◌∙◌, sym}, kept_rows.proofs.{Drawn.document_drawn, Reading.met_there}}
 use Rattle.kept_rows.proofs.sketches.Sketches.judge.Goals as goal
 
 pub returns-in-Some-clause-met : goal.returns-in-Some-clause-met

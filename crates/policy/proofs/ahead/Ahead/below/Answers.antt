@@ -1,8 +1,5 @@
-use Rattle.std.proofs.Common.{◌≡◌, ◌∷◌, ◌++◌, [], sym, ◌∙◌, ap, append_assoc}
-use Rattle.iodef_tree.specs.Text.{Tokens}
-use Rattle.policy.specs.Verdict.{first_of}
-use Rattle.policy.specs.Ahead.{Met, ahead_of, met_at, met_by, refused_with, granted_with}
-use Rattle.policy.specs.declared.ahead.Ahead.{Ahead}
+use Rattle.{std.proofs.Common.{◌≡◌, ◌∷◌, ◌++◌, [], sym, ◌∙◌, ap, append_assoc}, iodef_tree.specs.Text.Tokens, policy.specs.Ahead.{Met, ahead_of, met_at}}
+use Rattle.policy.specs.{Ahead.{met_by, refused_with, granted_with}, Verdict.first_of, declared.ahead.Ahead.Ahead}
 use Rattle.policy.proofs.ahead.Ahead.below.Goals as goal
 
 pub returns : goal.returns

@@ -1,8 +1,5 @@
-use Rattle.std.proofs.Common.{ap, arith}
-use Rattle.std.proofs.lemmas.Grind.{common_steps}
-use Rattle.iodef_tree.specs.Text.{Tokens}
+use Rattle.{std.proofs.{Common.{ap, arith}, lemmas.Grind.common_steps}, iodef_tree.specs.Text.Tokens, policy.proofs.Onwards.{none-refuses, none-grants}}
 use Rattle.policy.specs.Ahead.{Met}
-use Rattle.policy.proofs.Onwards.{none-refuses, none-grants}
 use Rattle.policy.proofs.ahead.Ahead.is_empty.Goals as goal
 
 -- If nothing is met anywhere, nothing is left.

@@ -1,10 +1,5 @@
-use Rattle.std.proofs.Common.{◌∙◌, [], arith, subst}
-use Rattle.iodef_tree.specs.Laws.{StandsAt}
-use Rattle.iodef_tree.specs.Paths.{located}
-use Rattle.iodef_tree.specs.View.{forest}
-use Rattle.iodef_tree.proofs.ByPath.{has_class-root}
-use Rattle.iodef_tree.proofs.Onward.{root-stands}
-use Rattle.policy.proofs.Steps.{at_root-is}
+use Rattle.{std.proofs.Common.{◌∙◌, [], arith, subst}, iodef_tree.{proofs.{ByPath.has_class-root, Onward.root-stands}, specs.{Laws.StandsAt, Paths.located}}}
+use Rattle.{iodef_tree.specs.View.forest, policy.proofs.Steps.at_root-is}
 use Rattle.policy.proofs.descent.Descent.at_root.Goals as goal
 
 pub returns : goal.returns

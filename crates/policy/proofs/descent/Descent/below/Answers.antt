@@ -1,17 +1,7 @@
-use Rattle.std.proofs.Common.{◌≡◌, ◌++◌, ◌||◌, true, false, take, length, sym, ap, ◌∙◌, subst, arith}
-use Rattle.std.specs.Prelude.{is_some, option_map}
-use Rattle.std.proofs.lemmas.Slice.{between_to_end}
-use Rattle.iodef_tree.specs.Laws.{StandsAt}
-use Rattle.iodef_tree.specs.Paths.{located, has_class}
-use Rattle.iodef_tree.specs.Text.{is_root}
-use Rattle.iodef_tree.specs.View.{forest}
-use Rattle.iodef_tree.proofs.Blocks.{below-parents}
-use Rattle.marking.specs.Label.{marking_of}
-use Rattle.marking.specs.Marks.{written_label}
-use Rattle.marking.proofs.Written.{written-block}
-use Rattle.policy.specs.Inherited.{carried}
-use Rattle.policy.proofs.Descents.{found-here, stands-here, stands-whole, still-stands}
-use Rattle.policy.proofs.Steps.{class-below, array-below}
+use Rattle.std.{proofs.{Common.{◌≡◌, ◌++◌, ◌||◌, true, false, take, length, sym, ap, ◌∙◌, subst, arith}, lemmas.Slice.between_to_end}, specs.Prelude.is_some}
+use Rattle.{std.specs.Prelude.option_map, iodef_tree.{proofs.Blocks.below-parents, specs.{Laws.StandsAt, Paths.{located, has_class}, Text.is_root}}}
+use Rattle.{iodef_tree.specs.View.forest, marking.{proofs.Written.written-block, specs.{Label.marking_of, Marks.written_label}}}
+use Rattle.policy.{proofs.{Descents.{found-here, stands-here, stands-whole, still-stands}, Steps.{class-below, array-below}}, specs.Inherited.carried}
 use Rattle.policy.proofs.descent.Descent.below.Goals as goal
 
 pub returns-in-Some : goal.returns-in-Some

@@ -1,8 +1,4 @@
-use Rattle.std.proofs.Common.{◌∙◌, ap, []}
-use Rattle.policy.specs.Ahead.{Met}
-use Rattle.policy.specs.Inherited.{Inherited}
-use Rattle.marking.specs.Label.{private}
-use Rattle.iodef_tree.specs.Text.{Tokens}
+use Rattle.{std.proofs.Common.{◌∙◌, ap, []}, marking.specs.Label.private, iodef_tree.specs.Text.Tokens, policy.specs.{Ahead.Met, Inherited.Inherited}}
 use Rattle.policy.proofs.inherited.Carried.at_root.Goals as goal
 
 pub returns : goal.returns

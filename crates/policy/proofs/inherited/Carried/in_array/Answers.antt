@@ -1,9 +1,5 @@
-use Rattle.std.proofs.Common.{◌≡◌, ◌∙◌, ◌||◌, ap, [], append-nil}
-use Rattle.std.specs.Option.{option_or}
-use Rattle.iodef_tree.specs.Text.{Tokens}
-use Rattle.marking.specs.Label.{marking_of}
-use Rattle.policy.specs.Ahead.{Met, met_at, met_by}
-use Rattle.policy.specs.Inherited.{Inherited}
+use Rattle.{std.{proofs.Common.{◌≡◌, ◌∙◌, ◌||◌, ap, [], append-nil}, specs.Option.option_or}, iodef_tree.specs.Text.Tokens, marking.specs.Label.marking_of}
+use Rattle.policy.specs.{Ahead.{Met, met_at, met_by}, Inherited.Inherited}
 use Rattle.policy.proofs.inherited.Carried.in_array.Goals as goal
 
 pub returns : goal.returns

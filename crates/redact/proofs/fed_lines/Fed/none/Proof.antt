@@ -1,32 +1,18 @@
 -- `none` makes a value of no bytes, whose ghost field is the empty list.
-use mathlib.Core.Path.{refl}
-use mathlib.Core.List.{[], ◌∷◌}
+use mathlib.Core.{List.{[], ◌∷◌}, Path.refl}
 use seplogic.Ra.Ura.{Ura}
 use mir.Val.{Val, vstruct, vcons, vnil}
-use base.Logic.{SProp, ent}
-use base.Fml.{Fml}
-use prog.Memory.{Memory}
-use prog.Routine.{Routine}
-use prog.Wp.{Calls, Loops, WpFn, Tables}
+use base.{Logic.{SProp, ent}, Fml.Fml}
+use prog.{Memory.Memory, Routine.Routine, Wp.{Calls, Loops, WpFn, Tables}}
 use types.Logic.{Logic}
-use contract.Monad.{Fun}
-use contract.Running.{tables, tables_of}
+use contract.{Monad.Fun, Running.{tables, tables_of}}
 use sound.WpLaws.{WpFn-mono}
-use types.Kit.{‵, raw, ◌⊛◌, ◌$◌, ◌∵◌, !, qed, move, keep, split, join, use0, suffices, done}
-use types.Run.{no_more, and_then, returns, enter}
-use types.Part.{agg}
+use types.{Kit.{‵, raw, ◌⊛◌, ◌$◌, ◌∵◌, !, qed, move, keep, split, join, use0, suffices, done}, Run.{no_more, and_then, returns, enter}, Part.agg}
 use types.ByLocal.{alloc_all, pass_all, free_all, look_at, get, sets}
-use denote.RattleType.{owns}
-use denote.Shadow.{makes_shadow}
-use denote.Signature.{types_at, type_at}
-use denote.Steps.{nothing}
-use denote.Triple.Clauses.{Clauses}
-use denote.Triple.Entry.{alive}
-use denote.Triple.Spec.{Meets, triple_of}
-use denote.Triple.Table.{entered}
-use denote.Triple.Walked.{says, Stays, walk_of, ends_at, walk_Meets}
-use Rattle.redact.specs.contracts.fed_lines.Fed.none as f
+use denote.{RattleType.owns, Shadow.makes_shadow, Signature.{types_at, type_at}, Steps.nothing, Triple.{Clauses.Clauses, Entry.alive, Spec.{Meets, triple_of}}}
+use denote.Triple.{Table.entered, Walked.{says, Stays, walk_of, ends_at, walk_Meets}}
 use Rattle.redact.specs.contracts.fed_lines.Fed.none.Key.{name as #self}
+use Rattle.redact.specs.contracts.fed_lines.Fed.none as f
 use Rattle.redact.proofs.fed_lines.Fed.none.Statement as stated
 use Rattle.redact.proofs.fed_lines.Fed.none.Code as code
 

@@ -1,38 +1,20 @@
 -- `with_line` makes a value of no bytes, whose ghost field is the old list with the line at its end.
-use mathlib.Core.Path.{refl, sym, subst}
+use mathlib.Core.{List.{List, [], ◌∷◌, ◌++◌}, Path.{refl, sym, subst}}
 use Prim.Native.Nat.{ℕ}
-use mathlib.Core.List.{List, [], ◌∷◌, ◌++◌}
 use seplogic.Ra.Ura.{Ura}
 use mir.Val.{Val, vptr, vstruct, vcons, vnil}
-use base.Logic.{SProp, ent, via, fst∗, snd∗}
-use base.Fml.{Fml}
-use prog.Memory.{Memory}
-use prog.Routine.{Routine}
-use prog.Wp.{Calls, Loops, WpFn, Tables}
+use base.{Logic.{SProp, ent, via, fst∗, snd∗}, Fml.Fml}
+use prog.{Memory.Memory, Routine.Routine, Wp.{Calls, Loops, WpFn, Tables}}
 use types.Logic.{Logic, sem}
-use contract.Monad.{Fun, fact_use}
-use contract.Running.{tables, tables_of}
+use contract.{Monad.{Fun, fact_use}, Running.{tables, tables_of}}
 use sound.WpLaws.{WpFn-mono}
-use types.Kit.{‵, raw, ◌⊛◌, ◌$◌, ◌∵◌, !, qed, move, keep, split, join, fjoin, use0, suffices, done}
-use types.Run.{no_more, and_then, returns, enter}
-use types.Part.{agg}
+use types.{Kit.{‵, raw, ◌⊛◌, ◌$◌, ◌∵◌, !, qed, move, keep, split, join, fjoin, use0, suffices, done}, Run.{no_more, and_then, returns, enter}, Part.agg}
 use types.ByLocal.{alloc_all, pass_all, free_all, look_at, get, sets}
-use denote.RattleType.{RattleType, owns}
-use denote.Exit.{yes}
-use denote.Laws.{Are, Ises, owns_show, showss}
-use denote.Shadow.{makes_shadow}
-use denote.Builtin.{RefOf}
-use denote.Signature.{types_at, type_at, plain}
-use denote.Steps.{nothing}
-use denote.Triple.Clauses.{Clauses}
-use denote.Triple.Entry.{on_entry, alive}
-use denote.Triple.Spec.{Meets, triple_of}
-use denote.Triple.Table.{entered}
-use denote.Triple.Walked.{says, Stays, stay_dropped, walk_of, ends_at, Goes-dropped, walk_Meets}
-use Rattle.redact.specs.contracts.fed_lines.Fed.{the_row}
-use Rattle.iodef_tree.specs.contracts.line.Line.{the_row as line_row}
+use denote.{RattleType.{RattleType, owns}, Exit.yes, Laws.{Are, Ises, owns_show, showss}, Shadow.makes_shadow, Builtin.RefOf, Signature.{types_at, type_at}}
+use denote.{Signature.plain, Steps.nothing, Triple.{Clauses.Clauses, Entry.{on_entry, alive}, Spec.{Meets, triple_of}, Table.entered, Walked.{says, Stays}}}
+use denote.Triple.Walked.{stay_dropped, walk_of, ends_at, Goes-dropped, walk_Meets}
+use Rattle.{iodef_tree.specs.contracts.line.Line.the_row as line_row, redact.specs.contracts.fed_lines.Fed.{the_row, with_line.Key.name as #self}}
 use Rattle.redact.specs.contracts.fed_lines.Fed.with_line as f
-use Rattle.redact.specs.contracts.fed_lines.Fed.with_line.Key.{name as #self}
 use Rattle.redact.proofs.fed_lines.Fed.with_line.Statement as stated
 use Rattle.redact.proofs.fed_lines.Fed.with_line.Code as code
 

@@ -1,5 +1,4 @@
-use Rattle.std.proofs.Common.{is_eq, sym, ◌∙◌, ap}
-use Rattle.redact.specs.inner.Ties.{withheld-ties}
+use Rattle.{std.proofs.Common.{is_eq, sym, ◌∙◌, ap}, redact.specs.inner.Ties.withheld-ties}
 use Rattle.redact.proofs.note.NotePartialEq.eq.Goals as goal
 
 pub returns : goal.returns

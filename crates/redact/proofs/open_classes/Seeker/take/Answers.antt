@@ -1,9 +1,5 @@
-use Rattle.std.proofs.Common.{rules, ◌≡◌, true, false, refl, sym, ◌∙◌, ap}
-use Rattle.std.specs.List.{list_any}
-use Rattle.iodef_tree.specs.Outline.{back}
-use Rattle.redact.specs.inner.Seeking.{is_settled}
-use Rattle.redact.proofs.Taking.{more-outline}
-use Rattle.redact.proofs.Sure.{takes-met, takes-more}
+use Rattle.{std.{proofs.Common.{rules, ◌≡◌, true, false, refl, sym, ◌∙◌, ap}, specs.List.list_any}, iodef_tree.specs.Outline.back, redact.proofs.Sure.takes-met}
+use Rattle.redact.{proofs.{Sure.takes-more, Taking.more-outline}, specs.inner.Seeking.is_settled}
 use Rattle.redact.proofs.open_classes.Seeker.take.Goals as goal
 
 pub returns-then-not-branch-clause-bad : goal.returns-then-not-branch-clause-bad

@@ -1,7 +1,5 @@
-use Rattle.std.proofs.Common.{rules, ◌≡◌, None, Ok, sym, subst}
-use Rattle.redact.specs.Probed.{ProbeState, ProbesLine, IsSure}
-use Rattle.redact.specs.inner.Seeking.{IsKnown}
-use Rattle.redact.proofs.Sure.{takes-sure, state, probes}
+use Rattle.{std.proofs.Common.{rules, ◌≡◌, None, Ok, sym, subst}, redact.{proofs.Sure.{takes-sure, state, probes}, specs.Probed.{ProbeState, ProbesLine}}}
+use Rattle.redact.specs.{Probed.IsSure, inner.Seeking.IsKnown}
 use Rattle.redact.proofs.probe.Probe.feed.Goals as goal
 
 pub invariant_of-self : goal.invariant_of-self

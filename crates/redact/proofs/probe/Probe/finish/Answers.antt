@@ -1,10 +1,5 @@
-use Rattle.std.proofs.Common.{rules, ◌≡◌, true, None, sym, ◌∙◌, ap, subst}
-use Rattle.iodef_tree.specs.Outline.{is_outline}
-use Rattle.iodef_tree.specs.Paths.{located}
-use Rattle.marking.specs.Marks.{first_bad_marking}
-use Rattle.redact.specs.Wants.{meets}
-use Rattle.redact.specs.Probed.{ProbeState}
-use Rattle.redact.proofs.Sure.{sure-now, known-outline}
+use Rattle.{std.proofs.Common.{rules, ◌≡◌, true, None, sym, ◌∙◌, ap, subst}, iodef_tree.specs.{Outline.is_outline, Paths.located}}
+use Rattle.{marking.specs.Marks.first_bad_marking, redact.{proofs.Sure.{sure-now, known-outline}, specs.{Probed.ProbeState, Wants.meets}}}
 use Rattle.redact.proofs.probe.Probe.finish.Goals as goal
 
 pub returns-then-met-clause-told : goal.returns-then-met-clause-told

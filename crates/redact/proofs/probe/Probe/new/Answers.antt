@@ -1,6 +1,4 @@
-use Rattle.std.proofs.Common.{false, sym, subst}
-use Rattle.std.proofs.lemmas.Bool.{false≢true}
-use Rattle.redact.specs.inner.Seeking.{IsKnown}
+use Rattle.{std.proofs.{Common.{false, sym, subst}, lemmas.Bool.false≢true}, redact.specs.inner.Seeking.IsKnown}
 use Rattle.redact.proofs.probe.Probe.new.Goals as goal
 
 pub invariant_of-result : goal.invariant_of-result

@@ -1,33 +1,16 @@
-use Rattle.std.proofs.Common.{List, ◌≡◌, ℕ, suc, ◌+◌, [], ◌∷◌, ◌++◌, map, length, get_or, drop, take, refl, sym, ◌∙◌, ap, subst, arith, add-one, decimal, false, true, rules, if◌then◌else◌, Option, Some, None, option_map, is_some, append-nil, Result, Ok, Err, IfOk}
-use Rattle.std.proofs.lemmas.List.{drop_all, map-append, at_drop_more}
-use Rattle.std.proofs.lemmas.Bool.{eqb-false}
-use Rattle.std.proofs.lemmas.Grind.{common_steps}
-use Rattle.std.proofs.lemmas.Result.{IfOk-weaker}
-use Rattle.std.specs.List.{AllByRecursion, cons_option}
-use Rattle.iodef_tree.specs.declared.Text.{Text}
-use Rattle.iodef_tree.specs.declared.object.Member.{Member}
-use Rattle.iodef_tree.specs.declared.object.Item.{Item}
-use Rattle.iodef_tree.specs.declared.object.Object.{the_lemmas}
-use Rattle.iodef_tree.specs.Text.{Bytes}
-use Rattle.iodef_tree.specs.View.{forest, body, bodies, named, forest_of_members}
-use Rattle.iodef_tree.specs.Filled.{has_some, IsItemFilled, IsMemberFilled}
-use Rattle.iodef_tree.proofs.Filled.{made-filled, many-filled, member-at, elements-kept}
-use Rattle.iodef_tree.proofs.Views.{forest-made}
-use Rattle.policy.specs.Ahead.{ahead_of}
-use Rattle.marking.specs.Label.{marking_of}
-use Rattle.policy.specs.Inherited.{carried, is_seen, hides}
-use Rattle.redact.specs.inner.Judged.{inside, is_end, cut, withheld_below}
-use Rattle.redact.specs.inner.Pass.{pass}
-use Rattle.redact.specs.inner.Tokens.{token_of, path_of}
-use Rattle.redact.specs.inner.Left.{home_of, left_at, told_at, count_at, left_member, told_member, count_member, left_members, told_members, count_members, left_items, told_items, count_items, Goes, Leaves}
-use Rattle.redact.specs.declared.pass.State.{State}
-use Rattle.redact.specs.declared.trail.Token.{Token}
-use Rattle.redact.proofs.Fronts.{Outcome, of_object}
-use Rattle.redact.proofs.Filling.{object-empty, hidden-left, hidden-filled, hidden-none}
-use Rattle.redact.proofs.Entering.{class-left, class-goes}
-use Rattle.redact.proofs.Going.{goes-step, told-seen, told-hidden, pushed, pushed-left, pushed-all, pushed-none, length-pushed}
-use Rattle.redact.proofs.reader.Reader.+cut.Goals as goal
+use Rattle.std.proofs.Common.{List, ◌≡◌, ℕ, suc, ◌+◌, [], ◌∷◌, ◌++◌, map, length, get_or, drop, take, refl, sym, ◌∙◌, ap, subst, arith, add-one, decimal, false}
+use Rattle.std.proofs.{Common.{true, rules, if◌then◌else◌, Option, Some, None, option_map, is_some, append-nil, Result, Ok, Err, IfOk}, lemmas.Bool.eqb-false}
+use Rattle.std.{proofs.lemmas.{Grind.common_steps, List.{drop_all, map-append, at_drop_more}, Result.IfOk-weaker}, specs.List.{AllByRecursion, cons_option}}
+use Rattle.iodef_tree.{proofs.{Filled.{made-filled, many-filled, member-at, elements-kept}, Views.forest-made}, specs.Filled.{has_some, IsItemFilled}}
+use Rattle.iodef_tree.specs.{Filled.IsMemberFilled, Text.Bytes, View.{forest, body, bodies, named, forest_of_members}, declared.{Text.Text, object.Item.Item}}
+use Rattle.{iodef_tree.specs.declared.object.{Member.Member, Object.the_lemmas}, policy.specs.{Ahead.ahead_of, Inherited.{carried, is_seen, hides}}}
+use Rattle.{marking.specs.Label.marking_of, redact.proofs.{Entering.{class-left, class-goes}, Filling.{object-empty, hidden-left, hidden-filled, hidden-none}}}
+use Rattle.redact.proofs.{Fronts.{Outcome, of_object}, Going.{goes-step, told-seen, told-hidden, pushed, pushed-left, pushed-all, pushed-none, length-pushed}}
 use Rattle.redact.proofs.reader.Reader.+cut.Goals.{cut_items-in-Some+in_ok-push, cut_items-in_default, cut-in-Some+in_ok-push_member, cut-in_default}
+use Rattle.redact.specs.{declared.{pass.State.State, trail.Token.Token}, inner.{Judged.{inside, is_end, cut, withheld_below}, Left.{home_of, left_at, told_at}}}
+use Rattle.redact.specs.inner.Left.{count_at, left_member, told_member, count_member, left_members, told_members, count_members, left_items, told_items}
+use Rattle.redact.specs.inner.{Left.{count_items, Goes, Leaves}, Pass.pass, Tokens.{token_of, path_of}}
+use Rattle.redact.proofs.reader.Reader.+cut.Goals as goal
 
 pub cut-returns-clause-left : goal.cut-returns-clause-left
 cut-returns-clause-left t c =

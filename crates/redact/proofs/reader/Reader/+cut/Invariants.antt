@@ -1,10 +1,6 @@
-use Rattle.std.proofs.Common.{◌≡◌, ◌++◌, map, drop, take, length}
-use Rattle.std.specs.List.{AllByRecursion}
-use Rattle.iodef_tree.specs.Filled.{IsMemberFilled, IsItemFilled}
-use Rattle.iodef_tree.specs.View.{body, named}
-use Rattle.policy.specs.Inherited.{carried}
-use Rattle.redact.specs.inner.Tokens.{path_of}
-use Rattle.redact.specs.inner.Left.{home_of, left_members, told_members, count_members, left_items, told_items, count_items, Goes}
+use Rattle.{std.{proofs.Common.{◌≡◌, ◌++◌, map, drop, take, length}, specs.List.AllByRecursion}, iodef_tree.specs.Filled.{IsMemberFilled, IsItemFilled}}
+use Rattle.{iodef_tree.specs.View.{body, named}, policy.specs.Inherited.carried, redact.specs.inner.Left.{home_of, left_members, told_members, count_members}}
+use Rattle.redact.specs.inner.{Left.{left_items, told_items, count_items, Goes}, Tokens.path_of}
 use Rattle.redact.proofs.reader.Reader.+cut.Given as goal
 
 abbrev pub invariant-cut-loop-name : goal.invariant-cut-loop-name

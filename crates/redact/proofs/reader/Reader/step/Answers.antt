@@ -1,7 +1,4 @@
-use Rattle.std.proofs.Common.{[], ◌∷◌}
-use Rattle.std.proofs.lemmas.List.{map-append}
-use Rattle.std.proofs.lemmas.Result.{IfOk-weaker}
-use Rattle.redact.specs.inner.Tokens.{token_of, path_of}
+use Rattle.{std.proofs.{Common.{[], ◌∷◌}, lemmas.{List.map-append, Result.IfOk-weaker}}, redact.specs.inner.Tokens.{token_of, path_of}}
 use Rattle.redact.proofs.reader.Reader.step.Goals as goal
 
 pub returns-clause-ahead : goal.returns-clause-ahead

@@ -1,6 +1,4 @@
-use Rattle.std.proofs.Common.{◌≡◌, true, false, sym, ◌∙◌}
-use Rattle.iodef_tree.specs.Outline.{back, may_come}
-use Rattle.redact.proofs.Taking.{knows-more, knows-bad}
+use Rattle.{std.proofs.Common.{◌≡◌, true, false, sym, ◌∙◌}, iodef_tree.specs.Outline.{back, may_come}, redact.proofs.Taking.{knows-more, knows-bad}}
 use Rattle.redact.proofs.rows.Progress.take.Goals as goal
 
 pub returns-then-not-fits-clause-bad : goal.returns-then-not-fits-clause-bad

@@ -1,13 +1,7 @@
-use Rattle.std.proofs.Common.{rules, ◌≡◌, true, false, None, refl, sym, ◌∙◌, ap, subst, IfSome}
-use Rattle.std.specs.Prelude.{is_some, option_map}
-use Rattle.std.proofs.lemmas.Bool.{false≢true}
-use Rattle.iodef_tree.specs.Paths.{located}
-use Rattle.marking.specs.Marks.{first_bad_marking}
-use Rattle.redact.specs.Told.{excerpt_of}
-use Rattle.redact.specs.Excerpts.{told_by, LabelsSurvive}
-use Rattle.redact.specs.Feeding.{PassState}
-use Rattle.redact.specs.Marked.{marks_of, is_accepted}
-use Rattle.redact.proofs.Finishing.{accepted-none, refused-some, kept-outline, kept-marked, told-all, labels-served}
+use Rattle.std.{proofs.{Common.{rules, ◌≡◌, true, false, None, refl, sym, ◌∙◌, ap, subst, IfSome}, lemmas.Bool.false≢true}, specs.Prelude.{is_some, option_map}}
+use Rattle.{iodef_tree.specs.Paths.located, marking.specs.Marks.first_bad_marking, redact.proofs.Finishing.{accepted-none, refused-some, kept-outline}}
+use Rattle.redact.{proofs.Finishing.{kept-marked, told-all, labels-served}, specs.{Excerpts.{told_by, LabelsSurvive}, Feeding.PassState, Marked.marks_of}}
+use Rattle.redact.specs.{Marked.is_accepted, Told.excerpt_of}
 use Rattle.redact.proofs.rows.RowPass.finish.Goals as goal
 
 pub returns-then-not-are_accepted-clause-told : goal.returns-then-not-are_accepted-clause-told

@@ -1,5 +1,4 @@
-use Rattle.std.proofs.Common.{sym, subst}
-use Rattle.redact.specs.Sifted.{Knows}
+use Rattle.{std.proofs.Common.{sym, subst}, redact.specs.Sifted.Knows}
 use Rattle.redact.proofs.rows.RowPass.new.Goals as goal
 
 pub invariant_of-result : goal.invariant_of-result

@@ -1,21 +1,8 @@
-use Rattle.std.proofs.lemmas.Grind.{common_steps}
-use Rattle.std.proofs.Common.{◌≡◌, [], ◌∷◌, ◌++◌, List, map, option_map, sym, ◌∙◌, ap, arith, rules}
-use Rattle.std.proofs.lemmas.List.{map-append}
-use Rattle.iodef_tree.specs.View.{body, bodies}
-use Rattle.iodef_tree.specs.declared.object.Object.{the_lemmas}
-use Rattle.iodef_tree.proofs.Filled.{member-at, elements-kept}
-use Rattle.iodef_tree.proofs.Views.{bodies-Many}
-use Rattle.marking.specs.Label.{marking_of}
-use Rattle.policy.specs.Ahead.{ahead_of}
-use Rattle.policy.specs.Inherited.{carried, array_step, enter_array}
-use Rattle.policy.specs.declared.inherited.Carried.{Carried}
-use Rattle.policy.specs.declared.standing.Standing.{Standing}
-use Rattle.policy.specs.declared.case.Case.{Case}
-use Rattle.redact.specs.inner.Tokens.{token_of, path_of}
-use Rattle.redact.specs.inner.Search.{asked_of, found_items, found_member}
-use Rattle.redact.specs.declared.trail.Token.{Token}
-use Rattle.redact.proofs.Entering.{class-found}
-use Rattle.redact.proofs.Searching.{found_next}
+use Rattle.std.proofs.{Common.{◌≡◌, [], ◌∷◌, ◌++◌, List, map, option_map, sym, ◌∙◌, ap, arith, rules}, lemmas.{Grind.common_steps, List.map-append}}
+use Rattle.iodef_tree.{proofs.{Filled.{member-at, elements-kept}, Views.bodies-Many}, specs.{View.{body, bodies}, declared.object.Object.the_lemmas}}
+use Rattle.{marking.specs.Label.marking_of, policy.specs.{Ahead.ahead_of, Inherited.{carried, array_step, enter_array}, declared.case.Case.Case}}
+use Rattle.{policy.specs.declared.{inherited.Carried.Carried, standing.Standing.Standing}, redact.proofs.{Entering.class-found, Searching.found_next}}
+use Rattle.redact.specs.{declared.trail.Token.Token, inner.{Search.{asked_of, found_items, found_member}, Tokens.{token_of, path_of}}}
 use Rattle.redact.proofs.search.Search.+search.Goals as goal
 
 pub among-returns-then-branch-clause-found : goal.among-returns-then-branch-clause-found

@@ -1,8 +1,5 @@
-use Rattle.std.proofs.Common.{◌≡◌, drop, map}
-use Rattle.iodef_tree.specs.View.{forest, body, members_forest}
-use Rattle.policy.specs.Inherited.{carried}
-use Rattle.redact.specs.inner.Tokens.{path_of}
-use Rattle.redact.specs.inner.Search.{asked_of, found, found_items}
+use Rattle.{std.proofs.Common.{◌≡◌, drop, map}, iodef_tree.specs.View.{forest, body, members_forest}, policy.specs.Inherited.carried}
+use Rattle.redact.specs.inner.{Search.{asked_of, found, found_items}, Tokens.path_of}
 use Rattle.redact.proofs.search.Search.+search.Given as goal
 
 abbrev pub invariant-among-loop-name : goal.invariant-among-loop-name

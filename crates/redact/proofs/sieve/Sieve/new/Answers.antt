@@ -1,8 +1,5 @@
-use Rattle.std.proofs.Common.{[], None, sym, refl, subst}
-use Rattle.redact.specs.Sifted.{Tracks}
+use Rattle.{std.proofs.Common.{[], None, sym, refl, subst}, redact.{proofs.{Sifting.sifts-none, Tracking.tracks-none}, specs.Sifted.Tracks}}
 use Rattle.redact.specs.declared.sieve.Sieve.{Sieve}
-use Rattle.redact.proofs.Sifting.{sifts-none}
-use Rattle.redact.proofs.Tracking.{tracks-none}
 use Rattle.redact.proofs.sieve.Sieve.new.Goals as goal
 
 pub returns : goal.returns

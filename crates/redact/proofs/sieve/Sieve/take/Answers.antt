@@ -1,8 +1,6 @@
-use Rattle.std.proofs.Common.{◌^◌, ◌<◌, [], ◌∷◌, ◌++◌, length, refl, sym, ◌∙◌, ap, subst, arith}
-use Rattle.redact.specs.Matters.{is_refused}
-use Rattle.redact.specs.Sifted.{shut_by, is_shutting, Tracks}
-use Rattle.redact.proofs.Sifting.{sifts-gone, sifts-kept, fits-among, placed-among, parent-among}
-use Rattle.redact.proofs.Tracking.{is-counted, tracks-more, shuts}
+use Rattle.{std.proofs.Common.{◌^◌, ◌<◌, [], ◌∷◌, ◌++◌, length, refl, sym, ◌∙◌, ap, subst, arith}, redact.proofs.Sifting.{sifts-gone, sifts-kept, fits-among}}
+use Rattle.redact.{proofs.{Sifting.{placed-among, parent-among}, Tracking.{is-counted, tracks-more, shuts}}, specs.{Matters.is_refused, Sifted.shut_by}}
+use Rattle.redact.specs.Sifted.{is_shutting, Tracks}
 use Rattle.redact.proofs.sieve.Sieve.take.Goals as goal
 
 pub returns-then-is_shut : goal.returns-then-is_shut

@@ -1,9 +1,5 @@
-use Rattle.std.proofs.Common.{sym, ◌∙◌, ap}
-use Rattle.std.specs.Prelude.{option_map, string_bytes}
-use Rattle.std.specs.Option.{option_map_or}
-use Rattle.sketch.specs.Judged.{judged_by, judged}
-use Rattle.sketch.specs.declared.judged.Judged.TheVariants.{Unmet}
-use Rattle.sketch.proofs.Judging.{sketch-met, sketch-unmet}
+use Rattle.{std.{proofs.Common.{sym, ◌∙◌, ap}, specs.{Option.option_map_or, Prelude.{option_map, string_bytes}}}, sketch.proofs.Judging.sketch-met}
+use Rattle.sketch.{proofs.Judging.sketch-unmet, specs.{Judged.{judged_by, judged}, declared.judged.Judged.TheVariants.Unmet}}
 use Rattle.sketch.proofs.sketch.Sketch.judge.Goals as goal
 
 pub returns-in-Some-clause-met : goal.returns-in-Some-clause-met

@@ -1,8 +1,5 @@
-use Rattle.std.proofs.Common.{sym, ◌∙◌, ap, false}
-use Rattle.std.specs.Prelude.{option_map, string_bytes}
-use Rattle.std.specs.Option.{option_map_or}
+use Rattle.{std.{proofs.Common.{sym, ◌∙◌, ap, false}, specs.{Option.option_map_or, Prelude.{option_map, string_bytes}}}, sketch.proofs.Judging.sketch-missing}
 use Rattle.sketch.specs.Judged.{has_words}
-use Rattle.sketch.proofs.Judging.{sketch-missing}
 use Rattle.sketch.proofs.sketch.Sketch.may_hold.Goals as goal
 
 pub returns-in-Some-clause-missing : goal.returns-in-Some-clause-missing

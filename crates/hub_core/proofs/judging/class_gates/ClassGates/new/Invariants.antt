@@ -1,7 +1,4 @@
-use Rattle.std.proofs.Common.{◌≡◌, false, take, map}
-use Rattle.std.specs.List.{list_any}
-use Rattle.hub_core.specs.Refusals.{is_bad_gate}
-use Rattle.hub_core.specs.inner.Wanted.{asked_as}
+use Rattle.{std.{proofs.Common.{◌≡◌, false, take, map}, specs.List.list_any}, hub_core.specs.{Refusals.is_bad_gate, inner.Wanted.asked_as}}
 use Rattle.hub_core.proofs.judging.class_gates.ClassGates.new.Given as goal
 
 abbrev pub invariant-loop-gate : goal.invariant-loop-gate

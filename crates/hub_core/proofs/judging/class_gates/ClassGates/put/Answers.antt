@@ -1,6 +1,4 @@
-use Rattle.std.proofs.Common.{◌≡◌, ◌++◌, [], rules}
-use Rattle.hub_state.specs.Aftermath.{put_gate}
-use Rattle.hub_core.proofs.Wanted.{put_seen}
+use Rattle.{std.proofs.Common.{◌≡◌, ◌++◌, [], rules}, hub_state.specs.Aftermath.put_gate, hub_core.proofs.Wanted.put_seen}
 use Rattle.hub_core.proofs.judging.class_gates.ClassGates.put.Goals as goal
 
 pub returns : goal.returns

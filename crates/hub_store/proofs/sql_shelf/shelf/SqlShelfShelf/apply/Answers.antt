@@ -1,10 +1,5 @@
-use Rattle.std.proofs.Common.{◌≡◌, ◌⊎◌, Some, sym, subst}
-use Rattle.sqlite.specs.Held.{state}
-use Rattle.hub_state.specs.Edits.{with_edits}
-use Rattle.hub_store.specs.Content.{Has, MayLeave}
-use Rattle.hub_store.proofs.Shelf.Left.{left_by_commit, left_by_apply}
-use Rattle.hub_store.proofs.Edits.Runs.{kept_has}
-use Rattle.hub_store.proofs.Shelf.Telling.{err_only, ok_only}
+use Rattle.{std.proofs.Common.{◌≡◌, ◌⊎◌, Some, sym, subst}, sqlite.specs.Held.state, hub_state.specs.Edits.with_edits, hub_store.proofs.Edits.Runs.kept_has}
+use Rattle.hub_store.{proofs.Shelf.{Left.{left_by_commit, left_by_apply}, Telling.{err_only, ok_only}}, specs.Content.{Has, MayLeave}}
 use Rattle.hub_store.proofs.sql_shelf.shelf.SqlShelfShelf.apply.Goals as goal
 
 pub returns-clause-written : goal.returns-clause-written
